@@ -1,0 +1,10 @@
+pub mod NameText
+pub mod Letters
+pub mod Reserved
+pub mod Spelling
+pub mod Cutting
+pub mod Tree
+pub mod View
+pub mod Spells
+pub mod Naming
+pub mod FirstForm

@@ -1,0 +1,84 @@
+//! The trees of the source. A node's place is that of its first word.
+
+use crate::name::Name;
+use hal_base::Place;
+
+/// A unit: a PROGRAM with its declarations and its body.
+#[derive(Debug, Drop)]
+pub struct Unit {
+    pub place: Place,
+    pub name: Name,
+    pub declarations: Vec<Declaration>,
+    pub body: Vec<Statement>,
+}
+
+/// `DECLARE name INTEGER [INITIAL(value)];`
+#[derive(Clone, Copy, Debug)]
+pub struct Declaration {
+    pub place: Place,
+    pub name: Name,
+    pub initial: Option<Initial>,
+}
+
+/// The value of an INITIAL, -32768 to 32767.
+#[derive(Clone, Copy, Debug)]
+pub struct Initial {
+    pub place: Place,
+    pub value: i32,
+}
+
+/// A statement of a body.
+#[derive(Debug, Drop)]
+pub struct Statement {
+    pub place: Place,
+    pub kind: StatementKind,
+}
+
+#[derive(Debug, Drop)]
+pub enum StatementKind {
+    /// `target = value;`
+    Assign { target: Name, value: Sum },
+    /// `WRITE(channel) item, item;`
+    Write { channel: Channel, items: Vec<Sum> },
+}
+
+/// The channel of a WRITE, 0 to 31.
+#[derive(Clone, Copy, Debug)]
+pub struct Channel {
+    pub place: Place,
+    pub number: u8,
+}
+
+/// A first operand and terms that are added to it or taken from it, from left to right.
+#[derive(Debug, Drop)]
+pub struct Sum {
+    pub first: Operand,
+    pub others: Vec<Term>,
+}
+
+/// An operand with the sign before it.
+#[derive(Clone, Copy, Debug)]
+pub struct Term {
+    pub place: Place,
+    pub sign: Sign,
+    pub operand: Operand,
+}
+
+#[derive(Clone, Copy, Debug, PartialEq, Eq)]
+pub enum Sign {
+    Plus,
+    Minus,
+}
+
+/// A variable or an integer literal.
+#[derive(Clone, Copy, Debug)]
+pub struct Operand {
+    pub place: Place,
+    pub kind: OperandKind,
+}
+
+#[derive(Clone, Copy, Debug)]
+pub enum OperandKind {
+    Variable(Name),
+    Number(u32),
+}
