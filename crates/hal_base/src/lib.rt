@@ -3,6 +3,7 @@
 #![tactic(auto)]
 
 mod limits;
+mod line;
 mod refusal;
 
 pub use limits::{
@@ -10,4 +11,5 @@ pub use limits::{
     NESTING_LIMIT, PROCESS_LIMIT, RUN_LIMIT, RUN_SUM_LIMIT, SCRIPT_LINE_LIMIT, TEXT_LIMIT,
     TICK_LIMIT, TICK_SUM_LIMIT, TOKEN_LIMIT, TOKEN_SUM_LIMIT, UNIT_LIMIT,
 };
+pub use line::first_line;
 pub use refusal::{Fault, Place, Refusal, Rule};
