@@ -5,6 +5,7 @@
 mod limits;
 mod line;
 mod refusal;
+mod word;
 
 pub use limits::{
     CELL_LIMIT, CHANNEL_COUNT, EVENT_LIMIT, IMAGE_LIMIT, LANE_LIMIT, LINE_LIMIT, NAME_LIMIT,
@@ -13,3 +14,4 @@ pub use limits::{
 };
 pub use line::first_line;
 pub use refusal::{Fault, Place, Refusal, Rule};
+pub use word::first_word;
