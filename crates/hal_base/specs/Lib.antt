@@ -1,0 +1,6 @@
+pub mod Faults
+pub mod Files
+pub mod Shelf
+pub mod Sink
+pub mod MemShelf
+pub mod MemSink
