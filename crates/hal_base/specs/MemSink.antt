@@ -1,4 +1,4 @@
-use Rattle.std.specs.Prelude.{ℕ, ◌-◌, List, [], ◌++◌, length, take, min, Bool, ◌&&◌, ◌||◌, nat_lt, nat_le, Result, Ok, Err}
+use Rattle.std.specs.Prelude.{ℕ, ◌-◌, List, ◌++◌, length, take, min, Bool, ◌&&◌, ◌||◌, nat_lt, nat_le, Result, Ok, Err}
 use Rattle.hal_base.specs.Faults.{risen, faults_after, is_numbered}
 use Rattle.hal_base.specs.declared.sink.SinkFault.{SinkFault}
 
@@ -15,7 +15,8 @@ pub record Collected : Type 0 where
 -- a put of this piece fails: the piece has a byte, and the put is numbered or the room is full
 abbrev pub put_fails : Collected → List ℕ → Bool
 put_fails sink piece =
-    nat_lt 0 (length piece) && (is_numbered sink.fails (risen sink.calls) || nat_le sink.room (length sink.taken))
+    nat_lt 0 (length piece)
+    && (is_numbered sink.fails (risen sink.calls) || nat_le sink.room (length sink.taken))
 
 -- how many bytes of the piece a put takes that doesn't fail
 abbrev pub put_count : Collected → List ℕ → ℕ

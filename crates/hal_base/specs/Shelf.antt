@@ -1,4 +1,4 @@
-use Rattle.std.specs.Prelude.{◌≡◌, ◌≢◌, ℕ, ◌<◌, ◌≤◌, List, [], length, Option, Some, None, Result, Ok, Err}
+use Rattle.std.specs.Prelude.{◌≡◌, ℕ, ◌<◌, ◌≤◌, List, [], length, Option, Some, None, Result, Ok, Err}
 use Rattle.hal_base.specs.Files.{File, file_named}
 use Rattle.hal_base.specs.declared.shelf.Found.{Found}
 use Rattle.hal_base.specs.declared.shelf.Found.TheVariants.{All, Absent, TooLong}
@@ -8,7 +8,8 @@ use Rattle.hal_base.specs.declared.shelf.ShelfFault.{ShelfFault}
 abbrev pub Says : List File → List ℕ → ℕ → Found → List ℕ → Type 0
 Says files name limit All into = (file_named files name ≡ Some into) × (length into ≤ limit)
 Says files name limit Absent into = file_named files name ≡ None
-Says files name limit TooLong into = (bytes : List ℕ) × (file_named files name ≡ Some bytes) × (limit < length bytes)
+Says files name limit TooLong into =
+    (bytes : List ℕ) × (file_named files name ≡ Some bytes) × (limit < length bytes)
 
 -- an answer is right where the files are told and it is no error
 abbrev pub Fetches : Option (List File) → List ℕ → ℕ → Result Found ShelfFault → List ℕ → Type 0

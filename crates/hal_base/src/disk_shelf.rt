@@ -9,7 +9,8 @@ use std::marker::Model;
 use std::rt::Files;
 use std::{fs, io};
 
-/// The files of the disk, each under its path.
+/// The files of the disk, each under its path. It tells none of them, and its count of faults
+/// rises at each error.
 #[derive(Drop)]
 pub struct DiskShelf<'a, R: Files> {
     disk: &'a R,
@@ -32,10 +33,11 @@ impl<'a, R: Files> DiskShelf<'a, R> {
         DiskShelf { disk, faults: 0 }
     }
 
-    /// Reads a file up to one byte beyond the limit, which tells whether it is too long.
+    /// Reads a file, if there is one, up to one byte beyond the limit, which tells whether it is too long.
     fn read(&self, name: &str, limit: u64, into: &mut Vec<u8>) -> io::Result<Found>
         ensures present { IfOk result (λ found. found ≢ Found.Absent) }
-        ensures whole { IfOk result (λ found. (found ≡ Found.All) ↔ (length into.new.items ≤ limit)) }
+        ensures whole { IfOk result (λ found.
+            (found ≡ Found.All) ↔ (length into.new.items ≤ limit)) }
     {
         into.clear();
         let file = fs::open(self.disk, name)?;
@@ -49,9 +51,10 @@ impl<'a, R: Files> DiskShelf<'a, R> {
 
 /// What a failed read says of the file; a path through something that is no folder names no file.
 fn found_by(kind: ErrorKind) -> Result<Found, ShelfFault>
-    ensures absent { (result ≡ Ok Found.Absent) ↔ ((kind ≡ ErrorKind.NotFound) ⊎ (kind ≡ ErrorKind.NotADirectory)) }
+    ensures absent { (result ≡ Ok Found.Absent)
+        ↔ ((kind ≡ ErrorKind.NotFound) ⊎ (kind ≡ ErrorKind.NotADirectory)) }
+    ensures nothing_else { IfOk result (λ found. found ≡ Found.Absent) }
     ensures memory { (result ≡ Err (ShelfFault.Memory alloc_error)) ↔ (kind ≡ ErrorKind.OutOfMemory) }
-    ensures failed { result ≢ Ok Found.Absent → result ≢ Err (ShelfFault.Memory alloc_error) → result ≡ Err ShelfFault.Failed }
 {
     match kind {
         ErrorKind::NotFound | ErrorKind::NotADirectory => Ok(Found::Absent),

@@ -13,6 +13,8 @@ mod shelf;
 mod sink;
 mod sure_shelf;
 mod sure_sink;
+#[cfg(test)]
+mod tests;
 
 pub use disk_shelf::DiskShelf;
 pub use limits::{

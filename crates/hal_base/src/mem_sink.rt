@@ -33,7 +33,8 @@ impl Model for MemSink {
       faults = s.faults;
     } };
 
-    ghost invariant = { λ s. (0 < s.most) × (vec_len s.taken ≤ s.room) × (s.room ≤ vec_capacity s.taken) };
+    ghost invariant = { λ s.
+        (0 < s.most) × (vec_len s.taken ≤ s.room) × (s.room ≤ vec_capacity s.taken) };
 }
 
 impl MemSink {
@@ -83,7 +84,8 @@ impl Sink for MemSink {
         ensures empty { length bytes.now ≡ 0 → result ≡ Ok 0 }
         ensures progress { IfOk result (λ count. 0 < length bytes.now → 0 < count) }
         ensures within { IfOk result (λ count. count ≤ length bytes.now) }
-        ensures grown { IfOk result (λ count. Takes (Some self.old.taken) (Some self.new.taken) bytes.now count) }
+        ensures grown { IfOk result (λ count.
+            Takes (Some self.old.taken) (Some self.new.taken) bytes.now count) }
         ensures kept { OnErr result (Keeps (Some self.old.taken) (Some self.new.taken)) }
         ensures later { self.old.faults ≤ self.new.faults }
         ensures failed { OnErr result (Rose self.old.faults self.new.faults) }
@@ -93,6 +95,7 @@ impl Sink for MemSink {
     {
         self.calls = self.calls.saturating_add(1);
         let count = bytes.len().min(self.most).min(self.room - self.taken.len());
+        // The piece or the room has no byte where the count is 0, since `most` has one.
         let is_failing = count == 0 || self.fails.contains(&self.calls);
         if !bytes.is_empty() && is_failing {
             self.faults = self.faults.saturating_add(1);

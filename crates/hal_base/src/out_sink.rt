@@ -5,7 +5,8 @@ ghost use Rattle.hal_base.specs.Faults.{Rose, faults_after};
 use crate::sink::{Sink, SinkFault};
 use std::marker::Model;
 
-/// The standard output.
+/// The standard output. It tells no bytes, and its count of faults rises at each error, among
+/// them a write that takes nothing.
 #[derive(Drop)]
 pub struct OutSink<'a, R: Print> {
     out: &'a R,

@@ -46,7 +46,8 @@ pub trait Shelf {
     /// Puts the bytes of the file `name` in place of what `into` holds, if they are at most
     /// `limit` bytes.
     ///
-    /// After any answer but `All`, an error among them, `into` is empty.
+    /// After any answer but `All`, an error among them, `into` is empty. `Failed` comes only where
+    /// the count of faults rose, and `Memory` only for want of memory.
     fn fetch(
         &mut self,
         alloc: Global,

@@ -18,6 +18,9 @@ pub trait Sink {
     ghost faults: { Self → ℕ };
 
     /// Takes the first bytes of a piece, at least one if it has any, and answers how many.
+    ///
+    /// A fault comes only where the count of faults rose, and nothing is taken then. An empty piece
+    /// is never a fault.
     fn put(&mut self, bytes: &[u8]) -> Result<usize, SinkFault>
         ensures empty { length bytes.now ≡ 0 → result ≡ Ok 0 }
         ensures progress { IfOk result (λ count. 0 < length bytes.now → 0 < count) }
