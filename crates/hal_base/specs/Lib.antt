@@ -1,1 +1,7 @@
 pub mod Words
+pub mod Faults
+pub mod Files
+pub mod Shelf
+pub mod Sink
+pub mod MemShelf
+pub mod MemSink
