@@ -1,0 +1,72 @@
+-- Why a call answers what it answers. Each cause says that nothing earlier in the order is wrong: the words, the files as they are named, the
+-- script, the unit.
+use Rattle.std.specs.Prelude.{◌≡◌, ℕ, ◌<◌, ◌≤◌, List, [], ◌∷◌, ◌++◌, Option, Some, None, length, take, slice_get, All}
+use Rattle.std.specs.Str.Lines.{lines}
+use Rattle.hal_base.specs.declared.limits.TheConstants.{TEXT_LIMIT}
+use Rattle.hal_base.specs.declared.refusal.Refusal.{Refusal}
+use Rattle.hal_base.specs.Files.{File, file_named}
+use Rattle.hal_tree.specs.Cutting.{place_at}
+use Rattle.hal_tree.specs.Tree.{UnitTree}
+use Rattle.hal_tree.specs.FirstForm.{IsFirstForm}
+use Rattle.hal_script.specs.declared.script.ScriptLine.{ScriptLine}
+use Rattle.hal_script.specs.declared.fault.ScriptFault.{ScriptFault}
+use Rattle.hal_script.specs.Lines.{IsScript, IsFirstFault}
+use Rattle.hal_top.specs.CommandLine.{IsRunLine}
+
+-- the file is there with these bytes, and they are not too many
+abbrev pub IsPresent : List File → List ℕ → List ℕ → Type 0
+IsPresent files name bytes = (file_named files name ≡ Some bytes) × (length bytes ≤ TEXT_LIMIT)
+
+abbrev pub IsAbsent : List File → List ℕ → Type 0
+IsAbsent files name = file_named files name ≡ None
+
+abbrev pub IsTooLong : List File → List ℕ → Type 0
+IsTooLong files name = (bytes : List ℕ) × (file_named files name ≡ Some bytes) × (TEXT_LIMIT < length bytes)
+
+-- the files that the words name, numbered from 0, are fit up to number `number`, and this one is as `Wrong` says
+pub record IsFirstWrong (Wrong : List File → List ℕ → Type 0) (files : List File) (words : List (List ℕ)) (number : ℕ) : Type 0 where
+  pub script : List ℕ
+  pub unit : List ℕ
+  pub name : List ℕ
+  pub form : IsRunLine words script unit
+  pub named : slice_get (script ∷ unit ∷ []) number ≡ Some name
+  pub before : All (λ earlier. (bytes : List ℕ) × IsPresent files earlier bytes) (take number (script ∷ unit ∷ []))
+  pub wrong : Wrong files name
+
+-- the words have their form, and the files that they name are there
+pub record Fetched (files : List File) (words : List (List ℕ)) (script unit : List ℕ) : Type 0 where
+  pub script_name : List ℕ
+  pub unit_name : List ℕ
+  pub form : IsRunLine words script_name unit_name
+  pub script_file : IsPresent files script_name script
+  pub unit_file : IsPresent files unit_name unit
+
+-- a script whose first faulty line is this one, for reason 1
+pub record IsFaulty (files : List File) (words : List (List ℕ)) (fault : ScriptFault) : Type 0 where
+  pub script : List ℕ
+  pub unit : List ℕ
+  pub fetched : Fetched files words script unit
+  pub first : IsFirstFault (lines script) fault.line
+  pub reason : fault.reason ≡ 1
+
+-- a unit that is not in the first form breaks rule 400 at line 1, column 1
+pub record Breaks (number : ℕ) (text : List ℕ) (refusal : Refusal) : Type 0 where
+  pub rule : refusal.rule.0 ≡ 400
+  pub place : refusal.place ≡ place_at number 1 1
+  pub formless : (tree : UnitTree) → IsFirstForm number text tree → ⊥
+
+pub record IsBroken (files : List File) (words : List (List ℕ)) (refusal : Refusal) : Type 0 where
+  pub script : List ℕ
+  pub unit : List ℕ
+  pub script_lines : List ScriptLine
+  pub fetched : Fetched files words script unit
+  pub read : IsScript (lines script) script_lines
+  pub broken : Breaks 0 unit refusal
+
+-- nothing is wrong: this is the script, and this the unit's tree
+pub record IsWork (files : List File) (words : List (List ℕ)) (script : List ScriptLine) (tree : UnitTree) : Type 0 where
+  pub script_text : List ℕ
+  pub unit_text : List ℕ
+  pub fetched : Fetched files words script_text unit_text
+  pub read : IsScript (lines script_text) script
+  pub form : IsFirstForm 0 unit_text tree

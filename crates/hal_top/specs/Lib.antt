@@ -1,0 +1,6 @@
+pub mod State
+pub mod Runs
+pub mod Report
+pub mod CommandLine
+pub mod Causes
+pub mod Outcomes

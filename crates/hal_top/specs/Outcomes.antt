@@ -1,0 +1,76 @@
+-- What an outcome claims.
+use Rattle.std.specs.Prelude.{◌≡◌, ◌≢◌, ℕ, ◌+◌, ◌≤◌, ◌⊎◌, List, [], ◌∷◌, ◌++◌, length, take, Option, Some, None, IsSome, IsNone, codes, slice_get, unwrap_or, nat_eq, if◌then◌else◌, ◌↔◌}
+use Rattle.std.specs.Fmt.{decimal}
+use Rattle.hal_base.specs.declared.refusal.Refusal.{Refusal}
+use Rattle.hal_base.specs.Faults.{Rose}
+use Rattle.hal_base.specs.Files.{File}
+use Rattle.hal_tree.specs.Tree.{UnitTree}
+use Rattle.hal_script.specs.declared.script.ScriptLine.{ScriptLine}
+use Rattle.hal_script.specs.declared.fault.ScriptFault.{ScriptFault}
+use Rattle.hal_top.specs.declared.journal.Event.{Event}
+use Rattle.hal_top.specs.declared.outcome.Outcome.{Outcome}
+use Rattle.hal_top.specs.CommandLine.{usage_line}
+use Rattle.hal_top.specs.State.{State}
+use Rattle.hal_top.specs.Runs.{IsRun}
+use Rattle.hal_top.specs.Report.{report}
+use Rattle.hal_top.specs.Causes.{IsWork}
+
+-- a refusal: neither a report nor one cut short
+abbrev pub IsRefusal : ℕ → Type 0
+IsRefusal status = (status ≢ 0) × (status ≢ 8)
+
+-- a fault of the shelf or want of memory came before
+abbrev pub IsExcused : ℕ → Type 0
+IsExcused status = (status ≡ 7) ⊎ (status ≡ 9)
+
+abbrev pub IsStatus : ℕ → Type 0
+IsStatus status = (status ≡ 0) ⊎ (status ≡ 2) ⊎ (status ≡ 3) ⊎ (status ≡ 4) ⊎ (status ≡ 5) ⊎ (status ≡ 6) ⊎ (status ≡ 7) ⊎ (status ≡ 8) ⊎ (status ≡ 9)
+
+-- the word that names this file, after `run` and the number of lanes
+abbrev pub file_word : List (List ℕ) → Option ℕ → List ℕ
+file_word words None = []
+file_word words (Some number) = unwrap_or (slice_get words (number + 2)) []
+
+abbrev pub refused_text : Option Refusal → List ℕ
+refused_text None = []
+refused_text (Some refusal) =
+    ((((codes ":" ++ decimal refusal.place.line) ++ codes ":") ++ decimal refusal.place.column) ++ codes ": rule ") ++ decimal refusal.rule.0
+
+abbrev pub fault_text : Option ScriptFault → List ℕ
+fault_text None = []
+fault_text (Some fault) = ((codes ":" ++ decimal fault.line) ++ codes ": reason ") ++ decimal fault.reason
+
+-- the one line of a refusal
+abbrev pub refusal_line : List (List ℕ) → Outcome → List ℕ
+refusal_line words outcome =
+    if nat_eq outcome.status 2 then usage_line
+    else (if nat_eq outcome.status 3 then file_word words outcome.file ++ codes ": absent\n"
+    else (if nat_eq outcome.status 4 then file_word words outcome.file ++ codes ": too long\n"
+    else (if nat_eq outcome.status 5 then (file_word words outcome.file ++ refused_text outcome.refused) ++ codes "\n"
+    else (if nat_eq outcome.status 6 then (file_word words outcome.file ++ fault_text outcome.script_fault) ++ codes "\n"
+    else (if nat_eq outcome.status 7 then codes "shelf fault\n"
+    else codes "memory\n")))))
+
+-- the sink took a front of the piece, or the whole where its count of faults didn't rise
+abbrev pub Prints : Option (List ℕ) → Option (List ℕ) → List ℕ → ℕ → ℕ → Type 0
+Prints None now piece faults_before faults_now = Unit {0}
+Prints (Some before) now piece faults_before faults_now =
+    (count : ℕ) × (now ≡ Some (before ++ take count piece)) × ((length piece ≤ count) ⊎ Rose faults_before faults_now)
+
+-- the journal is a run of the work, and the sink took the report of the state after it, or its first `count` bytes
+pub record Ran (files : List File) (words : List (List ℕ)) (journal : List Event) (reported : List ℕ) : Type 0 where
+  pub script : List ScriptLine
+  pub tree : UnitTree
+  pub end : State
+  pub work : IsWork files words script tree
+  pub run : IsRun tree script journal end
+  pub told : reported ≡ report tree end
+
+-- which fields are given
+pub record IsTold (outcome : Outcome) : Type 0 where
+  pub of_script : outcome.status ≡ 6 → outcome.file ≡ Some 0
+  pub of_unit : outcome.status ≡ 5 → outcome.file ≡ Some 1
+  pub file : IsSome outcome.file → ((outcome.status ≡ 3) ⊎ (outcome.status ≡ 4) ⊎ (outcome.status ≡ 5) ⊎ (outcome.status ≡ 6))
+  pub refused : IsSome outcome.refused → outcome.status ≡ 5
+  pub script_fault : IsSome outcome.script_fault → outcome.status ≡ 6
+  pub image_fault : outcome.image_fault ≡ None

@@ -1,0 +1,20 @@
+use crate::journal::Journal;
+use hal_base::Refusal;
+use hal_script::ScriptFault;
+
+/// What a call of `hal` came to.
+#[derive(Debug, Drop)]
+pub struct Outcome {
+    /// 0, or why there is no report (docs/EXECUTIVE.md lists the statuses).
+    pub status: u8,
+    /// The events of the run; none where nothing ran.
+    pub journal: Journal,
+    /// The file that is at fault, numbered from 0 in the order of the words.
+    pub file: Option<u32>,
+    /// The rule that is broken, and where.
+    pub refused: Option<Refusal>,
+    /// The first faulty line of the script.
+    pub script_fault: Option<ScriptFault>,
+    /// The first faulty instruction of an image: no command reads one yet.
+    pub image_fault: Option<u64>,
+}
