@@ -4,3 +4,5 @@ pub mod Report
 pub mod CommandLine
 pub mod Causes
 pub mod Outcomes
+pub mod Draining
+pub mod Told

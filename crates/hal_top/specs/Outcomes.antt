@@ -31,14 +31,13 @@ abbrev pub file_word : List (List ℕ) → Option ℕ → List ℕ
 file_word words None = []
 file_word words (Some number) = unwrap_or (slice_get words (number + 2)) []
 
-abbrev pub refused_text : Option Refusal → List ℕ
-refused_text None = []
-refused_text (Some refusal) =
-    ((((codes ":" ++ decimal refusal.place.line) ++ codes ":") ++ decimal refusal.place.column) ++ codes ": rule ") ++ decimal refusal.rule.0
+abbrev pub rule_text : Option Refusal → List ℕ
+rule_text None = []
+rule_text (Some refusal) = codes ":" ++ (decimal refusal.place.line ++ (codes ":" ++ (decimal refusal.place.column ++ (codes ": rule " ++ (decimal refusal.rule.0 ++ codes "\n")))))
 
 abbrev pub fault_text : Option ScriptFault → List ℕ
 fault_text None = []
-fault_text (Some fault) = ((codes ":" ++ decimal fault.line) ++ codes ": reason ") ++ decimal fault.reason
+fault_text (Some fault) = codes ":" ++ (decimal fault.line ++ (codes ": reason " ++ (decimal fault.reason ++ codes "\n")))
 
 -- the one line of a refusal
 abbrev pub refusal_line : List (List ℕ) → Outcome → List ℕ
@@ -46,8 +45,8 @@ refusal_line words outcome =
     if nat_eq outcome.status 2 then usage_line
     else (if nat_eq outcome.status 3 then file_word words outcome.file ++ codes ": absent\n"
     else (if nat_eq outcome.status 4 then file_word words outcome.file ++ codes ": too long\n"
-    else (if nat_eq outcome.status 5 then (file_word words outcome.file ++ refused_text outcome.refused) ++ codes "\n"
-    else (if nat_eq outcome.status 6 then (file_word words outcome.file ++ fault_text outcome.script_fault) ++ codes "\n"
+    else (if nat_eq outcome.status 5 then file_word words outcome.file ++ rule_text outcome.refused
+    else (if nat_eq outcome.status 6 then file_word words outcome.file ++ fault_text outcome.script_fault
     else (if nat_eq outcome.status 7 then codes "shelf fault\n"
     else codes "memory\n")))))
 

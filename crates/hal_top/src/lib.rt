@@ -1,10 +1,16 @@
 //! The top call: words, files, script and unit come in, and a report or one line of refusal goes out.
 #![tactic(auto)]
 
+mod drain;
+mod fetch;
 mod journal;
 mod machine;
 mod outcome;
+mod refuse;
+mod refused;
+mod report;
+mod words;
 
 pub use journal::{Event, Journal};
-pub use machine::{End, How, Status};
+pub use machine::{End, How, Machine, Status};
 pub use outcome::Outcome;

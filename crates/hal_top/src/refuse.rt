@@ -1,0 +1,107 @@
+ghost use Rattle.std.specs.Prelude.{◌≡◌, ◌≤◌, ◌⊎◌, ◌++◌, IfOk};
+ghost use Rattle.std.specs.String.{string_bytes};
+ghost use Rattle.hal_top.specs.CommandLine.{texts, usage_line};
+ghost use Rattle.hal_top.specs.Outcomes.{refusal_line, file_word, Prints};
+ghost use Rattle.hal_top.specs.Told.{outcome_of};
+ghost use Rattle.hal_top.specs.declared.refused.Refused.TheVariants.{Memory};
+
+use crate::drain::drain;
+use crate::journal::Journal;
+use crate::outcome::Outcome;
+use crate::refused::Refused;
+use hal_base::Sink;
+use std::alloc::{AllocError, Global};
+
+/// What is printed where the words have no form.
+const USAGE: &str = "usage: hal run LANES SCRIPT UNIT.. | build UNIT.. | exec LANES SCRIPT IMAGE | make NUMBER SIZE\n";
+
+/// The outcome of a refusal: nothing ran.
+fn outcome(alloc: Global, refused: Refused) -> Outcome
+    ensures { result ≡ outcome_of refused }
+{
+    let (status, file, rule, script_fault) = match refused {
+        Refused::Usage => (2, None, None, None),
+        Refused::Absent(number) => (3, Some(number), None, None),
+        Refused::TooLong(number) => (4, Some(number), None, None),
+        Refused::Rule(refusal) => (5, Some(1), Some(refusal), None),
+        Refused::Script(fault) => (6, Some(0), None, Some(fault)),
+        Refused::Shelf => (7, None, None, None),
+        Refused::Memory => (9, None, None, None),
+    };
+    Outcome {
+        status,
+        journal: Journal::new(Vec::new(alloc)),
+        file,
+        refused: rule,
+        script_fault,
+        image_fault: None,
+    }
+}
+
+/// The word that names the file with this number.
+fn word_of_file(words: &[String], number: u32) -> &str
+    ensures { result.now ≡ file_word (texts words.now) (Some number) }
+{
+    match words.get(number as usize + 2) {
+        Some(word) => word.as_str(),
+        None => "",
+    }
+}
+
+/// The one line of a refusal.
+fn refusal_text(alloc: Global, words: &[String], refused: Refused) -> Result<String, AllocError>
+    ensures { IfOk result (λ text. string_bytes text ≡ refusal_line (texts words.now) (outcome_of refused)) }
+{
+    match refused {
+        Refused::Usage => String::from_str(alloc, USAGE),
+        Refused::Absent(number) => {
+            let name = word_of_file(words, number);
+            format!(in alloc; "{name}: absent\n")
+        }
+        Refused::TooLong(number) => {
+            let name = word_of_file(words, number);
+            format!(in alloc; "{name}: too long\n")
+        }
+        Refused::Rule(refusal) => {
+            let name = word_of_file(words, 1);
+            let line = refusal.place.line;
+            let column = refusal.place.column;
+            let rule = refusal.rule.0;
+            format!(in alloc; "{name}:{line}:{column}: rule {rule}\n")
+        }
+        Refused::Script(fault) => {
+            let name = word_of_file(words, 0);
+            let line = fault.line;
+            let reason = fault.reason;
+            format!(in alloc; "{name}:{line}: reason {reason}\n")
+        }
+        Refused::Shelf => String::from_str(alloc, "shelf fault\n"),
+        Refused::Memory => String::from_str(alloc, "memory\n"),
+    }
+}
+
+/// Prints a line; where the sink fails, a front of it.
+fn print_line<O: Sink>(line: &[u8], out: &mut O)
+    ensures printed { Prints (O.taken out.old) (O.taken out.new) line.now (O.faults out.old) (O.faults out.new) }
+    ensures later { O.faults out.old ≤ O.faults out.new }
+{
+    let _ = drain(line, out);
+}
+
+/// Prints the one line of a refusal. Where memory for the line is wanting, that is the refusal.
+pub fn refuse<O: Sink>(alloc: Global, words: &[String], refused: Refused, out: &mut O) -> Outcome
+    ensures outcome { (result ≡ outcome_of refused) ⊎ (result ≡ outcome_of Memory) }
+    ensures line { Prints (O.taken out.old) (O.taken out.new) (refusal_line (texts words.now) result) (O.faults out.old) (O.faults out.new) }
+    ensures later { O.faults out.old ≤ O.faults out.new }
+{
+    match refusal_text(alloc, words, refused) {
+        Ok(text) => {
+            print_line(text.as_bytes(), out);
+            outcome(alloc, refused)
+        }
+        Err(_) => {
+            print_line(b"memory\n", out);
+            outcome(alloc, Refused::Memory)
+        }
+    }
+}
