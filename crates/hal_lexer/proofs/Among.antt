@@ -1,10 +1,11 @@
 -- A text among borrowed texts.
-use Rattle.std.proofs.Common.{◌≡◌, ℕ, ◌<◌, ◌↔◌, Bool, true, false, List, [], ◌∷◌, length, get_or, map, Contains, IsTrue, MatchBool, refl, ◌∙◌, sym, arith}
+use Rattle.std.proofs.Common.{◌≡◌, ℕ, ◌<◌, ◌↔◌, Bool, true, false, List, [], ◌∷◌, length, map, Contains, IsTrue, MatchBool, refl, ◌∙◌, sym, arith}
 use Rattle.std.specs.Borrow.{Bor}
 use Rattle.std.specs.List.{HoldsAt, AllWithin}
 use Rattle.std.proofs.lemmas.Bool.{false≢true}
 use Rattle.std.proofs.lemmas.List.{get_or-map, length-map}
 
+-- the text that is borrowed
 abbrev now_of : Bor (List ℕ) → List ℕ
 now_of word = word.now
 

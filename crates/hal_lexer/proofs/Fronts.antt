@@ -15,6 +15,7 @@ append-one P (x ∷ front) rest (y ∷ other) after same each every longest ende
     let fronts : front ≡ other = more.0 in
     (cc, more.1)
 
+-- a text begins as its front does
 pub BeginsWith-append : (P : ℕ → Type 0) (front rest : List ℕ) → BeginsWith P front → BeginsWith P (front ++ rest)
 BeginsWith-append P [] rest begins = absurd begins
 BeginsWith-append P (x ∷ front) rest begins = begins

@@ -8,10 +8,11 @@ use Rattle.hal_tree.specs.declared.word.Token.{Token}
 use Rattle.hal_tree.specs.Letters.{IsBlank, BeginsWith}
 use Rattle.hal_tree.specs.Cutting.{Begins, CutsWord, CutsText, place_at}
 use Rattle.hal_lexer.specs.Front.{IsFirstWord, NoWord}
-use Rattle.hal_lexer.specs.Answers.{IsLineCut, AddsLine}
+use Rattle.hal_lexer.specs.Cuts.{AddsLine}
 use Rattle.hal_lexer.proofs.Fronts.{append-one}
 use Rattle.hal_lexer.proofs.Spellings.{Begins-blank, Begins-nil}
 
+-- a token, from its parts
 abbrev pub token_of : Word → Place → Token
 token_of word place = record { word = word; place = place }
 
@@ -20,11 +21,13 @@ gap_only : (unit line column : ℕ) (text gap front : List ℕ) → text ≡ gap
 gap_only unit line column text gap front whole blanks longest token after rest cut =
     append-one IsBlank cut.gap cut.front gap front (sym cut.whole ∙ whole) cut.blanks blanks (Begins-blank token.word cut.front cut.spelling rest cut.begins) longest
 
+-- so the text has no word where there is none after the blanks
 pub CutsWord-none : (unit line column : ℕ) (text gap front : List ℕ) → text ≡ gap ++ front → All IsBlank gap → (BeginsWith IsBlank front → ⊥) → NoWord front → (token : Token) (after : ℕ) (rest : List ℕ) → CutsWord unit line column text token after rest → ⊥
 CutsWord-none unit line column text gap front whole blanks longest none token after rest cut =
     let fronts : cut.front ≡ front = (gap_only unit line column text gap front whole blanks longest token after rest cut).1 in
     none token.word cut.spelling rest (subst (λ f. Begins f token.word cut.spelling rest) fronts cut.begins)
 
+-- and the word after the blanks is its first, and no other
 pub CutsWord-one : (unit line column : ℕ) (text gap front : List ℕ) → text ≡ gap ++ front → All IsBlank gap → (BeginsWith IsBlank front → ⊥) → (word : Word) (spelling more : List ℕ) → IsFirstWord front word spelling more → (token : Token) (after : ℕ) (rest : List ℕ) → CutsWord unit line column text token after rest → (token ≡ token_of word (place_at unit line (column + length gap))) × (after ≡ column + length gap + length spelling) × (rest ≡ more)
 CutsWord-one unit line column text gap front whole blanks longest word spelling more first token after rest cut =
     let same = gap_only unit line column text gap front whole blanks longest token after rest cut in
@@ -43,6 +46,7 @@ pub record IsCutUpTo (unit number : ℕ) (line : List ℕ) (old new : List Token
   pub only : (tokens : List Token) → CutsText unit number 1 line tokens → (tail : List Token) × (tokens ≡ done ++ tail) × CutsText unit number column rest tail
   pub fits : column + length rest ≡ 1 + length line
 
+-- before the first word
 pub IsCutUpTo-start : (unit number : ℕ) (line : List ℕ) (old : List Token) → IsCutUpTo unit number line old old 1 line
 IsCutUpTo-start unit number line old = record {
   done = [];
@@ -65,6 +69,7 @@ CutsText-first unit number column after text rest token one cut (other ∷ more)
     let same = one other h.0 h.1 h.2 in
     (more, ap (λ (t : Token). t ∷ more) same.0, subst (λ r. CutsText unit number after r more) same.2 (subst (λ a. CutsText unit number a h.1 more) same.1 h.3))
 
+-- one word further
 pub IsCutUpTo-more : (unit number : ℕ) (line : List ℕ) (old new : List Token) (column after : ℕ) (text rest : List ℕ) (token : Token) → IsCutUpTo unit number line old new column text → ((other : Token) (beyond : ℕ) (left : List ℕ) → CutsWord unit number column text other beyond left → (other ≡ token) × (beyond ≡ after) × (left ≡ rest)) → CutsWord unit number column text token after rest → IsCutUpTo unit number line old (new ++ token ∷ []) after rest
 IsCutUpTo-more unit number line old new column after text rest token upto one cut = record {
   done = upto.done ++ token ∷ [];
@@ -87,6 +92,7 @@ CutsText-last : (unit number column : ℕ) (rest : List ℕ) → ((token : Token
 CutsText-last unit number column rest none [] blanks = (refl, blanks)
 CutsText-last unit number column rest none (token ∷ tokens) h = absurd (none token h.0 h.1 h.2)
 
+-- after the last word: the line is cut where only blanks are left
 pub IsCutUpTo-end : (unit number : ℕ) (line : List ℕ) (old new : List Token) (column : ℕ) (rest : List ℕ) (blank : Bool) → IsCutUpTo unit number line old new column rest → ((token : Token) (after : ℕ) (left : List ℕ) → CutsWord unit number column rest token after left → ⊥) → IsTrue blank ↔ All IsBlank rest → AddsLine unit number line old new blank
 IsCutUpTo-end unit number line old new column rest true upto none test = (
   upto.done,

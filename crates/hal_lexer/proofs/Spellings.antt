@@ -1,5 +1,5 @@
 -- Which texts spell a word, and where the word that a text begins with ends.
-use Rattle.std.proofs.Common.{◌≡◌, ℕ, ◌≤◌, ◌<◌, List, [], ◌∷◌, ◌++◌, All, Contains, get_or, length, if◌then◌else◌, ◌==◌, refl, sym, ap, ◌∙◌, subst, arith, rules, lit<}
+use Rattle.std.proofs.Common.{◌≡◌, ℕ, ◌<◌, List, [], ◌∷◌, ◌++◌, All, Contains, get_or, if◌then◌else◌, ◌==◌, refl, sym, ap, ◌∙◌, subst, arith, rules, lit<}
 use Rattle.std.proofs.lemmas.List.Elements.{All-from_recursion}
 use Rattle.hal_tree.specs.declared.word.Keyword.{Keyword}
 use Rattle.hal_tree.specs.declared.word.Keyword.TheVariants as keyword
@@ -20,6 +20,7 @@ keyword_of text =
     let first = get_or text 0 0 in
     if first == 80 then keyword.Program else (if first == 68 then keyword.Declare else (if first == 67 then keyword.Close else (if first == 87 then keyword.Write else (if get_or text 2 0 == 84 then keyword.Integer else keyword.Initial))))
 
+-- so two keywords have two texts
 keyword_of-text : (k : Keyword) → keyword_of (keyword_text k) ≡ k
 unfolding keyword_of
 keyword_of-text keyword.Program = refl
@@ -29,6 +30,7 @@ keyword_of-text keyword.Initial = refl
 keyword_of-text keyword.Close = refl
 keyword_of-text keyword.Write = refl
 
+-- a keyword is written as a name is
 keyword_text-bytes : (k : Keyword) → All IsNameByte (keyword_text k)
 keyword_text-bytes keyword.Program = All-from_recursion IsNameByte (keyword_text keyword.Program) (search rules)
 keyword_text-bytes keyword.Declare = All-from_recursion IsNameByte (keyword_text keyword.Declare) (search rules)
@@ -37,6 +39,7 @@ keyword_text-bytes keyword.Initial = All-from_recursion IsNameByte (keyword_text
 keyword_text-bytes keyword.Close = All-from_recursion IsNameByte (keyword_text keyword.Close) (search rules)
 keyword_text-bytes keyword.Write = All-from_recursion IsNameByte (keyword_text keyword.Write) (search rules)
 
+-- and begins with a letter
 keyword_text-begins : (k : Keyword) → BeginsWith IsLetter (keyword_text k)
 keyword_text-begins keyword.Program = search rules
 keyword_text-begins keyword.Declare = search rules
@@ -45,6 +48,7 @@ keyword_text-begins keyword.Initial = search rules
 keyword_text-begins keyword.Close = search rules
 keyword_text-begins keyword.Write = search rules
 
+-- but is none, since it is reserved
 keyword_text-reserved : (k : Keyword) → Contains grammar_words (keyword_text k)
 unfolding grammar_words
 keyword_text-reserved keyword.Program = (52, lit< tt, refl)
@@ -65,28 +69,33 @@ symbol_byte-apart symbol.Minus b e = (omega arith, λ l. omega arith, λ d. omeg
 symbol_byte-apart symbol.LeftParenthesis b e = (omega arith, λ l. omega arith, λ d. omega arith)
 symbol_byte-apart symbol.RightParenthesis b e = (omega arith, λ l. omega arith, λ d. omega arith)
 
+-- no letter is a digit
 letter-digit : (text : List ℕ) → BeginsWith IsLetter text → BeginsWith IsDigit text → ⊥
 letter-digit [] l d = l
 letter-digit (b ∷ text) l d = omega arith
 
--- what a text begins with, told of the word
+-- a text begins as the spelling of its word does
 begins : (P : ℕ → Type 0) (text spelling rest : List ℕ) → text ≡ spelling ++ rest → BeginsWith P spelling → BeginsWith P text
 begins P text spelling rest whole first = subst (BeginsWith P) (sym whole) (BeginsWith-append P spelling rest first)
 
+-- of a keyword, a letter
 keyword_begins : (k : Keyword) (text spelling rest : List ℕ) → text ≡ spelling ++ rest → spelling ≡ keyword_text k → BeginsWith IsLetter text
 keyword_begins k text spelling rest whole spells = begins IsLetter text spelling rest whole (subst (BeginsWith IsLetter) (sym spells) (keyword_text-begins k))
 
+-- of a symbol, its byte
 symbol_begins : (P : ℕ → Type 0) (s : Symbol) (text spelling rest : List ℕ) → text ≡ spelling ++ rest → spelling ≡ symbol_byte s ∷ [] → BeginsWith P text → P (symbol_byte s)
 symbol_begins P s text spelling rest whole spells first =
     let here : text ≡ symbol_byte s ∷ rest = whole ∙ ap (λ (t : List ℕ). t ++ rest) spells in
     subst (BeginsWith P) here first
 
+-- what begins with a letter is spelled in name bytes, as many as there are
 letters_run : (w : Word) (text spelling rest : List ℕ) → BeginsWith IsLetter text → Begins text w spelling rest → All IsNameByte spelling × (BeginsWith IsNameByte rest → ⊥)
 letters_run (word.Keyword k) text spelling rest l b = (subst (All IsNameByte) (sym b.spells) (keyword_text-bytes k), b.longest)
 letters_run (word.Name n) text spelling rest l b = (b.spells.1.bytes, b.longest)
 letters_run (word.Number n) text spelling rest l b = absurd (letter-digit text l (begins IsDigit text spelling rest b.whole b.spells.begins))
 letters_run (word.Symbol s) text spelling rest l b = absurd ((symbol_byte-apart s _ refl).1 (symbol_begins IsLetter s text spelling rest b.whole b.spells l))
 
+-- and what begins with a digit, in digits
 digits_run : (w : Word) (text spelling rest : List ℕ) → BeginsWith IsDigit text → Begins text w spelling rest → All IsDigit spelling × (BeginsWith IsDigit rest → ⊥)
 digits_run (word.Keyword k) text spelling rest d b = absurd (letter-digit text (keyword_begins k text spelling rest b.whole b.spells) d)
 digits_run (word.Name n) text spelling rest d b = absurd (letter-digit text (begins IsLetter text spelling rest b.whole b.spells.1.begins) d)
@@ -105,10 +114,12 @@ digits_only text front after d whole each longest w spelling rest b =
     let run = digits_run w text spelling rest d b in
     append-one IsDigit spelling rest front after (sym b.whole ∙ whole) run.0 each run.1 longest
 
+-- no letter is a blank
 letter-blank : (text : List ℕ) → BeginsWith IsLetter text → BeginsWith IsBlank text → ⊥
 letter-blank [] l b = l
 letter-blank (x ∷ text) l b = omega arith
 
+-- no digit is a blank
 digit-blank : (text : List ℕ) → BeginsWith IsDigit text → BeginsWith IsBlank text → ⊥
 digit-blank [] d b = d
 digit-blank (x ∷ text) d b = omega arith

@@ -1,10 +1,10 @@
 -- How far a text's lines are cut.
-use Rattle.std.proofs.Common.{◌≡◌, ℕ, ◌+◌, ◌<◌, ◌≤◌, List, [], ◌∷◌, ◌++◌, length, true, false, refl, ap, ◌∙◌, sym, subst, append_assoc, arith}
+use Rattle.std.proofs.Common.{◌≡◌, ℕ, ◌+◌, ◌<◌, ◌≤◌, List, [], ◌∷◌, ◌++◌, length, true, refl, ap, ◌∙◌, sym, subst, append_assoc, arith}
 use Rattle.std.proofs.lemmas.List.{append-nil}
 use Rattle.std.specs.Str.Lines.{lines}
 use Rattle.hal_tree.specs.declared.word.Token.{Token}
-use Rattle.hal_tree.specs.Cutting.{IsMainLine, CutsText, CutsLines}
-use Rattle.hal_lexer.specs.Answers.{AddsLine, IsLinesCut}
+use Rattle.hal_tree.specs.Cutting.{IsMainLine, CutsLines}
+use Rattle.hal_lexer.specs.Cuts.{AddsLine, IsLinesCut}
 
 -- these are the words of the lines up to this number, and the rest of the text decides on the rest of the words
 pub record AreCutUpTo (unit : ℕ) (text : List ℕ) (tokens : List Token) (number : ℕ) (rest : List ℕ) : Type 0 where
@@ -12,9 +12,11 @@ pub record AreCutUpTo (unit : ℕ) (text : List ℕ) (tokens : List Token) (numb
   pub only : (all : List Token) → CutsLines unit 1 (lines text) all → (more : List Token) × (all ≡ tokens ++ more) × CutsLines unit number (lines rest) more
   pub fits : number + length rest ≤ 1 + length text
 
+-- before the first line
 pub AreCutUpTo-start : (unit : ℕ) (text : List ℕ) → AreCutUpTo unit text [] 1 text
 AreCutUpTo-start unit text = record { sound = λ more cut. cut; only = λ all cut. (all, refl, cut); fits = omega arith }
 
+-- one line further
 pub AreCutUpTo-more : (unit : ℕ) (text : List ℕ) (old new : List Token) (number : ℕ) (rest line next : List ℕ) → AreCutUpTo unit text old number rest → lines rest ≡ line ∷ lines next → length next < length rest → IsMainLine line → AddsLine unit number line old new true → AreCutUpTo unit text new (number + 1) next
 AreCutUpTo-more unit text old new number rest line next upto first shorter main adds =
     let here = adds.0 in
@@ -33,6 +35,7 @@ AreCutUpTo-more unit text old new number rest line next upto first shorter main 
       fits = let before = upto.fits in omega arith;
     }
 
+-- after the last line
 pub AreCutUpTo-end : (unit : ℕ) (text : List ℕ) (tokens : List Token) (number : ℕ) (rest : List ℕ) → AreCutUpTo unit text tokens number rest → rest ≡ [] → IsLinesCut unit 1 (lines text) tokens
 AreCutUpTo-end unit text tokens number rest upto empty =
     let none : lines rest ≡ [] = ap lines empty in

@@ -1,3 +1,3 @@
 pub mod Class
 pub mod Front
-pub mod Answers
+pub mod Cuts

@@ -2,7 +2,7 @@ ghost use Rattle.std.specs.Prelude.{◌≡◌, ◌+◌, ◌^◌, ◌<◌, ◌↔
 ghost use Rattle.hal_tree.specs.declared.word.Token.{Token};
 ghost use Rattle.hal_tree.specs.Letters.{IsBlank};
 ghost use Rattle.hal_tree.specs.Cutting.{CutsWord, IsMainLine};
-ghost use Rattle.hal_lexer.specs.Answers.{AddsLine};
+ghost use Rattle.hal_lexer.specs.Cuts.{AddsLine};
 
 use crate::class::{Class, split_front};
 use crate::word::word_at;
@@ -17,7 +17,8 @@ pub fn is_main_line(line: &[u8]) -> bool
     matches!(line, [] | [b' ', ..])
 }
 
-/// Puts the words of line number `number` after the tokens. False where the line isn't cut into words.
+/// Puts the words of line number `number` after the tokens. False where the line isn't cut into
+/// words.
 pub fn push_line(
     tokens: &mut Vec<Token>,
     line: &[u8],
@@ -26,16 +27,14 @@ pub fn push_line(
 ) -> Result<bool, AllocError>
     ensures { IfOk result (AddsLine unit number line.now tokens.old.items tokens.new.items) }
 {
+    let start = Place {
+        unit,
+        line: number,
+        column: 1,
+    };
     let mut rest = line;
-    let mut column = 1;
-    while let Some((token, after, next)) = token_at(
-        rest,
-        Place {
-            unit,
-            line: number,
-            column,
-        },
-    ) {
+    let mut column = start.column;
+    while let Some((token, after, next)) = token_at(rest, Place { column, ..start }) {
         tokens.push(token)?;
         rest = next;
         column = after;

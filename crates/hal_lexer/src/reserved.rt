@@ -1,8 +1,8 @@
-//! The reserved words.
+//! The reserved words, in the order in which the definition lists them.
 
 ghost use Rattle.std.specs.Prelude.{◌⊎◌, ◌↔◌, IsTrue, ℕ, List, map, Contains};
-ghost use Rattle.hal_tree.specs.Reserved.{grammar_words, refused_words};
 ghost use Rattle.std.specs.Borrow.{Bor};
+ghost use Rattle.hal_tree.specs.Reserved.{grammar_words, refused_words};
 
 /// The words of the grammar.
 const GRAMMAR_WORDS: [&str; 78] = [
@@ -102,7 +102,8 @@ pub fn is_reserved(text: &[u8]) -> bool
 
 /// Whether the text is one of the words.
 fn is_among(text: &[u8], words: &[&str]) -> bool
-    ensures { IsTrue result ↔ Contains (map (λ (word : Bor (List ℕ)). word.now) words.now) text.now }
+    ensures { IsTrue result
+        ↔ Contains (map (λ (word : Bor (List ℕ)). word.now) words.now) text.now }
 {
     words.iter().any(|word| word.as_bytes() == text)
 }

@@ -1,7 +1,7 @@
 ghost use Rattle.std.specs.Prelude.{◌↔◌, IsTrue, All, IfOk, Option, option_map};
 ghost use Rattle.std.specs.Str.Lines.{lines};
 ghost use Rattle.hal_tree.specs.Cutting.{IsPlainByte};
-ghost use Rattle.hal_lexer.specs.Answers.{LinesCutTo, CutsTo};
+ghost use Rattle.hal_lexer.specs.Cuts.{LinesCutTo, CutsTo};
 
 use crate::line::{is_main_line, push_line};
 use hal_base::{TOKEN_LIMIT, first_line};
@@ -30,7 +30,8 @@ fn is_plain(text: &[u8]) -> bool
 
 /// The words of the text's lines.
 fn lines_tokens(alloc: Global, text: &[u8], unit: u32) -> Result<Option<Vec<Token>>, AllocError>
-    ensures { IfOk result (λ cut. LinesCutTo unit 1 (lines text.now) (option_map (λ tokens. tokens.items) cut)) }
+    ensures { IfOk result (λ cut.
+        LinesCutTo unit 1 (lines text.now) (option_map (λ tokens. tokens.items) cut)) }
 {
     let mut tokens = Vec::new(alloc);
     let mut rest = text;
