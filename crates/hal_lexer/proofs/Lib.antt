@@ -1,0 +1,6 @@
+pub mod Fronts
+pub mod Spellings
+pub mod Decimals
+pub mod Among
+pub mod LineCuts
+pub mod UnitCuts

@@ -1,0 +1,11 @@
+//! The lexer: the words of a unit of the first form, from its bytes.
+#![tactic(auto)]
+
+mod class;
+mod line;
+mod number;
+mod reserved;
+mod unit;
+mod word;
+
+pub use unit::tokens;
