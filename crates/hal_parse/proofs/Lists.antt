@@ -20,7 +20,7 @@ pub start : {T : Type 0} (Many : List T → Words → Words → Type 0) (words :
 start Many words = record { sound = λ xs after s. s; only = λ xs after s. (xs, refl, s) }
 
 -- where a phrase can be read and the list doesn't stop, the list begins with that phrase
-begins : {T : Type 0} {One : T → Words → Words → Type 0} {Stops : Words → Type 0} {Many : List T → Words → Words → Type 0} → IsListOf One Stops Many
+pub begins : {T : Type 0} {One : T → Words → Words → Type 0} {Stops : Words → Type 0} {Many : List T → Words → Words → Type 0} → IsListOf One Stops Many
     → {rest : Words} {x : T} {after : Words} → IsReading One rest x after → (Stops rest → ⊥)
     → (tail : List T) (end : Words) → Many tail rest end → (more : List T) × (tail ≡ x ∷ more) × Many more after end
 begins {Stops = Stops} l {rest = rest} r goes [] end s =

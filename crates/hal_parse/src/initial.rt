@@ -7,6 +7,12 @@ use crate::symbol::symbol;
 use hal_base::Place;
 use hal_tree::{Initial, Keyword, Symbol, Token, Word};
 
+/// The greatest value.
+const GREATEST: u32 = 32_767;
+
+/// How far below zero the values go, by one more than above.
+const LOWEST: u32 = 32_768;
+
 /// A value with no sign.
 fn unsigned(words: &[Token]) -> Option<(Initial, &[Token])>
     ensures { MatchOption result (HasNone SpellsUnsigned words.now) (λ f. IsReading SpellsUnsigned words.now f.0 f.1.now) }
@@ -18,7 +24,7 @@ fn unsigned(words: &[Token]) -> Option<(Initial, &[Token])>
                 place,
             },
             rest @ ..,
-        ] if *number <= 32_767 => {
+        ] if *number <= GREATEST => {
             let value = *number as i32;
             Some((
                 Initial {
@@ -47,7 +53,7 @@ fn negative(words: &[Token]) -> Option<(Initial, &[Token])>
                 ..
             },
             rest @ ..,
-        ] if *number <= 32_768 => {
+        ] if *number <= LOWEST => {
             let value = -(*number as i32);
             Some((
                 Initial {

@@ -16,4 +16,4 @@ mod term;
 mod unit;
 mod write;
 
-pub use unit::parse;
+pub use unit::{one_tree, parse};

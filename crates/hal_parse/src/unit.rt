@@ -1,6 +1,6 @@
 ghost use Rattle.std.specs.Prelude.{◌≡◌, IfOk, IfSome, IfNone, MatchOption, []};
 ghost use Rattle.hal_tree.specs.Tree.{UnitTree};
-ghost use Rattle.hal_tree.specs.Spells.{SpellsUnit};
+ghost use Rattle.hal_tree.specs.Spells.{Words, SpellsUnit};
 ghost use Rattle.hal_tree.specs.View.{unit_tree};
 ghost use Rattle.hal_parse.specs.Reading.{IsReading, HasNone};
 
@@ -51,3 +51,8 @@ pub fn parse(alloc: Global, tokens: &Tokens) -> Result<Option<Unit>, AllocError>
         Ok(None)
     }
 }
+
+/// A law, which runs nothing: two trees that spell the same words are the same tree.
+pub fn one_tree()
+    ensures { (words : Words) (one other : UnitTree) → SpellsUnit one words [] → SpellsUnit other words [] → one ≡ other }
+{}
