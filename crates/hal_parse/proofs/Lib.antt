@@ -1,0 +1,10 @@
+pub mod Alternatives
+pub mod Answered
+pub mod Begins
+pub mod Choices
+pub mod Exact
+pub mod Lengths
+pub mod Lists
+pub mod OneTree
+pub mod Pairs
+pub mod Sequences

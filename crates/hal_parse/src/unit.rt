@@ -1,0 +1,58 @@
+ghost use Rattle.std.specs.Prelude.{◌≡◌, IfOk, IfSome, IfNone, MatchOption, []};
+ghost use Rattle.hal_tree.specs.Tree.{UnitTree};
+ghost use Rattle.hal_tree.specs.Spells.{Words, SpellsUnit};
+ghost use Rattle.hal_tree.specs.View.{unit_tree};
+ghost use Rattle.hal_parse.specs.Reading.{IsReading, HasNone};
+
+use crate::close::close;
+use crate::declaration::declarations;
+use crate::head::head;
+use crate::statement::statements;
+use hal_tree::{Token, Tokens, Unit};
+use std::alloc::{AllocError, Global};
+
+/// A unit from its head to its CLOSE.
+fn unit(alloc: Global, words: &[Token]) -> Result<Option<(Unit, &[Token])>, AllocError>
+    ensures { IfOk result (λ r. MatchOption r (HasNone SpellsUnit words.now) (λ f. IsReading SpellsUnit words.now (unit_tree f.0) f.1.now)) }
+{
+    let Some((head, first)) = head(words) else {
+        return Ok(None);
+    };
+    let Some((declarations, second)) = declarations(alloc, first)? else {
+        return Ok(None);
+    };
+    let Some((body, third)) = statements(alloc, second)? else {
+        return Ok(None);
+    };
+    let Some(rest) = close(head.name, third) else {
+        return Ok(None);
+    };
+    let unit = Unit {
+        place: head.place,
+        name: head.name,
+        declarations,
+        body,
+    };
+    Ok(Some((unit, rest)))
+}
+
+/// The tree that spells the words, or None where none does.
+pub fn parse(alloc: Global, tokens: &Tokens) -> Result<Option<Unit>, AllocError>
+    ensures found { IfOk result (λ r. IfSome r (λ u. SpellsUnit (unit_tree u) tokens.now [])) }
+    ensures only { IfOk result (λ r. IfSome r (λ u. (other : UnitTree) → SpellsUnit other tokens.now [] → other ≡ unit_tree u)) }
+    ensures none { IfOk result (λ r. IfNone r ((other : UnitTree) → SpellsUnit other tokens.now [] → ⊥)) }
+{
+    let Some((unit, rest)) = unit(alloc, tokens.as_slice())? else {
+        return Ok(None);
+    };
+    if rest.is_empty() {
+        Ok(Some(unit))
+    } else {
+        Ok(None)
+    }
+}
+
+/// A law, which runs nothing: two trees that spell the same words are the same tree.
+pub fn one_tree()
+    ensures { (words : Words) (one other : UnitTree) → SpellsUnit one words [] → SpellsUnit other words [] → one ≡ other }
+{}
