@@ -1,2 +1,4 @@
 pub mod Values
 pub mod Meaning
+pub mod Course
+pub mod NameTable

@@ -16,7 +16,8 @@ impl Model for Line {
 }
 
 impl Line {
-    ghost use Rattle.std.specs.Prelude.{◌≡◌, ◌<◌, [], ◌∷◌, ◌++◌, length};
+    ghost use Rattle.std.specs.Prelude.{◌≡◌, ◌<◌, ◌≤◌, ◌+◌, ◌↔◌, [], ◌∷◌, ◌++◌, length, IsTrue};
+    ghost use Rattle.std.specs.Bool.{OnTrue};
 
     /// No bytes.
     pub fn new() -> Line
@@ -32,6 +33,14 @@ impl Line {
         ensures { result.now ≡ self.now }
     {
         self.bytes.as_slice()
+    }
+
+    /// Adds these bytes at the end, if they fit.
+    pub fn append(&mut self, bytes: &[u8]) -> bool
+        ensures fits { IsTrue result ↔ (length self.old + length bytes.now ≤ 1000) }
+        ensures added { OnTrue result (self.new ≡ self.old ++ bytes.now) }
+    {
+        self.bytes.try_extend_from_slice(bytes).is_ok()
     }
 
     /// Adds a byte at the end.

@@ -17,6 +17,13 @@ impl Model for Own {
 impl Own {
     ghost use Rattle.std.specs.Prelude.{◌≡◌};
 
+    /// These values.
+    pub fn new(values: Vec<i32>) -> Own
+        ensures { result ≡ values.items }
+    {
+        Own { values }
+    }
+
     /// The values.
     pub fn as_slice(&self) -> &[i32]
         ensures { result.now ≡ self.now }

@@ -1,0 +1,4 @@
+pub mod Cycles
+pub mod Entries
+pub mod NameEquality
+pub mod Uses

@@ -1,0 +1,60 @@
+-- Names are equal where their texts are, so a map finds a name by its text.
+use Rattle.std.proofs.Common.{◌≡◌, ℕ, List, [], ◌∷◌, ◌++◌, length, take, Bool, true, false, cond, Option, Some, None, nat_eq, refl, sym, ◌∙◌, ap, subst, Decides}
+use Rattle.std.specs.Map.{lookup}
+use Rattle.std.specs.Cmp.Lexicographic.{pointwise, bytes_decides}
+use Rattle.std.proofs.Math.Seq.{take-append_seam}
+use Rattle.std.proofs.lemmas.Bool.{false≢true}
+use Rattle.std.proofs.lemmas.Bool.Decides.{same_from_decides, Decides-and, Decides-eqb, Decides-like}
+use Rattle.hal_tree.specs.NameText.{filled}
+use Rattle.hal_tree.specs.contracts.name.NamePartialEq.TheImpl as derived
+use Rattle.hal_meaning.specs.declared.names.Entry.{Entry}
+use Rattle.hal_meaning.specs.NameTable.{entry_of, found, noted, IsTable, IsNoted}
+
+-- names with the same room and the same length
+same_text : (a b : List ℕ) → (filled a ≡ filled b) × (length a ≡ length b) → a ≡ b
+same_text a b same =
+    sym (take-append_seam a _) ∙ ap (λ room. take (length a) room) same.0 ∙ ap (λ n. take n (filled b)) same.1 ∙ take-append_seam b _
+
+eq-Decides : (a b : List ℕ) → Decides ((derived.eq-value).it a b) (a ≡ b)
+eq-Decides a b =
+    Decides-like _ (same_text a b) (λ e. (ap filled e, ap length e))
+    (Decides-and _ _ (bytes_decides (filled a) (filled b)) (Decides-eqb (length a) (length b)))
+
+pub eq-pointwise : (a b : List ℕ) → (derived.eq-value).it a b ≡ pointwise nat_eq a b
+eq-pointwise a b = same_from_decides _ _ (eq-Decides a b) (bytes_decides a b)
+
+eq-flipped : (a b : List ℕ) → (derived.eq-value).it a b ≡ pointwise nat_eq b a
+eq-flipped a b = same_from_decides _ _ (eq-Decides a b) (Decides-like _ sym sym (bytes_decides b a))
+
+lookup-same : (f g : List ℕ → Bool) → ((key : List ℕ) → f key ≡ g key) → (entries : List (List ℕ × Entry)) → lookup f entries ≡ lookup g entries
+lookup-same f g same [] = refl
+lookup-same f g same (entry ∷ entries) =
+    ap (λ b. cond b (Some entry.1) (lookup f entries)) (same entry.0) ∙ ap (λ rest. cond (g entry.0) (Some entry.1) rest) (lookup-same f g same entries)
+
+pub lookup-found : (entries : List (List ℕ × Entry)) (name : List ℕ) → lookup ((derived.eq-value).it name) entries ≡ found entries name
+lookup-found entries name = lookup-same _ _ (eq-flipped name) entries
+
+-- what a map finds is the entry of the name
+pub lookup-table : (entries : List (List ℕ × Entry)) (listed names : List (List ℕ)) (name : List ℕ) → IsTable entries listed → listed ≡ names
+    → lookup ((derived.eq-value).it name) entries ≡ entry_of names name
+lookup-table entries listed names name table same = lookup-found entries name ∙ table.finds name ∙ ap (λ list. entry_of list name) same
+
+noted_same : (same : Bool) (old : List ℕ → Option Entry) (cell : ℕ) (added name : List ℕ) → (same ≡ true → added ≡ name)
+    → cond same (Some (noted cell (old added))) (old name) ≡ cond same (Some (noted cell (old name))) (old name)
+noted_same true old cell added name is = ap (λ text. Some (noted cell (old text))) (is refl)
+noted_same false old cell added name is = refl
+
+-- what an insertion does to a map
+pub IsNoted-insert : (old new : List (List ℕ × Entry)) (cell : ℕ) (added : List ℕ) (entry : Entry)
+    → entry ≡ noted cell (lookup ((derived.eq-value).it added) old)
+    → ((name : List ℕ) → lookup ((derived.eq-value).it name) new ≡ cond ((derived.eq-value).it added name) (Some entry) (lookup ((derived.eq-value).it name) old))
+    → IsNoted old new cell added
+IsNoted-insert old new cell added entry is updates = record {
+  finds = λ name.
+      sym (lookup-found new name) ∙ updates name
+      ∙ ap (λ (given : Entry). cond ((derived.eq-value).it added name) (Some given) (lookup ((derived.eq-value).it name) old)) is
+      ∙ ap (λ same. cond same (Some (noted cell (lookup ((derived.eq-value).it added) old))) (lookup ((derived.eq-value).it name) old)) (eq-pointwise added name)
+      ∙ ap (λ rest. cond (pointwise nat_eq added name) (Some (noted cell (lookup ((derived.eq-value).it added) old))) rest) (lookup-found old name)
+      ∙ ap (λ known. cond (pointwise nat_eq added name) (Some (noted cell known)) (found old name)) (lookup-found old added)
+      ∙ noted_same (pointwise nat_eq added name) (found old) cell added name (λ e. (bytes_decides added name).0 e);
+}

@@ -1,0 +1,10 @@
+use Rattle.std.proofs.Common.{◌≡◌, List, ℤ, ◌++◌, drop, map}
+use Rattle.hal_tree.specs.View.{sum_tree}
+use Rattle.hal_meaning.specs.Values.{Good, Checked, checked_then}
+use Rattle.hal_meaning.specs.Meaning.{items_values}
+use Rattle.hal_meaning.proofs.lines.items_values.Given as goal
+
+abbrev pub invariant-loop-item : goal.invariant-loop-item
+invariant-loop-item l =
+    checked_then (items_values l.names l.own (map sum_tree (drop l.item-index l.items))) (λ later. Good (l.values.items ++ later))
+    ≡ items_values l.names l.own (map sum_tree l.items)

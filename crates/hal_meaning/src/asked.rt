@@ -1,0 +1,122 @@
+ghost use Rattle.std.specs.Prelude.{◌≡◌, IfOk};
+ghost use Rattle.hal_tree.specs.View.{unit_tree};
+ghost use Rattle.hal_tree.specs.Naming.{declared_names};
+ghost use Rattle.hal_meaning.specs.Meaning.{Asks, first_values, meaning, next_request, own_values};
+ghost use Rattle.hal_meaning.specs.Course.{IsShorter, body_then_finish, passage, result_of, state_of};
+
+use crate::course::{Course, asks};
+use crate::names::Names;
+use crate::own::Own;
+use crate::request::{Answer, Request};
+use crate::statements::statements;
+use hal_tree::Unit;
+use std::alloc::{AllocError, Global};
+
+/// What a unit asks for, and its own values as they are then.
+#[derive(Debug, Drop)]
+pub struct Asked {
+    pub request: Request,
+    pub own: Own,
+}
+
+/// The values that the own variables have at first.
+fn first_values(alloc: Global, unit: &Unit) -> Result<Vec<i32>, AllocError>
+    ensures { IfOk result (λ own. own.items ≡ first_values (unit_tree unit.now)) }
+{
+    let mut own = Vec::new(alloc);
+    for declaration in &unit.declarations {
+        own.push(declaration.initial.map_or(0, |initial| initial.value))?;
+    }
+    Ok(own)
+}
+
+/// The course of the body, and of Finish.
+fn body_then_finish<'a>(
+    alloc: Global,
+    unit: &Unit,
+    names: &Names,
+    own: &mut [i32],
+    left: &'a [Answer],
+) -> Result<Course<'a>, AllocError>
+    requires { names.now ≡ declared_names (unit_tree unit.now) }
+    ensures meaning { IfOk result (λ course. body_then_finish (unit_tree unit.now) (state_of own.old left.now) ≡ result_of course own.new) }
+    ensures shorter { IfOk result (IsShorter left.now) }
+{
+    match statements(alloc, names, unit.body.as_slice(), own, left)? {
+        Course::Done(done) => Ok(asks(Request::Finish, done)),
+        Course::Asks(request) => Ok(Course::Asks(request)),
+        Course::Restarts(rest) => Ok(Course::Restarts(rest)),
+    }
+}
+
+/// The course of one cycle.
+fn passage<'a>(
+    alloc: Global,
+    unit: &Unit,
+    names: &Names,
+    own: &mut [i32],
+    left: &'a [Answer],
+) -> Result<Course<'a>, AllocError>
+    requires { names.now ≡ declared_names (unit_tree unit.now) }
+    ensures meaning { IfOk result (λ course. passage (unit_tree unit.now) (state_of own.old left.now) ≡ result_of course own.new) }
+    ensures shorter { IfOk result (IsShorter left.now) }
+{
+    match asks(Request::Begin, left) {
+        Course::Done(begun) => body_then_finish(alloc, unit, names, own, begun),
+        Course::Asks(request) => Ok(Course::Asks(request)),
+        Course::Restarts(rest) => Ok(Course::Restarts(rest)),
+    }
+}
+
+/// What a unit asks for after these answers, evaluated from the tree and from the first answer on.
+pub fn oracle(
+    alloc: Global,
+    unit: &Unit,
+    names: &Names,
+    answers: &[Answer],
+) -> Result<Asked, AllocError>
+    requires { names.now ≡ declared_names (unit_tree unit.now) }
+    ensures { IfOk result (λ asked. meaning (unit_tree unit.now) answers.now ≡ Asks asked.request asked.own) }
+{
+    let mut own = first_values(alloc, unit)?;
+    let mut left = answers;
+    loop {
+        match passage(alloc, unit, names, &mut own, left)? {
+            Course::Done(rest) | Course::Restarts(rest) => left = rest,
+            Course::Asks(request) => {
+                return Ok(Asked {
+                    request,
+                    own: Own::new(own),
+                });
+            }
+        }
+    }
+}
+
+/// The next request after these answers.
+pub fn oracle_next(
+    alloc: Global,
+    unit: &Unit,
+    names: &Names,
+    answers: &[Answer],
+) -> Result<Request, AllocError>
+    requires { names.now ≡ declared_names (unit_tree unit.now) }
+    ensures { IfOk result (λ request. request ≡ next_request (unit_tree unit.now) answers.now) }
+{
+    let asked = oracle(alloc, unit, names, answers)?;
+    Ok(asked.request)
+}
+
+/// The own values as they are when the next request is asked.
+pub fn oracle_own(
+    alloc: Global,
+    unit: &Unit,
+    names: &Names,
+    answers: &[Answer],
+) -> Result<Own, AllocError>
+    requires { names.now ≡ declared_names (unit_tree unit.now) }
+    ensures { IfOk result (λ own. own ≡ own_values (unit_tree unit.now) answers.now) }
+{
+    let asked = oracle(alloc, unit, names, answers)?;
+    Ok(asked.own)
+}

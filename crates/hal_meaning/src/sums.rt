@@ -1,0 +1,64 @@
+ghost use Rattle.std.specs.Prelude.{◌≡◌, ℤ};
+ghost use Rattle.hal_tree.specs.View.{sum_tree};
+ghost use Rattle.hal_meaning.specs.Values.{checked_then, in_double, in_single, operand_value, signed_sum, sum_value};
+ghost use Rattle.hal_meaning.specs.Course.{checked};
+
+use crate::names::Names;
+use crate::request::ErrNo;
+use hal_tree::{OperandKind, Sign, Sum};
+
+/// An integer outside its range.
+const RANGE_ERROR: ErrNo = ErrNo {
+    group: 1,
+    number: 1,
+};
+
+/// The value of a variable or a literal. A name that isn't declared reads 0.
+fn operand_value(names: &Names, own: &[i32], operand: &OperandKind) -> i64
+    ensures { result ≡ operand_value names.now own.now operand.now }
+{
+    match operand {
+        OperandKind::Variable(name) => match names.cell(name) {
+            Some(cell) => own.get(cell).copied().map_or(0, i64::from),
+            None => 0,
+        },
+        OperandKind::Number(number) => i64::from(*number),
+    }
+}
+
+/// One step of a sum, where its value has 32 bits.
+fn signed_sum(sign: Sign, value: i64, operand: i64) -> Result<i64, ErrNo>
+    ensures { checked result ≡ in_double (signed_sum sign value operand) }
+{
+    let sum = match sign {
+        Sign::Plus => value.checked_add(operand),
+        Sign::Minus => value.checked_sub(operand),
+    };
+    match sum {
+        Some(sum) if i64::from(i32::MIN) <= sum && sum <= i64::from(i32::MAX) => Ok(sum),
+        _ => Err(RANGE_ERROR),
+    }
+}
+
+/// The value of a sum, or the error that arises in its place.
+pub(crate) fn sum_value(names: &Names, own: &[i32], sum: &Sum) -> Result<i64, ErrNo>
+    ensures { checked result ≡ sum_value names.now own.now (sum_tree sum.now) }
+{
+    let mut value = operand_value(names, own, &sum.first.kind);
+    for term in &sum.others {
+        let operand = operand_value(names, own, &term.operand.kind);
+        value = signed_sum(term.sign, value, operand)?;
+    }
+    Ok(value)
+}
+
+/// The value of a sum for a variable, which has 16 bits.
+pub(crate) fn single_value(names: &Names, own: &[i32], sum: &Sum) -> Result<i32, ErrNo>
+    ensures { checked result ≡ checked_then (sum_value names.now own.now (sum_tree sum.now)) in_single }
+{
+    let value = sum_value(names, own, sum)?;
+    if value < -32768 || 32767 < value {
+        return Err(RANGE_ERROR);
+    }
+    Ok(value as i32)
+}
