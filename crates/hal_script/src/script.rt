@@ -7,6 +7,20 @@ pub enum ScriptLine {
     Run(u32),
 }
 
+impl ScriptLine {
+    ghost use Rattle.std.specs.Prelude.{◌≡◌};
+    ghost use Rattle.hal_script.specs.Lines.{run_count};
+
+    /// How many events the line asks for.
+    pub fn count(self) -> u32
+        ensures { result ≡ run_count self }
+    {
+        match self {
+            ScriptLine::Run(count) => count,
+        }
+    }
+}
+
 /// The lines of a script in order, the empty ones left out. A contract sees a list.
 #[derive(Debug, Drop)]
 pub struct Script {

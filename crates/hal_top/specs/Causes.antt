@@ -1,6 +1,6 @@
 -- Why a call answers what it answers. Each cause says that nothing earlier in the order is wrong: the words, the files as they are named, the
 -- script, the unit.
-use Rattle.std.specs.Prelude.{◌≡◌, ℕ, ◌<◌, ◌≤◌, List, [], ◌∷◌, ◌++◌, Option, Some, None, length, take, slice_get, All}
+use Rattle.std.specs.Prelude.{◌≡◌, ℕ, zero, suc, ◌<◌, ◌≤◌, List, [], ◌∷◌, Option, Some, None, length}
 use Rattle.std.specs.Str.Lines.{lines}
 use Rattle.hal_base.specs.declared.limits.TheConstants.{TEXT_LIMIT}
 use Rattle.hal_base.specs.declared.refusal.Refusal.{Refusal}
@@ -23,15 +23,18 @@ IsAbsent files name = file_named files name ≡ None
 abbrev pub IsTooLong : List File → List ℕ → Type 0
 IsTooLong files name = (bytes : List ℕ) × (file_named files name ≡ Some bytes) × (TEXT_LIMIT < length bytes)
 
--- the files that the words name, numbered from 0, are fit up to number `number`, and this one is as `Wrong` says
+-- of these files, numbered from 0, the one with this number is wrong, and those before it are fit
+abbrev pub FirstWrong : (List File → List ℕ → Type 0) → List File → List (List ℕ) → ℕ → Type 0
+FirstWrong Wrong files [] number = ⊥
+FirstWrong Wrong files (name ∷ names) zero = Wrong files name
+FirstWrong Wrong files (name ∷ names) (suc number) = (bytes : List ℕ) × IsPresent files name bytes × FirstWrong Wrong files names number
+
+-- the first of the files that the words name which isn't fit has this number
 pub record IsFirstWrong (Wrong : List File → List ℕ → Type 0) (files : List File) (words : List (List ℕ)) (number : ℕ) : Type 0 where
   pub script : List ℕ
   pub unit : List ℕ
-  pub name : List ℕ
   pub form : IsRunLine words script unit
-  pub named : slice_get (script ∷ unit ∷ []) number ≡ Some name
-  pub before : All (λ earlier. (bytes : List ℕ) × IsPresent files earlier bytes) (take number (script ∷ unit ∷ []))
-  pub wrong : Wrong files name
+  pub wrong : FirstWrong Wrong files (script ∷ unit ∷ []) number
 
 -- the words have their form, and the files that they name are there
 pub record Fetched (files : List File) (words : List (List ℕ)) (script unit : List ℕ) : Type 0 where

@@ -6,3 +6,7 @@ pub mod Causes
 pub mod Outcomes
 pub mod Draining
 pub mod Told
+pub mod Programs
+pub mod Running
+pub mod Works
+pub mod Performed

@@ -7,9 +7,13 @@ use Rattle.hal_top.specs.declared.journal.Event.{Event}
 use Rattle.hal_top.specs.declared.machine.Status.TheVariants.{Idle}
 use Rattle.hal_top.specs.State.{State, Steps, opening}
 
--- the events of one script line: as many as a RUN asks for, or fewer, and then no process is Ready
+-- as many events as asked for, or fewer, and then no process is Ready
+abbrev pub MakesEvents : UnitTree → State → ℕ → List Event → State → Type 0
+MakesEvents unit old count events new = Steps unit old events new × ((length events ≡ count) ⊎ ((length events < count) × (new.status ≡ Idle)))
+
+-- the events of one script line
 abbrev pub Reaches : UnitTree → State → ScriptLine → List Event → State → Type 0
-Reaches unit old (Run count) events new = Steps unit old events new × ((length events ≡ count) ⊎ ((length events < count) × (new.status ≡ Idle)))
+Reaches unit old (Run count) events new = MakesEvents unit old count events new
 
 -- the journal is the events of all script lines in order
 abbrev pub Runs : UnitTree → State → List ScriptLine → List Event → State → Type 0

@@ -6,9 +6,13 @@ mod fetch;
 mod journal;
 mod machine;
 mod outcome;
+mod perform;
+mod prepare;
+mod program;
 mod refuse;
 mod refused;
 mod report;
+mod run;
 mod words;
 
 pub use journal::{Event, Journal};

@@ -83,6 +83,27 @@ impl Machine {
         self.answers.as_slice()
     }
 
+    /// Whether the process is active.
+    pub fn status(&self) -> Status
+        ensures { result ≡ self.now.status }
+    {
+        self.status
+    }
+
+    /// The channel lines so far.
+    pub fn output(&self) -> &[u8]
+        ensures { result.now ≡ self.now.output }
+    {
+        self.output.as_slice()
+    }
+
+    /// The ends so far.
+    pub fn ends(&self) -> &[End]
+        ensures { result.now ≡ self.now.ends }
+    {
+        self.ends.as_slice()
+    }
+
     /// Answers the request of the process that is Ready.
     pub fn act(&mut self, alloc: Global, request: Request) -> Result<(), AllocError>
         requires { self.old.status ≡ Ready }

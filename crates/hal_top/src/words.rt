@@ -3,6 +3,7 @@ ghost use Rattle.std.specs.String.{string_bytes};
 ghost use Rattle.hal_top.specs.CommandLine.{texts, IsRunLine, HasNoForm};
 
 /// The command `run 1 SCRIPT UNIT` with the files that it names.
+#[derive(Drop)]
 pub struct Command<'a> {
     pub script: &'a str,
     pub unit: &'a str,

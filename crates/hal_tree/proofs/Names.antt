@@ -10,5 +10,5 @@ IsKept-written text within =
     record {
       within = within;
       exact = ap length front;
-      zeros = ap (λ z. text ++ z) (drop-replicate (length text) 32 0) ∙ sym (ap filled front)
+      zeros = ap (λ z. text ++ z) (drop-replicate (length text) 32 0) ∙ sym (ap filled front);
     }

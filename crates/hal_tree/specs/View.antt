@@ -20,8 +20,8 @@ statement_tree statement = kind_tree statement.place statement.kind
 
 abbrev pub unit_tree : declared.Unit → UnitTree
 unit_tree unit = record {
-    place = unit.place;
-    name = unit.name;
-    declarations = unit.declarations.items;
-    body = map statement_tree unit.body.items
-  }
+  place = unit.place;
+  name = unit.name;
+  declarations = unit.declarations.items;
+  body = map statement_tree unit.body.items;
+}

@@ -1,0 +1,108 @@
+-- No two causes stand together: which is told is determined.
+use Rattle.std.proofs.Common.{◌≡◌, ℕ, zero, suc, ◌+◌, ◌<◌, ◌≤◌, ◌⊎◌, inl, inr, List, [], ◌∷◌, take, Option, Some, None, refl, ap, ◌∙◌, sym, subst, arith, length, slice_get, All}
+use Rattle.std.specs.Str.Lines.{lines}
+use Rattle.hal_base.specs.Files.{File, file_named}
+use Rattle.hal_script.specs.declared.script.ScriptLine.{ScriptLine}
+use Rattle.hal_script.specs.declared.fault.ScriptFault.{ScriptFault}
+use Rattle.hal_script.specs.Lines.{IsScript, IsFirstFault}
+use Rattle.hal_script.proofs.FirstFaults.{IsFirstFault-excludes, IsFirstFault-unique}
+use Rattle.hal_tree.specs.Tree.{UnitTree}
+use Rattle.hal_tree.specs.FirstForm.{IsFirstForm}
+use Rattle.hal_base.specs.declared.refusal.Refusal.{Refusal}
+use Rattle.hal_top.specs.CommandLine.{IsRunLine, HasNoForm}
+use Rattle.hal_top.specs.Causes.{IsPresent, IsAbsent, IsTooLong, FirstWrong, IsFirstWrong, Fetched, IsFaulty, IsBroken, IsWork}
+
+-- the words name the same files
+same_script : (words : List (List ℕ)) (s u s' u' : List ℕ) → IsRunLine words s u → IsRunLine words s' u' → s ≡ s'
+same_script words s u s' u' x y = cc
+
+same_unit : (words : List (List ℕ)) (s u s' u' : List ℕ) → IsRunLine words s u → IsRunLine words s' u' → u ≡ u'
+same_unit words s u s' u' x y = cc
+
+-- a file that is present is neither absent nor too long
+pub present_not_absent : (files : List File) (name bytes : List ℕ) → IsPresent files name bytes → IsAbsent files name → ⊥
+present_not_absent files name bytes there gone = cc
+
+pub present_not_long : (files : List File) (name bytes : List ℕ) → IsPresent files name bytes → IsTooLong files name → ⊥
+present_not_long files name bytes there (other , is , long) =
+    let same : bytes ≡ other = cc in
+    omega (arith, ap length same, there.1, long)
+
+pub absent_not_long : (files : List File) (name : List ℕ) → IsAbsent files name → IsTooLong files name → ⊥
+absent_not_long files name gone (bytes , is , long) = cc
+
+same_bytes : (files : List File) (name name' bytes bytes' : List ℕ) → name ≡ name' → IsPresent files name bytes → IsPresent files name' bytes' → bytes ≡ bytes'
+same_bytes files name name' bytes bytes' e (x , l) (y , m) = cc
+
+-- the two files that are fetched
+pub fetched-script : (files : List File) (words : List (List ℕ)) (s u s' u' : List ℕ) → Fetched files words s u → Fetched files words s' u' → s ≡ s'
+fetched-script files words s u s' u' x y =
+    same_bytes files x.script_name y.script_name s s' (same_script words _ _ _ _ x.form y.form) x.script_file y.script_file
+
+pub fetched-unit : (files : List File) (words : List (List ℕ)) (s u s' u' : List ℕ) → Fetched files words s u → Fetched files words s' u' → u ≡ u'
+fetched-unit files words s u s' u' x y =
+    same_bytes files x.unit_name y.unit_name u u' (same_unit words _ _ _ _ x.form y.form) x.unit_file y.unit_file
+
+-- a way to be wrong that no present file has
+pub record Excludes (Wrong : List File → List ℕ → Type 0) : Type 0 where
+  pub absurd_where : (files : List File) (name bytes : List ℕ) → IsPresent files name bytes → Wrong files name → ⊥
+
+-- where both files are fit none is wrong
+none_wrong : (Wrong : List File → List ℕ → Type 0) → Excludes Wrong → (files : List File) (script unit s u : List ℕ) (number : ℕ)
+    → IsPresent files script s → IsPresent files unit u → FirstWrong Wrong files (script ∷ unit ∷ []) number → ⊥
+none_wrong Wrong excludes files script unit s u zero x y w = excludes.absurd_where files script s x w
+none_wrong Wrong excludes files script unit s u (suc zero) x y w = excludes.absurd_where files unit u y w.2
+none_wrong Wrong excludes files script unit s u (suc (suc n)) x y w = absurd w.2.2
+
+pub fetched-none_wrong : (Wrong : List File → List ℕ → Type 0) → Excludes Wrong → (files : List File) (words : List (List ℕ)) (s u : List ℕ) (number : ℕ)
+    → Fetched files words s u → IsFirstWrong Wrong files words number → ⊥
+fetched-none_wrong Wrong excludes files words s u number x w =
+    none_wrong Wrong excludes files w.script w.unit s u number
+    (subst (λ (name : List ℕ). IsPresent files name s) (same_script words _ _ _ _ x.form w.form) x.script_file)
+    (subst (λ (name : List ℕ). IsPresent files name u) (same_unit words _ _ _ _ x.form w.form) x.unit_file)
+    w.wrong
+
+-- the first wrong file is one
+same_first : (One Other : List File → List ℕ → Type 0) → Excludes One → Excludes Other → (files : List File) (names : List (List ℕ)) (m n : ℕ)
+    → FirstWrong One files names m → FirstWrong Other files names n → (m ≡ n) × (name : List ℕ) × One files name × Other files name
+same_first One Other one other files [] m n x y = absurd x
+same_first One Other one other files (name ∷ names) zero zero x y = (refl , name , x , y)
+same_first One Other one other files (name ∷ names) zero (suc n) x y = absurd (one.absurd_where files name y.0 y.1 x)
+same_first One Other one other files (name ∷ names) (suc m) zero x y = absurd (other.absurd_where files name x.0 x.1 y)
+same_first One Other one other files (name ∷ names) (suc m) (suc n) x y =
+    let inner = same_first One Other one other files names m n x.2 y.2 in
+    (ap (λ k. suc k) inner.0 , inner.1 , inner.2 , inner.3)
+
+pub first_wrong-unique : (One Other : List File → List ℕ → Type 0) → Excludes One → Excludes Other → (files : List File) (words : List (List ℕ)) (m n : ℕ)
+    → IsFirstWrong One files words m → IsFirstWrong Other files words n → (m ≡ n) × (name : List ℕ) × One files name × Other files name
+first_wrong-unique One Other one other files words m n x y =
+    let same : y.script ∷ y.unit ∷ [] ≡ x.script ∷ x.unit ∷ [] =
+        ap (λ (s : List ℕ). s ∷ y.unit ∷ []) (same_script words _ _ _ _ y.form x.form) ∙ ap (λ (u : List ℕ). x.script ∷ u ∷ []) (same_unit words _ _ _ _ y.form x.form) in
+    same_first One Other one other files (x.script ∷ x.unit ∷ []) m n x.wrong
+    (subst (λ (names : List (List ℕ)). FirstWrong Other files names n) same y.wrong)
+
+pub Excludes-absent : Excludes IsAbsent
+Excludes-absent = record { absurd_where = present_not_absent }
+
+pub Excludes-long : Excludes IsTooLong
+Excludes-long = record { absurd_where = present_not_long }
+
+-- the script's first fault is one, and is no part of a script
+pub faulty-unique : (files : List File) (words : List (List ℕ)) (f g : ScriptFault) → IsFaulty files words f → IsFaulty files words g → f ≡ g
+faulty-unique files words f g x y =
+    let same : x.script ≡ y.script = fetched-script files words x.script x.unit y.script y.unit x.fetched y.fetched in
+    let number : f.line ≡ g.line = IsFirstFault-unique (lines x.script) f.line g.line x.first (subst (λ (s : List ℕ). IsFirstFault (lines s) g.line) (sym same) y.first) in
+    let reason : f.reason ≡ g.reason = x.reason ∙ sym y.reason in
+    ap (λ n. let made : ScriptFault = record { line = n; reason = f.reason } in made) number ∙ ap (λ r. let made : ScriptFault = record { line = g.line; reason = r } in made) reason
+
+pub faulty-no_script : (files : List File) (words : List (List ℕ)) (f : ScriptFault) (s u : List ℕ) (orders : List ScriptLine)
+    → IsFaulty files words f → Fetched files words s u → IsScript (lines s) orders → ⊥
+faulty-no_script files words f s u orders x fetched read =
+    let same : x.script ≡ s = fetched-script files words x.script x.unit s u x.fetched fetched in
+    IsFirstFault-excludes (lines x.script) f.line orders x.first (subst (λ (t : List ℕ). IsScript (lines t) orders) (sym same) read)
+
+-- a unit that breaks the form has no tree
+pub broken-no_work : (files : List File) (words : List (List ℕ)) (refusal : Refusal) (script : List ScriptLine) (tree : UnitTree) → IsBroken files words refusal → IsWork files words script tree → ⊥
+broken-no_work files words refusal script tree x y =
+    let same : y.unit_text ≡ x.unit = fetched-unit files words y.script_text y.unit_text x.script x.unit y.fetched x.fetched in
+    x.broken.formless tree (subst (λ (t : List ℕ). IsFirstForm 0 t tree) same y.form)

@@ -1,0 +1,40 @@
+-- What is to be run, or why nothing is.
+use Rattle.std.specs.Prelude.{◌≡◌, ℕ, List, Result, Ok, Err}
+use Rattle.std.specs.Str.Lines.{lines}
+use Rattle.hal_base.specs.Files.{File}
+use Rattle.hal_tree.specs.Tree.{UnitTree}
+use Rattle.hal_tree.specs.View.{unit_tree}
+use Rattle.hal_tree.specs.FirstForm.{IsFirstForm}
+use Rattle.hal_script.specs.declared.script.ScriptLine.{ScriptLine}
+use Rattle.hal_script.specs.Lines.{IsScript, IsFirstFault}
+use Rattle.hal_top.specs.declared.fetch.NoFile.{NoFile}
+use Rattle.hal_top.specs.declared.fetch.NoFile.TheVariants as file
+use Rattle.hal_top.specs.declared.prepare.Work.{Work}
+use Rattle.hal_top.specs.declared.refused.Refused.{Refused}
+use Rattle.hal_top.specs.declared.refused.Refused.TheVariants.{Usage, Absent, TooLong, Script, Rule, Shelf, Memory}
+use Rattle.hal_top.specs.Causes.{Breaks, IsWork}
+use Rattle.hal_top.specs.Programs.{IsNamedFor}
+use Rattle.hal_top.specs.Told.{IsCause}
+
+-- the refusal for a file with this number that isn't fit
+abbrev pub IsCauseOfFile : NoFile → ℕ → Refused → Type 0
+IsCauseOfFile file.Absent number refused = refused ≡ Absent number
+IsCauseOfFile file.TooLong number refused = refused ≡ TooLong number
+IsCauseOfFile file.Shelf number refused = refused ≡ Shelf
+IsCauseOfFile file.Memory number refused = refused ≡ Memory
+
+-- the work of a script's and a unit's bytes, or which of them is wrong
+abbrev pub IsWorkOf : List ℕ → List ℕ → Result Work Refused → Type 0
+IsWorkOf script unit (Ok work) = IsScript (lines script) work.script × IsFirstForm 0 unit (unit_tree work.program.unit) × IsNamedFor work.program
+IsWorkOf script unit (Err (Script fault)) = IsFirstFault (lines script) fault.line × (fault.reason ≡ 1)
+IsWorkOf script unit (Err (Rule refusal)) = ((orders : List ScriptLine) × IsScript (lines script) orders) × Breaks 0 unit refusal
+IsWorkOf script unit (Err Memory) = Unit {0}
+IsWorkOf script unit (Err Usage) = ⊥
+IsWorkOf script unit (Err (Absent number)) = ⊥
+IsWorkOf script unit (Err (TooLong number)) = ⊥
+IsWorkOf script unit (Err Shelf) = ⊥
+
+-- the work that the words name, or the first thing that is wrong
+abbrev pub Told : List File → List (List ℕ) → Result Work Refused → Type 0
+Told files words (Ok work) = IsWork files words work.script (unit_tree work.program.unit) × IsNamedFor work.program
+Told files words (Err refused) = IsCause files words refused
