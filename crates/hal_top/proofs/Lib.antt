@@ -5,3 +5,4 @@ pub mod Events
 pub mod Reports
 pub mod Prepared
 pub mod Exclusions
+pub mod Headline

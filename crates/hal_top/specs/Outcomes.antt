@@ -4,15 +4,14 @@ use Rattle.std.specs.Fmt.{decimal}
 use Rattle.hal_base.specs.declared.refusal.Refusal.{Refusal}
 use Rattle.hal_base.specs.Faults.{Rose}
 use Rattle.hal_base.specs.Files.{File}
+use Rattle.hal_base.specs.Sink.{Takes}
 use Rattle.hal_tree.specs.Tree.{UnitTree}
 use Rattle.hal_script.specs.declared.script.ScriptLine.{ScriptLine}
 use Rattle.hal_script.specs.declared.fault.ScriptFault.{ScriptFault}
 use Rattle.hal_top.specs.declared.journal.Event.{Event}
 use Rattle.hal_top.specs.declared.outcome.Outcome.{Outcome}
 use Rattle.hal_top.specs.CommandLine.{usage_line}
-use Rattle.hal_top.specs.State.{State}
-use Rattle.hal_top.specs.Runs.{IsRun}
-use Rattle.hal_top.specs.Report.{report}
+use Rattle.hal_top.specs.Performed.{HasReport}
 use Rattle.hal_top.specs.Causes.{IsWork}
 
 -- a refusal: neither a report nor one cut short
@@ -22,6 +21,10 @@ IsRefusal status = (status ≢ 0) × (status ≢ 8)
 -- a fault of the shelf or want of memory came before
 abbrev pub IsExcused : ℕ → Type 0
 IsExcused status = (status ≡ 7) ⊎ (status ≡ 9)
+
+-- the report was printed, or a front of it, or a fault or want of memory came before
+abbrev pub Completes : ℕ → Type 0
+Completes status = ((status ≡ 0) ⊎ (status ≡ 8)) ⊎ IsExcused status
 
 abbrev pub IsStatus : ℕ → Type 0
 IsStatus status = (status ≡ 0) ⊎ (status ≡ 2) ⊎ (status ≡ 3) ⊎ (status ≡ 4) ⊎ (status ≡ 5) ⊎ (status ≡ 6) ⊎ (status ≡ 7) ⊎ (status ≡ 8) ⊎ (status ≡ 9)
@@ -56,14 +59,25 @@ Prints None now piece faults_before faults_now = Unit {0}
 Prints (Some before) now piece faults_before faults_now =
     (count : ℕ) × (now ≡ Some (before ++ take count piece)) × ((length piece ≤ count) ⊎ Rose faults_before faults_now)
 
--- the journal is a run of the work, and the sink took the report of the state after it, or its first `count` bytes
-pub record Ran (files : List File) (words : List (List ℕ)) (journal : List Event) (reported : List ℕ) : Type 0 where
+-- the work that the words name, a run of it with this journal, and the report of the state after it
+pub record Ran (files : List File) (words : List (List ℕ)) (journal : List Event) (bytes : List ℕ) : Type 0 where
   pub script : List ScriptLine
   pub tree : UnitTree
-  pub end : State
   pub work : IsWork files words script tree
-  pub run : IsRun tree script journal end
-  pub told : reported ≡ report tree end
+  pub reported : HasReport script tree journal bytes
+
+-- the sink took the report of a run with this journal, where it tells its bytes
+pub record PrintsReport (files : List File) (words : List (List ℕ)) (journal : List Event) (before now : Option (List ℕ)) : Type 0 where
+  pub bytes : List ℕ
+  pub ran : Ran files words journal bytes
+  pub taken : Takes before now bytes (length bytes)
+
+-- or a front of it
+pub record PrintsFront (files : List File) (words : List (List ℕ)) (journal : List Event) (before now : Option (List ℕ)) : Type 0 where
+  pub bytes : List ℕ
+  pub count : ℕ
+  pub ran : Ran files words journal bytes
+  pub taken : Takes before now bytes count
 
 -- which fields are given
 pub record IsTold (outcome : Outcome) : Type 0 where

@@ -13,7 +13,6 @@ use Rattle.hal_top.specs.declared.prepare.Work.{Work}
 use Rattle.hal_top.specs.declared.refused.Refused.{Refused}
 use Rattle.hal_top.specs.declared.refused.Refused.TheVariants.{Usage, Absent, TooLong, Script, Rule, Shelf, Memory}
 use Rattle.hal_top.specs.Causes.{Breaks, IsWork}
-use Rattle.hal_top.specs.Programs.{IsNamedFor}
 use Rattle.hal_top.specs.Told.{IsCause}
 
 -- the refusal for a file with this number that isn't fit
@@ -25,7 +24,7 @@ IsCauseOfFile file.Memory number refused = refused ≡ Memory
 
 -- the work of a script's and a unit's bytes, or which of them is wrong
 abbrev pub IsWorkOf : List ℕ → List ℕ → Result Work Refused → Type 0
-IsWorkOf script unit (Ok work) = IsScript (lines script) work.script × IsFirstForm 0 unit (unit_tree work.program.unit) × IsNamedFor work.program
+IsWorkOf script unit (Ok work) = IsScript (lines script) work.script × IsFirstForm 0 unit (unit_tree work.program.unit)
 IsWorkOf script unit (Err (Script fault)) = IsFirstFault (lines script) fault.line × (fault.reason ≡ 1)
 IsWorkOf script unit (Err (Rule refusal)) = ((orders : List ScriptLine) × IsScript (lines script) orders) × Breaks 0 unit refusal
 IsWorkOf script unit (Err Memory) = Unit {0}
@@ -36,5 +35,5 @@ IsWorkOf script unit (Err Shelf) = ⊥
 
 -- the work that the words name, or the first thing that is wrong
 abbrev pub Told : List File → List (List ℕ) → Result Work Refused → Type 0
-Told files words (Ok work) = IsWork files words work.script (unit_tree work.program.unit) × IsNamedFor work.program
+Told files words (Ok work) = IsWork files words work.script (unit_tree work.program.unit)
 Told files words (Err refused) = IsCause files words refused

@@ -13,8 +13,10 @@ mod refuse;
 mod refused;
 mod report;
 mod run;
+mod top;
 mod words;
 
 pub use journal::{Event, Journal};
 pub use machine::{End, How, Machine, Status};
 pub use outcome::Outcome;
+pub use top::hal;

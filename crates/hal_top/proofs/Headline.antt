@@ -1,0 +1,115 @@
+-- What an outcome says of files that are told.
+use Rattle.std.proofs.Common.{◌≡◌, ℕ, ◌⊎◌, inl, inr, List, [], Option, Some, None, IfSome, IsSomeAnd, refl, ap, ◌∙◌, sym, subst, arith, length}
+use Rattle.hal_base.specs.Files.{File}
+use Rattle.hal_base.specs.Sink.{Takes}
+use Rattle.hal_base.specs.declared.refusal.Refusal.{Refusal}
+use Rattle.hal_tree.specs.Tree.{UnitTree}
+use Rattle.hal_script.specs.declared.script.ScriptLine.{ScriptLine}
+use Rattle.hal_script.specs.declared.fault.ScriptFault.{ScriptFault}
+use Rattle.hal_top.specs.declared.journal.Event.{Event}
+use Rattle.hal_top.specs.declared.outcome.Outcome.{Outcome}
+use Rattle.hal_top.specs.declared.refused.Refused.{Refused}
+use Rattle.hal_top.specs.declared.refused.Refused.TheVariants.{Usage, Absent, TooLong, Script, Rule, Shelf, Memory}
+use Rattle.hal_top.specs.Causes.{IsAbsent, IsTooLong, IsFirstWrong, IsFaulty, IsBroken, IsWork}
+use Rattle.hal_top.specs.Outcomes.{IsExcused, Completes, PrintsReport, PrintsFront}
+use Rattle.hal_top.specs.Performed.{HasReport, Reported}
+use Rattle.hal_top.specs.Told.{IsCause, outcome_of}
+use Rattle.hal_top.proofs.Exclusions.{fetched-none_wrong, Excludes-absent, Excludes-long, faulty-unique, faulty-no_script, broken-no_work}
+
+-- where there is work nothing is wrong
+pub work-none_absent : (files : Option (List File)) (words : List (List ℕ)) (script : List ScriptLine) (tree : UnitTree) (Claim : ℕ → Type 0)
+    → IfSome files (λ told. IsWork told words script tree) → IfSome files (λ told. (number : ℕ) → IsFirstWrong IsAbsent told words number → Claim number)
+work-none_absent None words script tree Claim work = tt
+work-none_absent (Some files) words script tree Claim work = λ number x. absurd (fetched-none_wrong IsAbsent Excludes-absent files words work.script_text work.unit_text number work.fetched x)
+
+pub work-none_long : (files : Option (List File)) (words : List (List ℕ)) (script : List ScriptLine) (tree : UnitTree) (Claim : ℕ → Type 0)
+    → IfSome files (λ told. IsWork told words script tree) → IfSome files (λ told. (number : ℕ) → IsFirstWrong IsTooLong told words number → Claim number)
+work-none_long None words script tree Claim work = tt
+work-none_long (Some files) words script tree Claim work = λ number x. absurd (fetched-none_wrong IsTooLong Excludes-long files words work.script_text work.unit_text number work.fetched x)
+
+pub work-not_faulty : (files : Option (List File)) (words : List (List ℕ)) (script : List ScriptLine) (tree : UnitTree) (Claim : ScriptFault → Type 0)
+    → IfSome files (λ told. IsWork told words script tree) → IfSome files (λ told. (fault : ScriptFault) → IsFaulty told words fault → Claim fault)
+work-not_faulty None words script tree Claim work = tt
+work-not_faulty (Some files) words script tree Claim work = λ fault x. absurd (faulty-no_script files words fault work.script_text work.unit_text script x work.fetched work.read)
+
+pub work-not_broken : (files : Option (List File)) (words : List (List ℕ)) (script : List ScriptLine) (tree : UnitTree) (Claim : Refusal → Type 0)
+    → IfSome files (λ told. IsWork told words script tree) → IfSome files (λ told. (refusal : Refusal) → IsBroken told words refusal → Claim refusal)
+work-not_broken None words script tree Claim work = tt
+work-not_broken (Some files) words script tree Claim work = λ refusal x. absurd (broken-no_work files words refusal script tree x work)
+
+-- the report of a run of the work
+pub reported-whole : (files : Option (List File)) (words : List (List ℕ)) (script : List ScriptLine) (tree : UnitTree) (journal performed : List Event) (bytes : List ℕ) (before now : Option (List ℕ)) (faults_before faults_now status : ℕ)
+    → IfSome files (λ told. IsWork told words script tree) → HasReport script tree performed bytes → journal ≡ performed → Reported before now bytes faults_before faults_now status → status ≡ 0
+    → IfSome files (λ told. PrintsReport told words journal before now)
+reported-whole None words script tree journal performed bytes before now fb fn status work has same reported zero = tt
+reported-whole (Some files) words script tree journal performed bytes before now fb fn status work has same (inl taken) zero = record {
+    bytes = bytes;
+    ran = record { script = script; tree = tree; work = work; reported = subst (λ (j : List Event). HasReport script tree j bytes) (sym same) has };
+    taken = taken.1
+  }
+reported-whole (Some files) words script tree journal performed bytes before now fb fn status work has same (inr cut) zero = absurd (omega (arith, zero, cut.0))
+
+pub reported-front : (files : Option (List File)) (words : List (List ℕ)) (script : List ScriptLine) (tree : UnitTree) (journal performed : List Event) (bytes : List ℕ) (before now : Option (List ℕ)) (faults_before faults_now status : ℕ)
+    → IfSome files (λ told. IsWork told words script tree) → HasReport script tree performed bytes → journal ≡ performed → Reported before now bytes faults_before faults_now status → status ≡ 8
+    → IfSome files (λ told. PrintsFront told words journal before now)
+reported-front None words script tree journal performed bytes before now fb fn status work has same reported eight = tt
+reported-front (Some files) words script tree journal performed bytes before now fb fn status work has same (inr cut) eight = record {
+    bytes = bytes;
+    count = cut.1.0;
+    ran = record { script = script; tree = tree; work = work; reported = subst (λ (j : List Event). HasReport script tree j bytes) (sym same) has };
+    taken = cut.1.1
+  }
+reported-front (Some files) words script tree journal performed bytes before now fb fn status work has same (inl taken) eight = absurd (omega (arith, eight, taken.0))
+
+-- the outcome is that of the refusal, or of want of memory for its line
+abbrev Ends : Refused → Outcome → Type 0
+Ends refused result = (result ≡ outcome_of refused) ⊎ (result ≡ outcome_of Memory)
+
+faulty-told : (files : List File) (words : List (List ℕ)) (refused : Refused) (result : Outcome) → result ≡ outcome_of refused → IsCause files words refused
+    → (fault : ScriptFault) → IsFaulty files words fault → ((result.status ≡ 6) × (result.script_fault ≡ Some fault)) ⊎ IsExcused result.status
+faulty-told files words Usage result is cause fault x = absurd (cause _ _ x.fetched.form)
+faulty-told files words (Absent n) result is cause fault x = absurd (fetched-none_wrong IsAbsent Excludes-absent files words x.script x.unit n x.fetched cause)
+faulty-told files words (TooLong n) result is cause fault x = absurd (fetched-none_wrong IsTooLong Excludes-long files words x.script x.unit n x.fetched cause)
+faulty-told files words (Script other) result is cause fault x =
+    inl (ap (λ (o : Outcome). o.status) is , (ap (λ (o : Outcome). o.script_fault) is ∙ ap Some (faulty-unique files words other fault cause x)))
+faulty-told files words (Rule refusal) result is cause fault x = absurd (faulty-no_script files words fault cause.script cause.unit cause.script_lines x cause.fetched cause.read)
+faulty-told files words Shelf result is cause fault x = inr (inl (ap (λ (o : Outcome). o.status) is))
+faulty-told files words Memory result is cause fault x = inr (inr (ap (λ (o : Outcome). o.status) is))
+
+pub refused-faulty : (files : Option (List File)) (words : List (List ℕ)) (refused : Refused) (result : Outcome) → Ends refused result → IfSome files (λ told. IsCause told words refused)
+    → IfSome files (λ told. (fault : ScriptFault) → IsFaulty told words fault → ((result.status ≡ 6) × (result.script_fault ≡ Some fault)) ⊎ IsExcused result.status)
+refused-faulty None words refused result ends cause = tt
+refused-faulty (Some files) words refused result (inl is) cause = faulty-told files words refused result is cause
+refused-faulty (Some files) words refused result (inr is) cause = λ fault x. inr (inr (ap (λ (o : Outcome). o.status) is))
+
+broken-told : (files : List File) (words : List (List ℕ)) (refused : Refused) (result : Outcome) → result ≡ outcome_of refused → IsCause files words refused
+    → (refusal : Refusal) → IsBroken files words refusal → (result.status ≡ 5) ⊎ IsExcused result.status
+broken-told files words Usage result is cause refusal x = absurd (cause _ _ x.fetched.form)
+broken-told files words (Absent n) result is cause refusal x = absurd (fetched-none_wrong IsAbsent Excludes-absent files words x.script x.unit n x.fetched cause)
+broken-told files words (TooLong n) result is cause refusal x = absurd (fetched-none_wrong IsTooLong Excludes-long files words x.script x.unit n x.fetched cause)
+broken-told files words (Script fault) result is cause refusal x = absurd (faulty-no_script files words fault x.script x.unit x.script_lines cause x.fetched x.read)
+broken-told files words (Rule other) result is cause refusal x = inl (ap (λ (o : Outcome). o.status) is)
+broken-told files words Shelf result is cause refusal x = inr (inl (ap (λ (o : Outcome). o.status) is))
+broken-told files words Memory result is cause refusal x = inr (inr (ap (λ (o : Outcome). o.status) is))
+
+pub refused-broken : (files : Option (List File)) (words : List (List ℕ)) (refused : Refused) (result : Outcome) → Ends refused result → IfSome files (λ told. IsCause told words refused)
+    → IfSome files (λ told. (refusal : Refusal) → IsBroken told words refusal → (result.status ≡ 5) ⊎ IsExcused result.status)
+refused-broken None words refused result ends cause = tt
+refused-broken (Some files) words refused result (inl is) cause = broken-told files words refused result is cause
+refused-broken (Some files) words refused result (inr is) cause = λ refusal x. inr (inr (ap (λ (o : Outcome). o.status) is))
+
+work-told : (files : List File) (words : List (List ℕ)) (refused : Refused) (result : Outcome) → result ≡ outcome_of refused → IsCause files words refused
+    → (script : List ScriptLine) (tree : UnitTree) → IsWork files words script tree → IsExcused result.status
+work-told files words Usage result is cause script tree x = absurd (cause _ _ x.fetched.form)
+work-told files words (Absent n) result is cause script tree x = absurd (fetched-none_wrong IsAbsent Excludes-absent files words x.script_text x.unit_text n x.fetched cause)
+work-told files words (TooLong n) result is cause script tree x = absurd (fetched-none_wrong IsTooLong Excludes-long files words x.script_text x.unit_text n x.fetched cause)
+work-told files words (Script fault) result is cause script tree x = absurd (faulty-no_script files words fault x.script_text x.unit_text script cause x.fetched x.read)
+work-told files words (Rule refusal) result is cause script tree x = absurd (broken-no_work files words refusal script tree cause x)
+work-told files words Shelf result is cause script tree x = inl (ap (λ (o : Outcome). o.status) is)
+work-told files words Memory result is cause script tree x = inr (ap (λ (o : Outcome). o.status) is)
+
+pub refused-work : (files : Option (List File)) (words : List (List ℕ)) (refused : Refused) (result : Outcome) → Ends refused result → IfSome files (λ told. IsCause told words refused)
+    → IfSome files (λ told. (script : List ScriptLine) (tree : UnitTree) → IsWork told words script tree → Completes result.status)
+refused-work None words refused result ends cause = tt
+refused-work (Some files) words refused result (inl is) cause = λ script tree x. inr (work-told files words refused result is cause script tree x)
+refused-work (Some files) words refused result (inr is) cause = λ script tree x. inr (inr (ap (λ (o : Outcome). o.status) is))
