@@ -8,7 +8,7 @@ use Rattle.hal_meaning.specs.declared.course.Course.{Course}
 use Rattle.hal_meaning.specs.declared.course.Course.TheVariants as course
 use Rattle.hal_meaning.specs.declared.request.Answer.{Answer}
 use Rattle.hal_meaning.specs.declared.request.Answer.TheVariants.{Begun, Done, Killed}
-use Rattle.hal_meaning.specs.Meaning.{State, Result, Gives, Asks, Restarts, Lost, Flow, Normal, Meaning, asks, asks_from, bind, restarted, cycle, cycles, meaning}
+use Rattle.hal_meaning.specs.Meaning.{State, Result, Gives, Asks, Restarts, Lost, Flow, Normal, Meaning, asks, asks_from, bind, restarted, cycle, cycles}
 use Rattle.hal_meaning.specs.Course.{IsShorter, result_of, state_of, passage}
 
 -- the next cycle, after one that came to this

@@ -1,10 +1,10 @@
 -- What the entry of a name says of the declared names.
-use Rattle.std.proofs.Common.{◌≡◌, ℕ, suc, ◌<◌, ◌⊎◌, inl, inr, List, [], ◌∷◌, ◌++◌, length, Bool, true, false, cond, not, Option, Some, None, nat_eq, nat_lt, ◌+◌, refl, sym, ◌∙◌, ap, subst, arith, Decides, Contains}
+use Rattle.std.proofs.Common.{◌≡◌, ℕ, suc, List, [], ◌∷◌, ◌++◌, length, Bool, true, false, cond, not, Option, Some, None, nat_eq, nat_lt, ◌+◌, refl, sym, ◌∙◌, ap, subst, arith, Decides, Contains}
 use Rattle.std.specs.Option.{is_some, option_map}
 use Rattle.std.specs.Cmp.Lexicographic.{pointwise, bytes_decides}
 use Rattle.std.proofs.lemmas.Bool.{false≢true}
 use Rattle.std.proofs.lemmas.Bool.Decides.{same_from_decides, Decides-like, Decides-ltb}
-use Rattle.std.proofs.lemmas.List.Elements.{Contains-append_right, Contains-append_cases}
+use Rattle.std.proofs.lemmas.List.Elements.{Contains-append_right}
 use Rattle.std.proofs.lemmas.Map.Made.{Contains-tail}
 use Rattle.hal_tree.specs.Naming.{IsOnce}
 use Rattle.hal_meaning.specs.declared.names.Entry.{Entry}

@@ -1,9 +1,8 @@
 -- Names are equal where their texts are, so a map finds a name by its text.
-use Rattle.std.proofs.Common.{◌≡◌, ℕ, List, [], ◌∷◌, ◌++◌, length, take, Bool, true, false, cond, Option, Some, None, nat_eq, refl, sym, ◌∙◌, ap, subst, Decides}
+use Rattle.std.proofs.Common.{◌≡◌, ℕ, List, [], ◌∷◌, length, take, Bool, true, false, cond, Option, Some, nat_eq, refl, sym, ◌∙◌, ap, Decides}
 use Rattle.std.specs.Map.{lookup}
 use Rattle.std.specs.Cmp.Lexicographic.{pointwise, bytes_decides}
 use Rattle.std.proofs.Math.Seq.{take-append_seam}
-use Rattle.std.proofs.lemmas.Bool.{false≢true}
 use Rattle.std.proofs.lemmas.Bool.Decides.{same_from_decides, Decides-and, Decides-eqb, Decides-like}
 use Rattle.hal_tree.specs.NameText.{filled}
 use Rattle.hal_tree.specs.contracts.name.NamePartialEq.TheImpl as derived

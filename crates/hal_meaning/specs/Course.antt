@@ -1,10 +1,9 @@
 -- How the evaluator's results are read: as those of the definitions.
-use Rattle.std.specs.Prelude.{ℕ, ◌<◌, ◌≤◌, ℤ, List, length, Ok, Err, Result as Outcome}
+use Rattle.std.specs.Prelude.{◌<◌, ◌≤◌, ℤ, List, length, Ok, Err, Result as Outcome}
 use Rattle.std.specs.Global.{Vec}
 use Rattle.hal_tree.specs.Tree.{UnitTree}
 use Rattle.hal_tree.specs.Naming.{declared_names}
 use Rattle.hal_meaning.specs.declared.request.ErrNo.{ErrNo}
-use Rattle.hal_meaning.specs.declared.request.Request.{Request}
 use Rattle.hal_meaning.specs.declared.request.Request.TheVariants.{Begin, Finish}
 use Rattle.hal_meaning.specs.declared.request.Answer.{Answer}
 use Rattle.hal_meaning.specs.declared.course.Course.{Course}

@@ -2,7 +2,7 @@
 --
 -- A phrase is evaluated in a state, which has the answers that are still to be taken; a request takes one. Where none is left, the request is
 -- what is asked. So the definition recurses on the tree, and on the answers where a cycle begins anew: each cycle has taken an answer before.
-use Rattle.std.specs.Prelude.{◌≡◌, ℕ, List, [], ◌∷◌, ◌++◌, map, length, nat_lt, ℤ, pos, Option, Some, None, slice_set, if◌then◌else◌}
+use Rattle.std.specs.Prelude.{ℕ, List, [], ◌∷◌, ◌++◌, map, length, nat_lt, ℤ, pos, Option, Some, None, slice_set, if◌then◌else◌}
 use Rattle.std.specs.Fmt.{signed_decimal}
 use Rattle.hal_tree.specs.declared.tree.Initial.{Initial}
 use Rattle.hal_tree.specs.declared.tree.Declaration.{Declaration}
