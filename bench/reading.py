@@ -4,7 +4,8 @@
 Units of four shapes double up to the limits of a unit, 65,536 words and 1,048,576 bytes, under a
 script of few events. A row is a unit: its words and bytes, the processor time (the least of three
 runs), the peak of memory, and the time's ratio to the row above. Reading, checking and one request
-are to be linear in the unit, so a ratio stays below 2.5. The start of a process hides the small ones.
+are to be linear in the unit, so a ratio stays below 2.5. The peak is never less than Python's own,
+in which the program is started.
 """
 import os
 import pathlib
@@ -69,7 +70,7 @@ def measure(shape, folder):
         if any(status != 0 for status, _, _ in runs):
             sys.exit(f'{shape.__name__} of {words} words: the program ended with status {runs[0][0]}')
         seconds, peak = min(run[1] for run in runs), max(run[2] for run in runs)
-        ratio = seconds / last if last else 0
+        ratio = seconds / last if last else 1
         print(f'{words:8}{size:10}{seconds * 1000:9.1f}{peak:8.1f}{ratio:8.2f}')
         is_fine = is_fine and (ratio < RATIO_LIMIT or seconds < LEAST)
         last = seconds
