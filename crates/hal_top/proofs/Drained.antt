@@ -1,5 +1,5 @@
 -- How far a text was put into a sink.
-use Rattle.std.proofs.Common.{◌≡◌, ℕ, ◌+◌, ◌≤◌, List, [], ◌++◌, length, take, drop, refl, ap, ◌∙◌, sym, arith, append_assoc, append-nil, Option, Some, None, subst, length-drop, take-add, drop-drop}
+use Rattle.std.proofs.Common.{◌≡◌, ℕ, ◌+◌, ◌≤◌, List, ◌++◌, length, take, drop, refl, ap, ◌∙◌, sym, arith, append_assoc, append-nil, Option, Some, None, subst, length-drop, take-add, drop-drop}
 use Rattle.hal_base.specs.Sink.{Takes, Keeps}
 
 pub record IsDrained (before now : Option (List ℕ)) (text rest : List ℕ) : Type 0 where
@@ -25,11 +25,11 @@ takes-more (Some bytes) (Some more) later text m n x y =
 
 pub IsDrained-step : (before now later : Option (List ℕ)) (text rest : List ℕ) (count : ℕ) → count ≤ length rest → IsDrained before now text rest → Takes now later rest count → IsDrained before later text (drop count rest)
 IsDrained-step before now later text rest count fits drained takes = record {
-    done = drained.done + count;
-    within = omega (arith, drained.within, length-drop drained.done text, ap length drained.left, fits);
-    left = ap (drop count) drained.left ∙ drop-drop count drained.done text;
-    taken = takes-more before now later text drained.done count drained.taken (subst (λ r. Takes now later r count) drained.left takes)
-  }
+  done = drained.done + count;
+  within = omega (arith, drained.within, length-drop drained.done text, ap length drained.left, fits);
+  left = ap (drop count) drained.left ∙ drop-drop count drained.done text;
+  taken = takes-more before now later text drained.done count drained.taken (subst (λ r. Takes now later r count) drained.left takes);
+}
 
 takes-kept : (before now later : Option (List ℕ)) (text : List ℕ) (m : ℕ) → Takes before now text m → Keeps now later → Takes before later text m
 takes-kept None now later text m x y = tt
@@ -37,7 +37,7 @@ takes-kept (Some bytes) None later text m x y = absurd (cc)
 takes-kept (Some bytes) (Some more) later text m x y = y ∙ x
 
 pub IsDrained-failed : (before now later : Option (List ℕ)) (text rest : List ℕ) → IsDrained before now text rest → Keeps now later → (count : ℕ) × Takes before later text count
-IsDrained-failed before now later text rest drained keeps = (drained.done , takes-kept before now later text drained.done drained.taken keeps)
+IsDrained-failed before now later text rest drained keeps = (drained.done, takes-kept before now later text drained.done drained.taken keeps)
 
 pub IsDrained-end : (before now : Option (List ℕ)) (text rest : List ℕ) → IsDrained before now text rest → length rest ≡ 0 → Takes before now text (length text)
 IsDrained-end before now text rest drained empty =

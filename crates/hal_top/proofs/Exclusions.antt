@@ -1,7 +1,7 @@
 -- No two causes stand together: which is told is determined.
-use Rattle.std.proofs.Common.{◌≡◌, ℕ, zero, suc, ◌+◌, ◌<◌, ◌≤◌, ◌⊎◌, inl, inr, List, [], ◌∷◌, take, Option, Some, None, refl, ap, ◌∙◌, sym, subst, arith, length, slice_get, All}
+use Rattle.std.proofs.Common.{◌≡◌, ℕ, zero, suc, List, [], ◌∷◌, refl, ap, ◌∙◌, sym, subst, arith, length}
 use Rattle.std.specs.Str.Lines.{lines}
-use Rattle.hal_base.specs.Files.{File, file_named}
+use Rattle.hal_base.specs.Files.{File}
 use Rattle.hal_script.specs.declared.script.ScriptLine.{ScriptLine}
 use Rattle.hal_script.specs.declared.fault.ScriptFault.{ScriptFault}
 use Rattle.hal_script.specs.Lines.{IsScript, IsFirstFault}
@@ -9,7 +9,7 @@ use Rattle.hal_script.proofs.FirstFaults.{IsFirstFault-excludes, IsFirstFault-un
 use Rattle.hal_tree.specs.Tree.{UnitTree}
 use Rattle.hal_tree.specs.FirstForm.{IsFirstForm}
 use Rattle.hal_base.specs.declared.refusal.Refusal.{Refusal}
-use Rattle.hal_top.specs.CommandLine.{IsRunLine, HasNoForm}
+use Rattle.hal_top.specs.CommandLine.{IsRunLine}
 use Rattle.hal_top.specs.Causes.{IsPresent, IsAbsent, IsTooLong, FirstWrong, IsFirstWrong, Fetched, IsFaulty, IsBroken, IsWork}
 
 -- the words name the same files
@@ -24,15 +24,15 @@ pub present_not_absent : (files : List File) (name bytes : List ℕ) → IsPrese
 present_not_absent files name bytes there gone = cc
 
 pub present_not_long : (files : List File) (name bytes : List ℕ) → IsPresent files name bytes → IsTooLong files name → ⊥
-present_not_long files name bytes there (other , is , long) =
+present_not_long files name bytes there (other, is, long) =
     let same : bytes ≡ other = cc in
     omega (arith, ap length same, there.1, long)
 
 pub absent_not_long : (files : List File) (name : List ℕ) → IsAbsent files name → IsTooLong files name → ⊥
-absent_not_long files name gone (bytes , is , long) = cc
+absent_not_long files name gone (bytes, is, long) = cc
 
 same_bytes : (files : List File) (name name' bytes bytes' : List ℕ) → name ≡ name' → IsPresent files name bytes → IsPresent files name' bytes' → bytes ≡ bytes'
-same_bytes files name name' bytes bytes' e (x , l) (y , m) = cc
+same_bytes files name name' bytes bytes' e (x, l) (y, m) = cc
 
 -- the two files that are fetched
 pub fetched-script : (files : List File) (words : List (List ℕ)) (s u s' u' : List ℕ) → Fetched files words s u → Fetched files words s' u' → s ≡ s'
@@ -66,18 +66,18 @@ fetched-none_wrong Wrong excludes files words s u number x w =
 same_first : (One Other : List File → List ℕ → Type 0) → Excludes One → Excludes Other → (files : List File) (names : List (List ℕ)) (m n : ℕ)
     → FirstWrong One files names m → FirstWrong Other files names n → (m ≡ n) × (name : List ℕ) × One files name × Other files name
 same_first One Other one other files [] m n x y = absurd x
-same_first One Other one other files (name ∷ names) zero zero x y = (refl , name , x , y)
+same_first One Other one other files (name ∷ names) zero zero x y = (refl, name, x, y)
 same_first One Other one other files (name ∷ names) zero (suc n) x y = absurd (one.absurd_where files name y.0 y.1 x)
 same_first One Other one other files (name ∷ names) (suc m) zero x y = absurd (other.absurd_where files name x.0 x.1 y)
 same_first One Other one other files (name ∷ names) (suc m) (suc n) x y =
     let inner = same_first One Other one other files names m n x.2 y.2 in
-    (ap (λ k. suc k) inner.0 , inner.1 , inner.2 , inner.3)
+    (ap (λ k. suc k) inner.0, inner.1, inner.2, inner.3)
 
 pub first_wrong-unique : (One Other : List File → List ℕ → Type 0) → Excludes One → Excludes Other → (files : List File) (words : List (List ℕ)) (m n : ℕ)
     → IsFirstWrong One files words m → IsFirstWrong Other files words n → (m ≡ n) × (name : List ℕ) × One files name × Other files name
 first_wrong-unique One Other one other files words m n x y =
     let same : y.script ∷ y.unit ∷ [] ≡ x.script ∷ x.unit ∷ [] =
-        ap (λ (s : List ℕ). s ∷ y.unit ∷ []) (same_script words _ _ _ _ y.form x.form) ∙ ap (λ (u : List ℕ). x.script ∷ u ∷ []) (same_unit words _ _ _ _ y.form x.form) in
+    ap (λ (s : List ℕ). s ∷ y.unit ∷ []) (same_script words _ _ _ _ y.form x.form) ∙ ap (λ (u : List ℕ). x.script ∷ u ∷ []) (same_unit words _ _ _ _ y.form x.form) in
     same_first One Other one other files (x.script ∷ x.unit ∷ []) m n x.wrong
     (subst (λ (names : List (List ℕ)). FirstWrong Other files names n) same y.wrong)
 

@@ -1,5 +1,5 @@
 -- Whether a text is in the first form, from what lexer, parser and name table say.
-use Rattle.std.proofs.Common.{◌≡◌, ℕ, List, [], subst, ap, ◌∙◌, sym}
+use Rattle.std.proofs.Common.{◌≡◌, ℕ, List, [], subst}
 use Rattle.hal_tree.specs.declared.word.Token.{Token}
 use Rattle.hal_tree.specs.Tree.{UnitTree}
 use Rattle.hal_tree.specs.Spells.{SpellsUnit}

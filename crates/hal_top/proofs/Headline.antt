@@ -1,7 +1,6 @@
 -- What an outcome says of files that are told.
-use Rattle.std.proofs.Common.{◌≡◌, ℕ, ◌⊎◌, inl, inr, List, [], Option, Some, None, IfSome, IsSomeAnd, refl, ap, ◌∙◌, sym, subst, arith, length}
+use Rattle.std.proofs.Common.{◌≡◌, ℕ, ◌⊎◌, inl, inr, List, Option, Some, None, IfSome, ap, ◌∙◌, sym, subst, arith}
 use Rattle.hal_base.specs.Files.{File}
-use Rattle.hal_base.specs.Sink.{Takes}
 use Rattle.hal_base.specs.declared.refusal.Refusal.{Refusal}
 use Rattle.hal_tree.specs.Tree.{UnitTree}
 use Rattle.hal_script.specs.declared.script.ScriptLine.{ScriptLine}
@@ -43,10 +42,10 @@ pub reported-whole : (files : Option (List File)) (words : List (List ℕ)) (scr
     → IfSome files (λ told. PrintsReport told words journal before now)
 reported-whole None words script tree journal performed bytes before now fb fn status work has same reported zero = tt
 reported-whole (Some files) words script tree journal performed bytes before now fb fn status work has same (inl taken) zero = record {
-    bytes = bytes;
-    ran = record { script = script; tree = tree; work = work; reported = subst (λ (j : List Event). HasReport script tree j bytes) (sym same) has };
-    taken = taken.1
-  }
+  bytes = bytes;
+  ran = record { script = script; tree = tree; work = work; reported = subst (λ (j : List Event). HasReport script tree j bytes) (sym same) has };
+  taken = taken.1;
+}
 reported-whole (Some files) words script tree journal performed bytes before now fb fn status work has same (inr cut) zero = absurd (omega (arith, zero, cut.0))
 
 pub reported-front : (files : Option (List File)) (words : List (List ℕ)) (script : List ScriptLine) (tree : UnitTree) (journal performed : List Event) (bytes : List ℕ) (before now : Option (List ℕ)) (faults_before faults_now status : ℕ)
@@ -54,11 +53,11 @@ pub reported-front : (files : Option (List File)) (words : List (List ℕ)) (scr
     → IfSome files (λ told. PrintsFront told words journal before now)
 reported-front None words script tree journal performed bytes before now fb fn status work has same reported eight = tt
 reported-front (Some files) words script tree journal performed bytes before now fb fn status work has same (inr cut) eight = record {
-    bytes = bytes;
-    count = cut.1.0;
-    ran = record { script = script; tree = tree; work = work; reported = subst (λ (j : List Event). HasReport script tree j bytes) (sym same) has };
-    taken = cut.1.1
-  }
+  bytes = bytes;
+  count = cut.1.0;
+  ran = record { script = script; tree = tree; work = work; reported = subst (λ (j : List Event). HasReport script tree j bytes) (sym same) has };
+  taken = cut.1.1;
+}
 reported-front (Some files) words script tree journal performed bytes before now fb fn status work has same (inl taken) eight = absurd (omega (arith, eight, taken.0))
 
 -- the outcome is that of the refusal, or of want of memory for its line
@@ -71,7 +70,7 @@ faulty-told files words Usage result is cause fault x = absurd (cause _ _ x.fetc
 faulty-told files words (Absent n) result is cause fault x = absurd (fetched-none_wrong IsAbsent Excludes-absent files words x.script x.unit n x.fetched cause)
 faulty-told files words (TooLong n) result is cause fault x = absurd (fetched-none_wrong IsTooLong Excludes-long files words x.script x.unit n x.fetched cause)
 faulty-told files words (Script other) result is cause fault x =
-    inl (ap (λ (o : Outcome). o.status) is , (ap (λ (o : Outcome). o.script_fault) is ∙ ap Some (faulty-unique files words other fault cause x)))
+    inl (ap (λ (o : Outcome). o.status) is, (ap (λ (o : Outcome). o.script_fault) is ∙ ap Some (faulty-unique files words other fault cause x)))
 faulty-told files words (Rule refusal) result is cause fault x = absurd (faulty-no_script files words fault cause.script cause.unit cause.script_lines x cause.fetched cause.read)
 faulty-told files words Shelf result is cause fault x = inr (inl (ap (λ (o : Outcome). o.status) is))
 faulty-told files words Memory result is cause fault x = inr (inr (ap (λ (o : Outcome). o.status) is))

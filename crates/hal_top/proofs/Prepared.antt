@@ -1,5 +1,5 @@
 -- What script and unit say of the whole.
-use Rattle.std.proofs.Common.{◌≡◌, ℕ, List, [], Option, Some, None, Result, Ok, Err, IfSome, subst, sym}
+use Rattle.std.proofs.Common.{◌≡◌, ℕ, List, Option, Some, None, Result, Ok, Err, IfSome, subst}
 use Rattle.hal_base.specs.Files.{File}
 use Rattle.hal_top.specs.declared.prepare.Work.{Work}
 use Rattle.hal_top.specs.declared.refused.Refused.{Refused}

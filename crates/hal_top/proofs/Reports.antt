@@ -1,5 +1,5 @@
 -- The report, from its parts.
-use Rattle.std.proofs.Common.{◌≡◌, ℕ, ℤ, List, [], ◌++◌, refl, ap, ◌∙◌, sym, append_assoc, map, flat_map}
+use Rattle.std.proofs.Common.{◌≡◌, ℕ, ℤ, List, [], ◌++◌, ◌∙◌, append_assoc, map, flat_map}
 use Rattle.std.specs.List.{zip}
 use Rattle.hal_tree.specs.declared.tree.Declaration.{Declaration}
 use Rattle.hal_tree.specs.Tree.{UnitTree}

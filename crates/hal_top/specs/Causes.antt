@@ -1,6 +1,6 @@
 -- Why a call answers what it answers. Each cause says that nothing earlier in the order is wrong: the words, the files as they are named, the
 -- script, the unit.
-use Rattle.std.specs.Prelude.{◌≡◌, ℕ, zero, suc, ◌<◌, ◌≤◌, List, [], ◌∷◌, Option, Some, None, length}
+use Rattle.std.specs.Prelude.{◌≡◌, ℕ, zero, suc, ◌<◌, ◌≤◌, List, [], ◌∷◌, Some, None, length}
 use Rattle.std.specs.Str.Lines.{lines}
 use Rattle.hal_base.specs.declared.limits.TheConstants.{TEXT_LIMIT}
 use Rattle.hal_base.specs.declared.refusal.Refusal.{Refusal}

@@ -1,5 +1,5 @@
 -- The report of a state, byte by byte.
-use Rattle.std.specs.Prelude.{ℕ, List, [], ◌∷◌, ◌++◌, flat_map, zip, codes, ℤ}
+use Rattle.std.specs.Prelude.{ℕ, List, [], ◌++◌, flat_map, zip, codes, ℤ}
 use Rattle.std.specs.Fmt.{decimal, signed_decimal}
 use Rattle.hal_tree.specs.Tree.{UnitTree}
 use Rattle.hal_tree.specs.Naming.{declared_names}

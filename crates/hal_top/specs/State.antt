@@ -11,7 +11,6 @@ use Rattle.hal_top.specs.declared.journal.Event.{Event}
 use Rattle.hal_top.specs.declared.journal.Event.TheVariants.{Act}
 use Rattle.hal_top.specs.declared.machine.Status.{Status}
 use Rattle.hal_top.specs.declared.machine.Status.TheVariants.{Ready, Idle}
-use Rattle.hal_top.specs.declared.machine.How.{How}
 use Rattle.hal_top.specs.declared.machine.How.TheVariants.{Closed, Failed}
 use Rattle.hal_top.specs.declared.machine.End.{End}
 
@@ -37,11 +36,11 @@ effect Begin old = record old { answers = old.answers ++ Begun ∷ [] }
 effect (Print channel line) old = record old { answers = old.answers ++ Done ∷ []; output = old.output ++ channel_line channel line }
 effect (Stop error) old = record old { answers = old.answers ++ Killed ∷ []; status = Idle; ends = old.ends ++ record { how = Failed error; cycles = old.cycles } ∷ [] }
 effect Finish old = record old {
-    answers = old.answers ++ Done ∷ [];
-    status = Idle;
-    cycles = old.cycles + 1;
-    ends = old.ends ++ record { how = Closed; cycles = old.cycles + 1 } ∷ []
-  }
+  answers = old.answers ++ Done ∷ [];
+  status = Idle;
+  cycles = old.cycles + 1;
+  ends = old.ends ++ record { how = Closed; cycles = old.cycles + 1 } ∷ [];
+}
 
 -- the one process, process 0, is Ready, and the request that it asks for is answered
 abbrev pub Step : UnitTree → State → Event → State → Type 0

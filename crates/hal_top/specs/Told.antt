@@ -1,5 +1,5 @@
 -- What the steps of a call answer.
-use Rattle.std.specs.Prelude.{◌≡◌, ℕ, List, [], Option, Some, None, Result, Ok, Err, Vec}
+use Rattle.std.specs.Prelude.{ℕ, List, [], Option, Some, None, Result, Ok, Err, Vec}
 use Rattle.std.specs.declared.alloc.Global.{Global}
 use Rattle.hal_base.specs.Files.{File}
 use Rattle.hal_base.specs.declared.refusal.Refusal.{Refusal}
@@ -69,10 +69,10 @@ fault_of Memory = None
 -- the outcome of a refusal
 abbrev pub outcome_of : Refused → Outcome
 outcome_of refused = record {
-    status = status_of refused;
-    journal = [];
-    file = file_of refused;
-    refused = rule_of refused;
-    script_fault = fault_of refused;
-    image_fault = None
-  }
+  status = status_of refused;
+  journal = [];
+  file = file_of refused;
+  refused = rule_of refused;
+  script_fault = fault_of refused;
+  image_fault = None;
+}

@@ -2,7 +2,6 @@
 use Rattle.std.specs.Prelude.{◌≡◌, ℕ, List, Result, Ok, Err}
 use Rattle.std.specs.Str.Lines.{lines}
 use Rattle.hal_base.specs.Files.{File}
-use Rattle.hal_tree.specs.Tree.{UnitTree}
 use Rattle.hal_tree.specs.View.{unit_tree}
 use Rattle.hal_tree.specs.FirstForm.{IsFirstForm}
 use Rattle.hal_script.specs.declared.script.ScriptLine.{ScriptLine}

@@ -27,7 +27,13 @@ pub fn perform(alloc: Global, work: &Work) -> Result<Performed, AllocError>
 {
     let mut machine = Machine::new(alloc);
     let mut journal = Vec::new(alloc);
-    run(alloc, &work.program, &work.script, &mut machine, &mut journal)?;
+    run(
+        alloc,
+        &work.program,
+        &work.script,
+        &mut machine,
+        &mut journal,
+    )?;
     let report = report_text(alloc, &work.program, &machine)?;
     Ok(Performed {
         journal: Journal::new(journal),

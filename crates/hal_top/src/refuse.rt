@@ -13,7 +13,8 @@ use hal_base::Sink;
 use std::alloc::{AllocError, Global};
 
 /// What is printed where the words have no form.
-const USAGE: &str = "usage: hal run LANES SCRIPT UNIT.. | build UNIT.. | exec LANES SCRIPT IMAGE | make NUMBER SIZE\n";
+const USAGE: &str =
+    "usage: hal run LANES SCRIPT UNIT.. | build UNIT.. | exec LANES SCRIPT IMAGE | make NUMBER SIZE\n";
 
 /// The outcome of a refusal: nothing ran.
 fn outcome(alloc: Global, refused: Refused) -> Outcome

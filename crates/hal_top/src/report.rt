@@ -14,12 +14,7 @@ use hal_tree::Declaration;
 use std::alloc::{AllocError, Global};
 
 /// Adds the line of an end.
-fn add_end(
-    alloc: Global,
-    report: &mut Vec<u8>,
-    name: &[u8],
-    end: &End,
-) -> Result<(), AllocError>
+fn add_end(alloc: Global, report: &mut Vec<u8>, name: &[u8], end: &End) -> Result<(), AllocError>
     ensures { OnOk result (report.new.items ≡ report.old.items ++ end_line name.now end.now) }
 {
     let tail = how_text(alloc, end.how, end.cycles)?;

@@ -5,7 +5,7 @@ use Rattle.hal_base.specs.declared.refusal.Place.{Place}
 use Rattle.hal_base.specs.declared.limits.TheConstants.{TOKEN_LIMIT}
 use Rattle.hal_tree.specs.declared.word.Word.{Word}
 use Rattle.hal_tree.specs.declared.word.Token.{Token}
-use Rattle.hal_tree.specs.Letters.{IsBlank, BeginsWith}
+use Rattle.hal_tree.specs.Letters.{IsBlank}
 use Rattle.hal_tree.specs.Spelling.{SpellsWord, EndsBefore}
 
 -- the text begins with the word, so spelled, and the rest follows

@@ -1,5 +1,5 @@
 -- How a name keeps its text in a room of 32 bytes.
-use Rattle.std.specs.Prelude.{◌≡◌, ℕ, ◌-◌, ◌≤◌, List, ◌++◌, length, take, replicate, refl}
+use Rattle.std.specs.Prelude.{◌≡◌, ℕ, ◌-◌, ◌≤◌, List, ◌++◌, length, take, replicate}
 use Rattle.std.proofs.Common.{ap, ◌∙◌, sym}
 
 -- a text, filled up with zeros to the room

@@ -1,7 +1,6 @@
 -- Which names a unit declares and uses.
 use Rattle.std.specs.Prelude.{◌≡◌, ℕ, List, [], ◌∷◌, ◌++◌, map, flat_map, All, Contains}
 use Rattle.hal_tree.specs.declared.tree.Declaration.{Declaration}
-use Rattle.hal_tree.specs.declared.tree.Operand.{Operand}
 use Rattle.hal_tree.specs.declared.tree.OperandKind.{OperandKind}
 use Rattle.hal_tree.specs.declared.tree.OperandKind.TheVariants as operand
 use Rattle.hal_tree.specs.declared.tree.Term.{Term}

@@ -1,5 +1,5 @@
 -- How a word is written, and where it ends.
-use Rattle.std.specs.Prelude.{◌≡◌, ℕ, ◌+◌, ◌-◌, ◌*◌, ◌^◌, ◌<◌, ◌≤◌, List, [], ◌∷◌, ◌++◌, length, All, Contains, codes}
+use Rattle.std.specs.Prelude.{◌≡◌, ℕ, ◌+◌, ◌-◌, ◌*◌, ◌^◌, ◌<◌, ◌≤◌, List, [], ◌∷◌, length, All, Contains, codes}
 use Rattle.hal_tree.specs.declared.word.Keyword.{Keyword}
 use Rattle.hal_tree.specs.declared.word.Keyword.TheVariants as keyword
 use Rattle.hal_tree.specs.declared.word.Symbol.{Symbol}

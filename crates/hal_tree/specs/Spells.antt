@@ -1,6 +1,6 @@
 -- Which words a tree spells, one relation for each production of the grammar. `before` are the words from the tree's
 -- first one on, and `after` those that follow it.
-use Rattle.std.specs.Prelude.{◌≡◌, ℕ, ◌<◌, ◌≤◌, ◌⊎◌, List, [], ◌∷◌, Option, Some, None, ℤ, pos, ◌-ℤ◌}
+use Rattle.std.specs.Prelude.{◌≡◌, ℕ, ◌<◌, ◌≤◌, ◌⊎◌, List, [], ◌∷◌, Option, Some, None, pos, ◌-ℤ◌}
 use Rattle.hal_base.specs.declared.refusal.Place.{Place}
 use Rattle.hal_base.specs.declared.limits.TheConstants.{CHANNEL_COUNT}
 use Rattle.hal_tree.specs.declared.word.Keyword.TheVariants as keyword

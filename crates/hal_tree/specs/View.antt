@@ -1,5 +1,5 @@
 -- How the program's trees are seen as plain trees.
-use Rattle.std.specs.Prelude.{List, map}
+use Rattle.std.specs.Prelude.{map}
 use Rattle.hal_base.specs.declared.refusal.Place.{Place}
 use Rattle.hal_tree.specs.declared.tree.Sum.{Sum}
 use Rattle.hal_tree.specs.declared.tree.StatementKind.{StatementKind}

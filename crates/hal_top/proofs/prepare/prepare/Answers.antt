@@ -1,4 +1,3 @@
-use Rattle.std.proofs.Common.{rules}
 use Rattle.hal_top.proofs.Prepared.{told-from}
 use Rattle.hal_top.proofs.prepare.prepare.Goals as goal
 

@@ -1,4 +1,3 @@
-use Rattle.std.proofs.Common.{◌≡◌, rules}
 use Rattle.hal_tree.specs.View.{unit_tree}
 use Rattle.hal_top.proofs.Forms.{unspelled, unnamed, formed, formed-only}
 use Rattle.hal_top.proofs.program.program_of.Goals as goal
@@ -15,7 +14,8 @@ returns-in_default-3 c =
 pub returns : goal.returns
 returns c =
     let cut = rw c.in-Some.is at c.in_ok-tokens.ensures in
-    let named = rw c.in-Some-3.is at c.in_ok-names.ensures.named in
-    (formed c.args.text.now c.in-Some.tokens (unit_tree c.in-Some-2.unit) cut (rw c.in-Some-2.is at c.in_ok-unit.ensures.found) named.1 ,
-     formed-only c.args.text.now c.in-Some.tokens (unit_tree c.in-Some-2.unit) cut (rw c.in-Some-2.is at c.in_ok-unit.ensures.only) ,
-     named.0)
+    let named = rw c.in-Some-3.is at c.in_ok-names.ensures.named in (
+      formed c.args.text.now c.in-Some.tokens (unit_tree c.in-Some-2.unit) cut (rw c.in-Some-2.is at c.in_ok-unit.ensures.found) named.1,
+      formed-only c.args.text.now c.in-Some.tokens (unit_tree c.in-Some-2.unit) cut (rw c.in-Some-2.is at c.in_ok-unit.ensures.only),
+      named.0,
+    )

@@ -1,4 +1,4 @@
-use Rattle.std.proofs.Common.{rules, ap, ◌∙◌}
+use Rattle.std.proofs.Common.{ap, ◌∙◌}
 use Rattle.hal_meaning.specs.Meaning.{own_values}
 use Rattle.hal_tree.specs.View.{unit_tree}
 use Rattle.hal_top.proofs.Reports.{report-written}

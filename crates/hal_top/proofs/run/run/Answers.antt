@@ -1,4 +1,3 @@
-use Rattle.std.proofs.Common.{rules}
 use Rattle.hal_script.specs.declared.script.ScriptLine.TheVariants.{Run}
 use Rattle.hal_tree.specs.View.{unit_tree}
 use Rattle.hal_top.proofs.Events.{HasRun-line}

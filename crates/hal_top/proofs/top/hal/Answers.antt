@@ -1,5 +1,3 @@
-use Rattle.std.proofs.Common.{rules, inl, inr}
-use Rattle.hal_tree.specs.View.{unit_tree}
 use Rattle.hal_top.proofs.Headline.{work-none_absent, work-none_long, work-not_faulty, work-not_broken, reported-whole, reported-front, refused-faulty, refused-broken, refused-work}
 use Rattle.hal_top.proofs.top.hal.Goals as goal
 

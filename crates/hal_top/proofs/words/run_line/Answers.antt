@@ -1,4 +1,4 @@
-use Rattle.std.proofs.Common.{rules, arith, refl}
+use Rattle.std.proofs.Common.{arith, refl}
 use Rattle.hal_top.proofs.Lists.{texts-four}
 use Rattle.hal_top.proofs.words.run_line.Goals as goal
 

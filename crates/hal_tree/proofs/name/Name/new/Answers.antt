@@ -1,4 +1,3 @@
-use Rattle.std.proofs.Common.{rules}
 use Rattle.hal_tree.proofs.Names.{IsKept-written}
 use Rattle.hal_tree.proofs.name.Name.new.Goals as goal
 
