@@ -3,7 +3,7 @@ ghost use Rattle.std.specs.String.{string_bytes};
 ghost use Rattle.hal_top.specs.CommandLine.{texts, usage_line};
 ghost use Rattle.hal_top.specs.Outcomes.{refusal_line, file_word, Prints};
 ghost use Rattle.hal_top.specs.Told.{outcome_of};
-ghost use Rattle.hal_top.specs.declared.refused.Refused.TheVariants.{Memory};
+ghost use Rattle.hal_top.specs.declared.refused.Refused.TheVariants.{Memory, Usage};
 
 use crate::drain::drain;
 use crate::journal::Journal;
@@ -89,12 +89,18 @@ fn print_line<O: Sink>(line: &[u8], out: &mut O)
     let _ = drain(line, out);
 }
 
-/// Prints the one line of a refusal. Where memory for the line is wanting, that is the refusal.
+/// Prints the one line of a refusal. Where memory for the line is wanting, that is the refusal; the
+/// line on the use of the words needs none.
 pub fn refuse<O: Sink>(alloc: Global, words: &[String], refused: Refused, out: &mut O) -> Outcome
     ensures outcome { (result ≡ outcome_of refused) ⊎ (result ≡ outcome_of Memory) }
+    ensures usage { refused ≡ Usage → result ≡ outcome_of Usage }
     ensures line { Prints (O.taken out.old) (O.taken out.new) (refusal_line (texts words.now) result) (O.faults out.old) (O.faults out.new) }
     ensures later { O.faults out.old ≤ O.faults out.new }
 {
+    if let Refused::Usage = refused {
+        print_line(USAGE.as_bytes(), out);
+        return outcome(alloc, Refused::Usage);
+    }
     match refusal_text(alloc, words, refused) {
         Ok(text) => {
             print_line(text.as_bytes(), out);

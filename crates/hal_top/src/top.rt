@@ -27,7 +27,7 @@ pub fn hal<S: Shelf, O: Sink>(
     out: &mut O,
 ) -> Outcome
     ensures statuses { IsStatus result.status }
-    ensures usage { (result.status ≡ 2 → HasNoForm (texts words.now)) × (HasNoForm (texts words.now) → (result.status ≡ 2) ⊎ (result.status ≡ 9)) }
+    ensures usage { (result.status ≡ 2) ↔ HasNoForm (texts words.now) }
     ensures absent { result.status ≡ 3 → IfSome (S.files shelf.old) (λ files. IsSomeAnd result.file (IsFirstWrong IsAbsent files (texts words.now))) }
     ensures absent_exactly { IfSome (S.files shelf.old) (λ files. (number : ℕ) → IsFirstWrong IsAbsent files (texts words.now) number → ((result.status ≡ 3) × (result.file ≡ Some number)) ⊎ IsExcused result.status) }
     ensures too_long { result.status ≡ 4 → IfSome (S.files shelf.old) (λ files. IsSomeAnd result.file (IsFirstWrong IsTooLong files (texts words.now))) }
