@@ -1,11 +1,13 @@
-//! The worked rows: tests of `hal` over files and a sink in memory, and tests of the adapters to the
-//! outside. Every expected text was worked out by hand from docs/LANGUAGE.md and docs/EXECUTIVE.md.
+//! The worked rows: laws that follow from the definitions alone, tests of `hal` over files and a sink
+//! in memory, and tests of the adapters to the outside. Every expected text was worked out by hand
+//! from docs/LANGUAGE.md and docs/EXECUTIVE.md.
 #![tactic(auto)]
 
 #[cfg(test)]
 mod adapters;
 #[cfg(test)]
 mod answer;
+mod laws;
 #[cfg(test)]
 mod outside;
 #[cfg(test)]
@@ -14,3 +16,8 @@ mod runs;
 mod scripts;
 #[cfg(test)]
 mod units;
+
+pub use laws::{
+    hello_is_begun, hello_is_closed, hello_is_cut, hello_is_named, hello_is_of_first_form,
+    hello_is_spelled, hello_is_untouched, overflow_fails, run_10_is_a_script,
+};

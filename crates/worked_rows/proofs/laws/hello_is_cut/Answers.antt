@@ -1,0 +1,5 @@
+use Rattle.worked_rows.proofs.HelloCut.{IsCut-hello}
+use Rattle.worked_rows.proofs.laws.hello_is_cut.Goals as goal
+
+pub returns : goal.returns
+returns c = IsCut-hello

@@ -1,0 +1,3 @@
+pub mod Trees
+pub mod Ends
+pub mod HelloWords
