@@ -1,5 +1,5 @@
 -- What an outcome claims.
-use Rattle.std.specs.Prelude.{◌≡◌, ◌≢◌, ℕ, ◌+◌, ◌≤◌, ◌⊎◌, List, [], ◌++◌, length, take, Option, Some, None, IsSome, codes, slice_get, unwrap_or, nat_eq, if◌then◌else◌}
+use Rattle.std.specs.Prelude.{◌≡◌, ◌≢◌, ℕ, ◌+◌, ◌≤◌, ◌⊎◌, List, [], ◌++◌, length, take, Option, Some, None, IsSome, codes, slice_get, unwrap_or, nat_eq, if◌then◌else◌, ◌↔◌}
 use Rattle.std.specs.Fmt.{decimal}
 use Rattle.hal_base.specs.declared.refusal.Refusal.{Refusal}
 use Rattle.hal_base.specs.Faults.{Rose}
@@ -81,9 +81,9 @@ pub record PrintsFront (files : List File) (words : List (List ℕ)) (journal : 
 
 -- which fields are given
 pub record IsTold (outcome : Outcome) : Type 0 where
+  pub file : IsSome outcome.file ↔ ((outcome.status ≡ 3) ⊎ (outcome.status ≡ 4) ⊎ (outcome.status ≡ 5) ⊎ (outcome.status ≡ 6))
   pub of_script : outcome.status ≡ 6 → outcome.file ≡ Some 0
   pub of_unit : outcome.status ≡ 5 → outcome.file ≡ Some 1
-  pub file : IsSome outcome.file → ((outcome.status ≡ 3) ⊎ (outcome.status ≡ 4) ⊎ (outcome.status ≡ 5) ⊎ (outcome.status ≡ 6))
-  pub refused : IsSome outcome.refused → outcome.status ≡ 5
-  pub script_fault : IsSome outcome.script_fault → outcome.status ≡ 6
+  pub refused : IsSome outcome.refused ↔ (outcome.status ≡ 5)
+  pub script_fault : IsSome outcome.script_fault ↔ (outcome.status ≡ 6)
   pub image_fault : outcome.image_fault ≡ None
