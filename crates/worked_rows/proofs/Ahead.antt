@@ -5,7 +5,6 @@ use Rattle.hal_tree.specs.declared.word.Keyword.TheVariants as keyword
 use Rattle.hal_tree.specs.declared.word.Symbol.TheVariants as symbol
 use Rattle.hal_tree.specs.declared.word.Word.{Word}
 use Rattle.hal_tree.specs.declared.word.Word.TheVariants as word
-use Rattle.hal_tree.specs.declared.word.Token.{Token}
 use Rattle.hal_tree.specs.Spells.{Words, token, symbol_then, BeginsWithSign, BeginsWithWord, BeginsStatement}
 
 abbrev first_word : Words → Word

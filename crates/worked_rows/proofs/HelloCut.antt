@@ -1,5 +1,5 @@
 -- The words of ` HELLO: PROGRAM; ..`, from the last statement to the first. Each word comes with the column after it, and the text that is left.
-use Rattle.std.proofs.Common.{◌≡◌, ℕ, List, [], ◌∷◌, drop, All, codes, refl, rules, lit<, lit≤}
+use Rattle.std.proofs.Common.{[], drop, All, codes, refl, rules, lit<, lit≤}
 use Rattle.std.proofs.lemmas.List.Elements.{All-from_recursion, All-nil}
 use Rattle.hal_tree.specs.declared.word.Keyword.TheVariants as keyword
 use Rattle.hal_tree.specs.declared.word.Symbol.TheVariants as symbol

@@ -1,5 +1,5 @@
 -- The tree of HELLO spells its words, and its names are declared.
-use Rattle.std.proofs.Common.{◌≡◌, ℕ, inl, inr, List, [], ◌∷◌, Contains, All, codes, refl, arith, lit<, lit≤}
+use Rattle.std.proofs.Common.{inl, inr, [], ◌∷◌, All, codes, refl, arith, lit<, lit≤}
 use Rattle.std.proofs.lemmas.List.Elements.{All-from_recursion}
 use Rattle.hal_tree.specs.Tree.{StatementTree}
 use Rattle.hal_tree.specs.Spells.{SpellsUnit}

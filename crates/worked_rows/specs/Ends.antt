@@ -1,5 +1,5 @@
 -- The states in which the worked runs end.
-use Rattle.std.specs.Prelude.{List, [], ◌∷◌, codes}
+use Rattle.std.specs.Prelude.{[], ◌∷◌, codes}
 use Rattle.hal_meaning.specs.declared.request.Answer.TheVariants.{Begun, Done, Killed}
 use Rattle.hal_top.specs.declared.machine.Status.TheVariants.{Ready, Idle}
 use Rattle.hal_top.specs.declared.machine.How.TheVariants.{Closed, Failed}

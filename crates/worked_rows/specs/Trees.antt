@@ -1,12 +1,10 @@
 -- The trees of two worked units, written by hand, with their places counted by hand.
-use Rattle.std.specs.Prelude.{ℕ, List, [], ◌∷◌, Option, Some, codes, pos}
+use Rattle.std.specs.Prelude.{ℕ, [], ◌∷◌, Some, codes, pos}
 use Rattle.hal_base.specs.declared.refusal.Place.{Place}
-use Rattle.hal_tree.specs.declared.tree.Declaration.{Declaration}
 use Rattle.hal_tree.specs.declared.tree.OperandKind.TheVariants.{Variable, Number}
 use Rattle.hal_tree.specs.declared.tree.Sign.TheVariants.{Plus}
-use Rattle.hal_tree.specs.declared.tree.Term.{Term}
 use Rattle.hal_tree.specs.Cutting.{place_at}
-use Rattle.hal_tree.specs.Tree.{SumTree, StatementTree, Assigned, Written, UnitTree}
+use Rattle.hal_tree.specs.Tree.{Assigned, Written, UnitTree}
 
 -- a column of the one line of the one unit
 abbrev pub column : ℕ → Place

@@ -1,5 +1,5 @@
 use Rattle.std.specs.Fmt.{digits}
-use Rattle.std.proofs.Common.{◌≡◌, inl, inr, List, [], ◌∷◌, refl}
+use Rattle.std.proofs.Common.{inl, [], ◌∷◌, refl}
 use Rattle.hal_top.specs.declared.journal.Event.TheVariants.{Act}
 use Rattle.worked_rows.specs.Ends.{hello_begun}
 use Rattle.worked_rows.proofs.laws.hello_is_begun.Goals as goal

@@ -1,5 +1,5 @@
 use Rattle.std.specs.Fmt.{digits}
-use Rattle.std.proofs.Common.{◌≡◌, inl, inr, List, [], ◌∷◌, refl, lit<}
+use Rattle.std.proofs.Common.{inr, [], ◌∷◌, refl, lit<}
 use Rattle.hal_top.specs.declared.journal.Event.TheVariants.{Act}
 use Rattle.worked_rows.specs.Ends.{overflow_failed}
 use Rattle.worked_rows.proofs.laws.overflow_fails.Goals as goal

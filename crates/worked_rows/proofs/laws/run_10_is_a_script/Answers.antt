@@ -1,4 +1,4 @@
-use Rattle.std.proofs.Common.{◌≡◌, [], codes, refl, lit<, lit≤, arith, Option, Some}
+use Rattle.std.proofs.Common.{[], codes, refl, lit<, lit≤, arith, Some}
 use Rattle.hal_script.specs.declared.script.ScriptLine.TheVariants.{Run}
 use Rattle.worked_rows.proofs.laws.run_10_is_a_script.Goals as goal
 
