@@ -13,7 +13,7 @@ pub enum Spot {
 }
 
 /// What a process asks of the executive.
-#[derive(Debug, Drop)]
+#[derive(Debug, Drop, PartialEq, Eq)]
 pub enum Request {
     /// A cycle begins.
     Begin,

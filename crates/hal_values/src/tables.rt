@@ -3,7 +3,7 @@ use crate::text::Text;
 use crate::value::{Kind, Value};
 
 /// A shared cell.
-#[derive(Debug, Drop)]
+#[derive(Debug, Drop, PartialEq, Eq)]
 pub struct Cell {
     pub kind: Kind,
     /// The lock group, 0 for data without LOCK.

@@ -14,7 +14,7 @@ pub enum Kind {
 }
 
 /// What an expression comes to, and what a cell holds.
-#[derive(Debug, Drop)]
+#[derive(Debug, Drop, PartialEq, Eq)]
 pub enum Value {
     Int(i32),
     /// The last `len` bits of the word, whose other bits are zeros.
