@@ -12,9 +12,9 @@ IsKind kind.Double = Unit {0}
 IsKind (kind.Bits n) = (1 ≤ n) × (n ≤ 32)
 IsKind (kind.Text n) = (1 ≤ n) × (n ≤ 255)
 
--- the value is an integer
+-- the value is an integer, which has 32 bits
 abbrev pub IsInteger : Value → Type 0
-IsInteger (value.Int number) = Unit {0}
+IsInteger (value.Int number) = (negsuc 2147483647 ≤ℤ number) × (number ≤ℤ pos 2147483647)
 IsInteger (value.Bits len word) = ⊥
 IsInteger (value.Text bytes) = ⊥
 

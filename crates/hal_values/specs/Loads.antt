@@ -8,7 +8,7 @@ use Rattle.hal_values.specs.Answers.{Answered, Killed, Ends, Fits}
 use Rattle.hal_values.specs.Requests.{HasProcess, IsInOrder, IsWrite}
 use Rattle.hal_values.specs.Tables.{IsTables, IsSnapshot}
 
--- what a load's four definitions say of it
+-- what a load's four definitions say of it; definitions alone speak of it, and no value of the code holds it
 pub record Meaning : Type 0 where
   pub tables : Tables
   pub next : ℕ → List Answered → Request

@@ -26,7 +26,7 @@ pub use load::{
 pub use operation::{Op1, Op2};
 pub use plan::{Cycle, Guard, Pause, Plan, When};
 pub use request::{Request, Spot};
-pub use smallest_load::SmallestLoad;
+pub use smallest_load::{SmallestLoad, the_smallest_load_takes_its_answers};
 pub use tables::{Cell, EventStart, Item, ReportBase, ReportName, Tables};
 pub use text::Text;
 pub use value::{Kind, Value};
