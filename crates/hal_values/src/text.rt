@@ -1,0 +1,74 @@
+use arrayvec::ArrayVec;
+use std::marker::Model;
+
+/// A text of at most 255 bytes. A contract sees the list of its bytes.
+#[derive(Debug, Drop)]
+pub struct Text {
+    bytes: ArrayVec<u8, 255>,
+}
+
+impl Model for Text {
+    ghost use Rattle.std.specs.Prelude.{ℕ, List};
+
+    ghost Value = { List ℕ };
+
+    ghost view = { λ text. text.bytes.items };
+}
+
+impl Text {
+    ghost use Rattle.std.specs.Prelude.{◌≡◌, ◌<◌, ◌≤◌, [], ◌∷◌, ◌++◌, length};
+
+    /// The empty text.
+    pub fn new() -> Text
+        ensures { result ≡ [] }
+    {
+        Text {
+            bytes: ArrayVec::new(),
+        }
+    }
+
+    /// The bytes.
+    pub fn bytes(&self) -> &[u8]
+        ensures bytes { result.now ≡ self.now }
+        ensures fits { length result.now ≤ 255 }
+    {
+        self.bytes.as_slice()
+    }
+
+    /// Adds a byte at the end.
+    pub fn push(&mut self, byte: u8)
+        requires { length self.old < 255 }
+        ensures { self.new ≡ self.old ++ byte ∷ [] }
+    {
+        self.bytes.push(byte);
+    }
+
+    /// The same text once more.
+    pub fn copy(&self) -> Text
+        ensures { result ≡ self.now }
+    {
+        let mut bytes = ArrayVec::new();
+        let _all_fit = bytes.try_extend_from_slice(self.bytes.as_slice()).is_ok();
+        Text { bytes }
+    }
+}
+
+impl PartialEq for Text {
+    ghost use Rattle.std.specs.Prelude.{nat_eq};
+    ghost use Rattle.std.specs.Cmp.{partial_equiv_from_equiv};
+    ghost use Rattle.std.specs.Cmp.Lexicographic.{pointwise, nat_list_eq_equiv};
+
+    ghost eq = { pointwise nat_eq };
+
+    ghost laws = { partial_equiv_from_equiv nat_list_eq_equiv };
+
+    fn eq(&self, other: &Self) -> bool {
+        self.bytes.as_slice() == other.bytes.as_slice()
+    }
+}
+
+impl Eq for Text {
+    ghost use Rattle.std.specs.Cmp.Lexicographic.{nat_list_eq_equiv};
+
+    ghost laws = { nat_list_eq_equiv };
+}
