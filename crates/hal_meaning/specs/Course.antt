@@ -3,7 +3,7 @@ use Rattle.std.specs.Prelude.{◌<◌, ◌≤◌, ℤ, List, length, Ok, Err, Re
 use Rattle.std.specs.Global.{Vec}
 use Rattle.hal_tree.specs.Tree.{UnitTree}
 use Rattle.hal_tree.specs.Naming.{declared_names}
-use Rattle.hal_meaning.specs.declared.request.ErrNo.{ErrNo}
+use Rattle.hal_values.specs.declared.environment.ErrNo.{ErrNo}
 use Rattle.hal_meaning.specs.declared.request.Request.TheVariants.{Begin, Finish}
 use Rattle.hal_meaning.specs.declared.request.Answer.{Answer}
 use Rattle.hal_meaning.specs.declared.course.Course.{Course}

@@ -8,7 +8,7 @@ use Rattle.hal_tree.specs.declared.tree.Initial.{Initial}
 use Rattle.hal_tree.specs.declared.tree.Declaration.{Declaration}
 use Rattle.hal_tree.specs.Tree.{SumTree, StatementTree, Assigned, Written, UnitTree}
 use Rattle.hal_tree.specs.Naming.{declared_names}
-use Rattle.hal_meaning.specs.declared.request.ErrNo.{ErrNo}
+use Rattle.hal_values.specs.declared.environment.ErrNo.{ErrNo}
 use Rattle.hal_meaning.specs.declared.request.Request.{Request}
 use Rattle.hal_meaning.specs.declared.request.Request.TheVariants.{Begin, Print, Stop, Finish}
 use Rattle.hal_meaning.specs.declared.request.Answer.{Answer}

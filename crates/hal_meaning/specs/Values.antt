@@ -8,7 +8,7 @@ use Rattle.hal_tree.specs.declared.tree.Sign.{Sign}
 use Rattle.hal_tree.specs.declared.tree.Sign.TheVariants.{Plus, Minus}
 use Rattle.hal_tree.specs.declared.tree.Term.{Term}
 use Rattle.hal_tree.specs.Tree.{SumTree}
-use Rattle.hal_meaning.specs.declared.request.ErrNo.{ErrNo}
+use Rattle.hal_values.specs.declared.environment.ErrNo.{ErrNo}
 
 -- a value, or the error that arises in its place
 pub data Checked (A : Type 0) : Type 0 where

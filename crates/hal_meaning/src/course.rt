@@ -2,7 +2,8 @@ ghost use Rattle.std.specs.Prelude.{◌≡◌, List, ℤ};
 ghost use Rattle.hal_meaning.specs.Meaning.{asks_from, fails_from, Gives, Normal};
 ghost use Rattle.hal_meaning.specs.Course.{IsShorter, result_of};
 
-use crate::request::{Answer, ErrNo, Request};
+use crate::request::{Answer, Request};
+use hal_values::ErrNo;
 
 /// How the evaluation of a phrase went.
 #[derive(Debug, Drop)]

@@ -5,7 +5,6 @@
 
 mod asked;
 mod course;
-mod line;
 mod lines;
 mod names;
 mod naming;
@@ -15,8 +14,7 @@ mod statements;
 mod sums;
 
 pub use asked::{Asked, oracle, oracle_next, oracle_own};
-pub use line::Line;
 pub use names::Names;
 pub use naming::resolve;
 pub use own::Own;
-pub use request::{Answer, ErrNo, Request};
+pub use request::{Answer, Request};

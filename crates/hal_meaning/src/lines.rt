@@ -4,11 +4,10 @@ ghost use Rattle.hal_meaning.specs.Values.{checked_then};
 ghost use Rattle.hal_meaning.specs.Meaning.{in_line, items_values, line_text};
 ghost use Rattle.hal_meaning.specs.Course.{checked, values_checked};
 
-use crate::line::Line;
 use crate::names::Names;
-use crate::request::ErrNo;
 use crate::sums::sum_value;
 use hal_tree::Sum;
+use hal_values::{ErrNo, Line};
 use std::alloc::{AllocError, Global};
 
 /// A line of more than 1,000 bytes.

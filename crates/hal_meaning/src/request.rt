@@ -1,13 +1,6 @@
-use crate::line::Line;
+use hal_values::{ErrNo, Line};
 
-/// The group and the number of an error, each 1 to 255.
-#[derive(Clone, Copy, Debug, PartialEq, Eq)]
-pub struct ErrNo {
-    pub group: u8,
-    pub number: u8,
-}
-
-/// What a process asks of the executive.
+/// What a process of the first form asks of the executive: some of the requests of `hal_values`.
 #[derive(Debug, Drop)]
 pub enum Request {
     /// A cycle begins.
@@ -20,7 +13,7 @@ pub enum Request {
     Finish,
 }
 
-/// What the executive answers.
+/// What the executive answers to these: some of the answers of `hal_values`.
 #[derive(Clone, Copy, Debug, PartialEq, Eq)]
 pub enum Answer {
     /// To Begin.

@@ -4,8 +4,8 @@ ghost use Rattle.hal_meaning.specs.Values.{checked_then, in_double, in_single, o
 ghost use Rattle.hal_meaning.specs.Course.{checked};
 
 use crate::names::Names;
-use crate::request::ErrNo;
 use hal_tree::{OperandKind, Sign, Sum};
+use hal_values::ErrNo;
 
 /// An integer outside its range.
 const RANGE_ERROR: ErrNo = ErrNo {

@@ -1,7 +1,8 @@
 ghost use Rattle.std.specs.Prelude.{◌≡◌, ◌++◌, OnOk};
 ghost use Rattle.hal_top.specs.State.{channel_line};
 
-use hal_meaning::{Answer, ErrNo, Line, Request};
+use hal_meaning::{Answer, Request};
+use hal_values::{ErrNo, Line};
 use std::alloc::{AllocError, Global};
 use std::marker::Model;
 
