@@ -41,7 +41,7 @@ abbrev pub turn_limit : ℕ
 turn_limit = 65535
 
 -- what is said of every load: its tables are right; a process asks Begin first and after Killed, and after fitting answers only requests in order;
--- and an UPDATE block writes only cells that exist, with values of their kind, and keeps the limit of turns
+-- and an UPDATE block writes only cells that exist, with values of their kind, keeps the limit of turns, and ends after one number of turns alone
 pub record IsLoad (q : Meaning) : Type 0 where
   pub right : IsTables q.tables
   pub begins : (p : ℕ) → HasProcess q.tables p → q.next p [] ≡ Begin
@@ -51,6 +51,8 @@ pub record IsLoad (q : Meaning) : Type 0 where
       → IsSnapshot q.tables.cells snapshot → q.block p answers snapshot turns ≡ Some writes → All (IsWritten q.tables) writes
   pub few_turns : (p : ℕ) (answers : List Answered) (snapshot : List Value) (turns : ℕ) (writes : List (ℕ × Value)) → HasProcess q.tables p → FitAll q p answers
       → IsSnapshot q.tables.cells snapshot → q.block p answers snapshot turns ≡ Some writes → turns ≤ turn_limit
+  pub one_end : (p : ℕ) (answers : List Answered) (snapshot : List Value) (turns other : ℕ) (writes others : List (ℕ × Value)) → HasProcess q.tables p → FitAll q p answers
+      → IsSnapshot q.tables.cells snapshot → q.block p answers snapshot turns ≡ Some writes → q.block p answers snapshot other ≡ Some others → turns ≡ other
 
 -- two loads agree: their tables are equal, and so are requests, blocks and own values after all fitting answers
 pub record Agree (a b : Meaning) : Type 0 where

@@ -86,4 +86,5 @@ smallest_is_load = record {
   in_order = λ p answers exists fit. asked_in_order (point_after answers AtBegin);
   writes_right = λ p answers snapshot turns writes exists fit full e. absurd (no_writes writes e);
   few_turns = λ p answers snapshot turns writes exists fit full e. absurd (no_writes writes e);
+  one_end = λ p answers snapshot turns other writes others exists fit full e f. absurd (no_writes writes e);
 }
