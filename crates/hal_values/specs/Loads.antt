@@ -1,7 +1,7 @@
 -- What a load is, and when two loads agree.
-use Rattle.std.specs.Prelude.{◌≡◌, ℕ, ◌≤◌, List, [], ◌∷◌, ◌++◌, Some, All}
+use Rattle.std.specs.Prelude.{◌≡◌, ℕ, ◌≤◌, List, [], ◌∷◌, ◌++◌, Some, All, IsSome}
 use Rattle.hal_values.specs.declared.request.Request.{Request}
-use Rattle.hal_values.specs.declared.request.Request.TheVariants.{Begin}
+use Rattle.hal_values.specs.declared.request.Request.TheVariants.{Begin, Update}
 use Rattle.hal_values.specs.declared.tables.Tables.{Tables}
 use Rattle.hal_values.specs.declared.value.Value.{Value}
 use Rattle.hal_values.specs.Answers.{Answered, Killed, Ends, Fits}
@@ -40,8 +40,14 @@ IsWritten tables written = IsWrite tables written.0 written.1
 abbrev pub turn_limit : ℕ
 turn_limit = 65535
 
+-- an UPDATE block is asked for
+abbrev pub IsUpdate : Request → Type 0
+IsUpdate (Update groups) = Unit {0}
+IsUpdate asked = ⊥
+
 -- what is said of every load: its tables are right; a process asks Begin first and after Killed, and after fitting answers only requests in order;
--- and an UPDATE block writes only cells that exist, with values of their kind, keeps the limit of turns, and ends after one number of turns alone
+-- and an UPDATE block that is asked for ends, after one number of turns alone, which keeps the limit of turns, and writes only cells that exist, with
+-- values of their kind
 pub record IsLoad (q : Meaning) : Type 0 where
   pub right : IsTables q.tables
   pub begins : (p : ℕ) → HasProcess q.tables p → q.next p [] ≡ Begin
@@ -53,6 +59,8 @@ pub record IsLoad (q : Meaning) : Type 0 where
       → IsSnapshot q.tables.cells snapshot → q.block p answers snapshot turns ≡ Some writes → turns ≤ turn_limit
   pub one_end : (p : ℕ) (answers : List Answered) (snapshot : List Value) (turns other : ℕ) (writes others : List (ℕ × Value)) → HasProcess q.tables p → FitAll q p answers
       → IsSnapshot q.tables.cells snapshot → q.block p answers snapshot turns ≡ Some writes → q.block p answers snapshot other ≡ Some others → turns ≡ other
+  pub ends : (p : ℕ) (answers : List Answered) (snapshot : List Value) → HasProcess q.tables p → FitAll q p answers → IsSnapshot q.tables.cells snapshot
+      → IsUpdate (q.next p answers) → (turns : ℕ) × IsSome (q.block p answers snapshot turns)
 
 -- two loads agree: their tables are equal, and so are requests, blocks and own values after all fitting answers
 pub record Agree (a b : Meaning) : Type 0 where

@@ -10,7 +10,7 @@ use Rattle.hal_values.specs.declared.tables.Tables.{Tables}
 use Rattle.hal_values.specs.declared.value.Value.{Value}
 use Rattle.hal_values.specs.Answers.{Answered, Killed}
 use Rattle.hal_values.specs.Requests.{IsInOrder}
-use Rattle.hal_values.specs.Loads.{Meaning, IsLoad}
+use Rattle.hal_values.specs.Loads.{Meaning, IsLoad, IsUpdate}
 
 -- what the process asks for next
 pub data Point : Type 0 where
@@ -69,6 +69,11 @@ asked_in_order AtBegin = tt
 asked_in_order AtPass = tt
 asked_in_order AtFinish = tt
 
+asks_no_update : {A : Type 0} (point : Point) → IsUpdate (asked_at point) → A
+asks_no_update AtBegin asks = absurd asks
+asks_no_update AtPass asks = absurd asks
+asks_no_update AtFinish asks = absurd asks
+
 -- there is nothing
 abbrev IsNothing : {A : Type 0} → Option A → Type 0
 IsNothing None = Unit {0}
@@ -87,4 +92,5 @@ smallest_is_load = record {
   writes_right = λ p answers snapshot turns writes exists fit full e. absurd (no_writes writes e);
   few_turns = λ p answers snapshot turns writes exists fit full e. absurd (no_writes writes e);
   one_end = λ p answers snapshot turns other writes others exists fit full e f. absurd (no_writes writes e);
+  ends = λ p answers snapshot exists fit full asks. asks_no_update (point_after answers AtBegin) asks;
 }

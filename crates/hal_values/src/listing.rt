@@ -1,3 +1,4 @@
+use std::alloc::{AllocError, Global};
 use std::marker::Model;
 
 /// Items in order, which a contract sees as a list.
@@ -15,7 +16,7 @@ impl<T> Model for Listing<T> {
 }
 
 impl<T> Listing<T> {
-    ghost use Rattle.std.specs.Prelude.{◌≡◌};
+    ghost use Rattle.std.specs.Prelude.{◌≡◌, ◌<◌, [], ◌∷◌, ◌++◌, length, take, slice_set, slice_get, OnOk, OnErr};
 
     /// These items.
     pub fn new(items: Vec<T>) -> Listing<T>
@@ -24,10 +25,54 @@ impl<T> Listing<T> {
         Listing { items }
     }
 
+    /// No items. It takes no memory.
+    pub fn empty(alloc: Global) -> Listing<T>
+        ensures { result ≡ [] }
+    {
+        Listing {
+            items: Vec::new(alloc),
+        }
+    }
+
     /// The items.
     pub fn as_slice(&self) -> &[T]
         ensures { result.now ≡ self.now }
     {
         self.items.as_slice()
+    }
+
+    /// The items once more, as they were given.
+    pub fn into_items(self) -> Vec<T>
+        ensures { result.items ≡ self }
+    {
+        self.items
+    }
+}
+
+impl<T: Drop> Listing<T> {
+    ghost use Rattle.std.specs.Prelude.{◌≡◌, ◌<◌, [], ◌∷◌, ◌++◌, length, take, drop, slice_set, OnOk, OnErr};
+
+    /// Adds an item at the end.
+    pub fn push(&mut self, item: T) -> Result<(), AllocError>
+        ensures added { OnOk result (self.new ≡ self.old ++ item ∷ []) }
+        ensures same { OnErr result (self.new ≡ self.old) }
+    {
+        self.items.push(item)?;
+        Ok(())
+    }
+
+    /// Keeps the first `count` items alone.
+    pub fn truncate(&mut self, count: usize)
+        ensures { self.new ≡ take count self.old }
+    {
+        self.items.truncate(count);
+    }
+
+    /// Replaces the item at a place, counted from 0.
+    pub fn set(&mut self, place: usize, item: T)
+        requires { place < length self.old }
+        ensures { self.new ≡ slice_set self.old place item }
+    {
+        self.items[place] = item;
     }
 }

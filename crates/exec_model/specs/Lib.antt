@@ -1,0 +1,16 @@
+pub mod Scripts
+pub mod Rows
+pub mod Moments
+pub mod Expressions
+pub mod Times
+pub mod Settling
+pub mod Killing
+pub mod Data
+pub mod Effects
+pub mod Order
+pub mod Steps
+pub mod Opening
+pub mod Runs
+pub mod Report
+pub mod Sound
+pub mod Processes

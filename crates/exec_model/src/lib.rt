@@ -1,0 +1,19 @@
+//! The executive as it is defined: states, what a request does, what settles, which events are steps,
+//! which journals are runs, and the report. Beside the definitions stands a plain executive that
+//! computes them, over any processes.
+#![tactic(auto)]
+
+mod change;
+mod event;
+mod procs;
+mod row;
+mod script;
+mod state;
+mod status;
+
+pub use event::{Event, Journal};
+pub use procs::Procs;
+pub use row::Row;
+pub use script::{Datum, Script, ScriptLine};
+pub use state::State;
+pub use status::{End, How, Status};
