@@ -14,3 +14,5 @@ pub mod Runs
 pub mod Report
 pub mod Sound
 pub mod Processes
+pub mod Running
+pub mod Drafts
