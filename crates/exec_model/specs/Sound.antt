@@ -1,5 +1,5 @@
 -- What holds of every moment of a run.
-use Rattle.std.specs.Prelude.{◌≡◌, ℕ, ◌<◌, ◌≤◌, true, length}
+use Rattle.std.specs.Prelude.{◌≡◌, ℕ, ◌<◌, ◌≤◌, Bool, true, length}
 use Rattle.hal_base.specs.declared.limits.TheConstants.{TICK_SUM_LIMIT}
 use Rattle.hal_values.specs.declared.request.Request.{Request}
 use Rattle.hal_values.specs.declared.request.Request.TheVariants.{Wait}
