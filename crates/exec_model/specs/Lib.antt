@@ -4,6 +4,7 @@ pub mod Moments
 pub mod Expressions
 pub mod Times
 pub mod Settling
+pub mod Settles
 pub mod Killing
 pub mod Data
 pub mod Effects
@@ -16,3 +17,4 @@ pub mod Sound
 pub mod Processes
 pub mod Running
 pub mod Drafts
+pub mod Ranks
