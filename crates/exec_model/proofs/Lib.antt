@@ -2,3 +2,5 @@ pub mod Drafting
 pub mod Settled
 pub mod OneSettling
 pub mod Stamps
+pub mod SettleSteps
+pub mod Families

@@ -5,8 +5,10 @@
 
 mod change;
 mod draft;
+mod effects;
 mod event;
 mod expressions;
+mod killing;
 mod plain;
 mod procs;
 mod row;
