@@ -1,7 +1,8 @@
 -- The order of Ready rows: it is strict and total, the places of Ready rows are 0, 1, 2 and so on, and the list of the first rows has just those.
 use Rattle.std.proofs.Common.{◌≡◌, ◌≢◌, ℕ, zero, suc, ◌+◌, ◌<◌, ◌≤◌, ◌==◌, nat_lt, ◌⊎◌, inl, inr, ◌↔◌, Bool, true, false, ◌&&◌, cond, List, [], ◌∷◌, length, get_or, slice_get, Option, Some, None, IsSome, Contains, count_by, filter_map, find, refl, sym, ◌∙◌, ap, subst, arith}
-use Rattle.std.specs.List.{range_with_len}
-use Rattle.std.proofs.lemmas.Bool.{and_parts, and_from, and_left, and_right, cases_lt, cases_eq, cases_Bool, true≢false, false_from_ne_true}
+use Rattle.std.specs.List.{range_with_len, cons_option}
+use Rattle.std.proofs.lemmas.Bool.{and_parts, and_from, and_left, and_right, cases_lt, cases_eq, cases_Bool, true≢false, false_from_ne_true, cond-true, cond-false, eqb-true, eq-eqb}
+use Rattle.std.proofs.lemmas.Option.{none-some, same_Some, slice_get_within, slice_get-get_or, get_or_from_slice_get}
 use Rattle.std.proofs.lemmas.Bool.Decides.{nat_tests}
 use Rattle.std.proofs.lemmas.List.{get_or_past}
 use Rattle.std.proofs.lemmas.List.Sums.{sum_by-cons}
@@ -299,3 +300,122 @@ place-first rows p ready = go (place-below rows (place_of rows p) p 0 (record { 
   where
     go : (o : ℕ) × IsAt rows 0 o → (o : ℕ) × IsInFirst 1 rows o
     go found = (found.0, record { ready = found.1.ready; early = omega (arith, found.1.place) })
+
+-- what `find` finds among numbers passes
+find-passes : (f : ℕ → Bool) (a n p : ℕ) → find f (range_with_len a n) ≡ Some p → f p ≡ true
+find-passes f a zero p found = cc
+find-passes f a (suc n) p found = elim (cases_Bool (f a)) [
+  | inl here ↦ subst (λ x. f x ≡ true) (same_Some a p (sym (cond-true (f a) (Some a) (find f (range_with_len (a + 1) n)) here) ∙ found)) here
+  | inr fails ↦ find-passes f (a + 1) n p (sym (cond-false (f a) (Some a) (find f (range_with_len (a + 1) n)) fails) ∙ found)
+]
+
+-- `find` finds the one number that passes
+find-one : (f : ℕ → Bool) (a n p : ℕ) → IsFrom a n p → f p ≡ true → ((x : ℕ) → f x ≡ true → x ≡ p) → find f (range_with_len a n) ≡ Some p
+find-one f a zero p from passes one = absurd (omega arith)
+find-one f a (suc n) p from passes one = elim (cases_Bool (f a)) [
+  | inl here ↦ cond-true (f a) (Some a) (find f (range_with_len (a + 1) n)) here ∙ ap Some (one a here)
+  | inr fails ↦ cond-false (f a) (Some a) (find f (range_with_len (a + 1) n)) fails ∙ find-one f (a + 1) n p (omega (arith, later), omega arith) passes one
+]
+  where
+    later : f a ≡ false → a ≢ p
+    later fails e = true≢false (sym passes ∙ (sym (ap f e) ∙ fails))
+
+-- the Ready row at a place is at this place
+pub ready_at-says : (rows : List Row) (n p : ℕ) → ready_at rows n ≡ Some p → IsAt rows n p
+ready_at-says rows n p found = let both = and_parts (is_ready (row_in rows p)) (place_of rows p == n) (find-passes (λ p. is_ready (row_in rows p) && (place_of rows p == n)) 0 (length rows) p found) in
+    record { ready = both.0; place = eqb-true (place_of rows p) n both.1 }
+
+-- a Ready row at a place is the one there
+pub ready_at-finds : (rows : List Row) (n p : ℕ) → IsAt rows n p → ready_at rows n ≡ Some p
+ready_at-finds rows n p at = find-one (λ p. is_ready (row_in rows p) && (place_of rows p == n)) 0 (length rows) p (omega arith, omega (arith, ready-exists rows p at.ready))
+    (and_from _ _ at.ready (eq-eqb (place_of rows p) n at.place)) one
+  where
+    one : (x : ℕ) → (is_ready (row_in rows x) && (place_of rows x == n)) ≡ true → x ≡ p
+    one x passes = let both = and_parts (is_ready (row_in rows x)) (place_of rows x == n) passes in
+        place-apart rows x p both.0 at.ready (eqb-true (place_of rows x) n both.1 ∙ sym at.place)
+
+-- where there is no Ready row at a place, there is none at the next
+ready_at-none : (rows : List Row) (n : ℕ) → ready_at rows n ≡ None → ready_at rows (n + 1) ≡ None
+ready_at-none rows n none = go (ready_at rows (n + 1)) refl
+  where
+    go : (found : Option ℕ) → ready_at rows (n + 1) ≡ found → ready_at rows (n + 1) ≡ None
+    go None e = e
+    go (Some p) e = let at = ready_at-says rows (n + 1) p e in let below = place-below rows (n + 1) p n at (omega arith) in
+        absurd (none-some below.0 (sym none ∙ ready_at-finds rows n below.0 below.1))
+
+-- where nothing follows nothing, nothing is left after nothing
+filter_map-none : (f : ℕ → Option ℕ) (a n : ℕ) → ((x : ℕ) → f x ≡ None → f (x + 1) ≡ None) → f a ≡ None → filter_map f (range_with_len a n) ≡ []
+filter_map-none f a zero stays none = refl
+filter_map-none f a (suc n) stays none = rw none (filter_map-none f (a + 1) n stays (stays a none))
+
+-- nothing follows nothing
+filter_map-gone : (f : ℕ → Option ℕ) (a i : ℕ) → ((x : ℕ) → f x ≡ None → f (x + 1) ≡ None) → f a ≡ None → f (a + i) ≡ None
+filter_map-gone f a zero stays none = subst (λ x. f x ≡ None) (omega arith) none
+filter_map-gone f a (suc i) stays none = subst (λ x. f x ≡ None) (omega arith) (stays (a + i) (filter_map-gone f a i stays none))
+
+-- a place of a list with this first element
+slice_get-cons : (f : ℕ → Option ℕ) (a i x : ℕ) (rest : List ℕ) → f a ≡ Some x → ((j : ℕ) → j < i → slice_get rest j ≡ f (a + 1 + j)) → slice_get (x ∷ rest) i ≡ f (a + i)
+slice_get-cons f a zero x rest e later = sym e ∙ ap f (omega arith)
+slice_get-cons f a (suc i) x rest e later = later i (omega arith) ∙ ap f (omega arith)
+
+-- where nothing follows nothing, the list of what numbers give has at each place what its number gives
+filter_map-at : (f : ℕ → Option ℕ) (a n i : ℕ) → ((x : ℕ) → f x ≡ None → f (x + 1) ≡ None) → i < n → slice_get (filter_map f (range_with_len a n)) i ≡ f (a + i)
+filter_map-at f a zero i stays below = absurd (omega arith)
+filter_map-at f a (suc n) i stays below = go (f a) refl (λ j under. filter_map-at f (a + 1) n j stays (omega arith))
+  where
+    go : (given : Option ℕ) → f a ≡ given → ((j : ℕ) → j < i → slice_get (filter_map f (range_with_len (a + 1) n)) j ≡ f (a + 1 + j)) → slice_get (filter_map f (range_with_len a (suc n))) i ≡ f (a + i)
+    go None e later = rw (e, filter_map-none f (a + 1) n stays (stays a e)) (sym (filter_map-gone f a i stays e))
+    go (Some x) e later = rw e (slice_get-cons f a i x (filter_map f (range_with_len (a + 1) n)) e later)
+
+-- the list of what numbers give isn't longer than that of the numbers
+length-filter_map : (f : ℕ → Option ℕ) (a n : ℕ) → length (filter_map f (range_with_len a n)) ≤ n
+length-filter_map f a zero = omega arith
+length-filter_map f a (suc n) = go (f a) (filter_map f (range_with_len (a + 1) n)) (length-filter_map f (a + 1) n)
+  where
+    go : (given : Option ℕ) (rest : List ℕ) → length rest ≤ n → length (cons_option given rest) ≤ suc n
+    go None rest few = omega arith
+    go (Some x) rest few = omega arith
+
+-- the list of the first rows has at each place the Ready row there
+pub first-at : (lanes : ℕ) (rows : List Row) (i : ℕ) → i < lanes → slice_get (first lanes rows) i ≡ ready_at rows i
+first-at lanes rows i below = filter_map-at (ready_at rows) 0 lanes i (ready_at-none rows) below ∙ ap (ready_at rows) (omega arith)
+
+-- there are no more first rows than lanes
+pub first-few : (lanes : ℕ) (rows : List Row) → length (first lanes rows) ≤ lanes
+first-few lanes rows = length-filter_map (ready_at rows) 0 lanes
+
+-- what stands at a place of the list is the Ready row there
+pub first-says : (lanes : ℕ) (rows : List Row) (i p : ℕ) → slice_get (first lanes rows) i ≡ Some p → (i < lanes) × IsAt rows i p
+first-says lanes rows i p found = (below, ready_at-says rows i p (sym (first-at lanes rows i below) ∙ found))
+  where
+    below : i < lanes
+    below = omega (arith, slice_get_within (first lanes rows) i p found, first-few lanes rows)
+
+-- the list has a Ready row at its place
+pub first-finds : (lanes : ℕ) (rows : List Row) (p : ℕ) → IsInFirst lanes rows p → slice_get (first lanes rows) (place_of rows p) ≡ Some p
+first-finds lanes rows p early = first-at lanes rows (place_of rows p) early.early ∙ ready_at-finds rows (place_of rows p) p (record { ready = early.ready; place = refl })
+
+-- a place of a list with an element there
+slice_get-at : (xs : List ℕ) (i p : ℕ) → i < length xs → get_or xs i p ≡ p → slice_get xs i ≡ Some p
+slice_get-at xs i p within same = slice_get-get_or xs i p within ∙ ap Some same
+
+-- the list has the first rows and no others
+pub first-members : (lanes : ℕ) (rows : List Row) (p : ℕ) → Contains (first lanes rows) p ↔ IsInFirst lanes rows p
+first-members lanes rows p = (into, back)
+  where
+    into : Contains (first lanes rows) p → IsInFirst lanes rows p
+    into there = let says = first-says lanes rows there.0 p (slice_get-at (first lanes rows) there.0 p there.1 there.2) in
+        record { ready = says.1.ready; early = omega arith }
+
+    back : IsInFirst lanes rows p → Contains (first lanes rows) p
+    back early = let found = first-finds lanes rows p early in
+        (place_of rows p, slice_get_within (first lanes rows) (place_of rows p) p found, get_or_from_slice_get (first lanes rows) (place_of rows p) p p found)
+
+-- no process stands at two places of the list
+pub first-once : (lanes : ℕ) (rows : List Row) (i j p : ℕ) → slice_get (first lanes rows) i ≡ Some p → slice_get (first lanes rows) j ≡ Some p → i ≡ j
+first-once lanes rows i j p one two = sym (first-says lanes rows i p one).1.place ∙ (first-says lanes rows j p two).1.place
+
+-- a process that stands before another in the list goes before it
+pub first-sorted : (lanes : ℕ) (rows : List Row) (i j p o : ℕ) → slice_get (first lanes rows) i ≡ Some p → slice_get (first lanes rows) j ≡ Some o → i < j → goes_before p (row_in rows p) o (row_in rows o) ≡ true
+first-sorted lanes rows i j p o one two below = let a = (first-says lanes rows i p one).1 in let b = (first-says lanes rows j o two).1 in
+    place-before rows p o b.ready (omega (arith, a.place, b.place))

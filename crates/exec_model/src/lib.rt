@@ -5,6 +5,7 @@
 
 mod change;
 mod event;
+mod order_law;
 mod procs;
 mod row;
 mod script;
@@ -12,6 +13,7 @@ mod state;
 mod status;
 
 pub use event::{Event, Journal};
+pub use order_law::first_is_an_order;
 pub use procs::Procs;
 pub use row::Row;
 pub use script::{Datum, Script, ScriptLine};
