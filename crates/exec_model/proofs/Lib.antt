@@ -1,3 +1,4 @@
 pub mod Settled
 pub mod Soundness
 pub mod SoundChanges
+pub mod SoundData
