@@ -1,1 +1,5 @@
 pub mod Ordering
+pub mod Settled
+pub mod Soundness
+pub mod SoundChanges
+pub mod SoundData

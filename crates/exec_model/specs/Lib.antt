@@ -14,3 +14,4 @@ pub mod Runs
 pub mod Report
 pub mod Sound
 pub mod Processes
+pub mod Ranks
