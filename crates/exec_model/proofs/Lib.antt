@@ -3,3 +3,4 @@ pub mod Settled
 pub mod Soundness
 pub mod SoundChanges
 pub mod SoundData
+pub mod OneLane
