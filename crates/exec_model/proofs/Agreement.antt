@@ -178,7 +178,7 @@ KeepsClock-of_process m (event.Tick time) kind = absurd kind
 KeepsClock-of_process m (event.Preempt p) kind = tt
 
 -- a step by an event of a process keeps a moment sound
-IsStep-sound : (q : Meaning) (lanes : ℕ) (old new : Moment) (e : Event) → KeepsSound q lanes → IsSound q old → IsOfProcess e → IsStep q lanes old e new → IsSound q new
+pub IsStep-sound : (q : Meaning) (lanes : ℕ) (old new : Moment) (e : Event) → KeepsSound q lanes → IsSound q old → IsOfProcess e → IsStep q lanes old e new → IsSound q new
 IsStep-sound q lanes old new e keeps sound kind step = subst (IsSound q) (sym step.done) (keeps old e sound step.allowed (KeepsClock-of_process old e kind))
 
 -- steps by events of processes are the same
@@ -216,7 +216,7 @@ abbrev pub LeadsToSound : Meaning → ℕ → Moment → List ScriptLine → Typ
 LeadsToSound q lanes old lines = (count : ℕ) (events : List Event) (m : Moment) → MakesLines q lanes old (take count lines) events m → IsSound q m
 
 -- the same after the first line
-LeadsToSound-rest : (q : Meaning) (lanes : ℕ) (old middle : Moment) (l : ScriptLine) (lines : List ScriptLine) (front : List Event) → LeadsToSound q lanes old (l ∷ lines) → MakesLine q lanes old l front middle → LeadsToSound q lanes middle lines
+pub LeadsToSound-rest : (q : Meaning) (lanes : ℕ) (old middle : Moment) (l : ScriptLine) (lines : List ScriptLine) (front : List Event) → LeadsToSound q lanes old (l ∷ lines) → MakesLine q lanes old l front middle → LeadsToSound q lanes middle lines
 LeadsToSound-rest q lanes old middle l lines front leads made count events m rest = leads (suc count) (front ++ events) m (front, events, middle, refl, made, rest)
 
 -- the events of script lines are the same

@@ -5,3 +5,4 @@ pub mod SoundChanges
 pub mod SoundData
 pub mod OneLane
 pub mod Agreement
+pub mod OneRun

@@ -121,7 +121,7 @@ pub some_event : (q : Meaning) (lanes : ℕ) (m : Moment) → IsLoad q → IsSou
 some_event q lanes m load sound some p ready = let early = place-first m.rows p ready in first-event q lanes m early.0 load sound some early.1
 
 -- an UPDATE block of a sound moment ends after one number of turns
-one_block : (q : Meaning) (m : Moment) (p turns other : ℕ) → IsLoad q → IsSound q m → HasProcess q.tables p → IsSome (block_of q m p turns) → IsSome (block_of q m p other) → turns ≡ other
+pub one_block : (q : Meaning) (m : Moment) (p turns other : ℕ) → IsLoad q → IsSound q m → HasProcess q.tables p → IsSome (block_of q m p turns) → IsSome (block_of q m p other) → turns ≡ other
 one_block q m p turns other load sound exists one two = go (block_of q m p turns) (block_of q m p other) refl refl one two
   where
     go : (a b : Option (List (ℕ × Value))) → block_of q m p turns ≡ a → block_of q m p other ≡ b → IsSome a → IsSome b → turns ≡ other
