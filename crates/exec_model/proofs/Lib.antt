@@ -1,4 +1,6 @@
 pub mod Settled
+pub mod OneSettling
 pub mod Soundness
 pub mod SoundChanges
 pub mod SoundData
+pub mod SoundSettling

@@ -8,6 +8,7 @@ mod event;
 mod procs;
 mod row;
 mod script;
+mod settling_law;
 mod state;
 mod status;
 
@@ -15,5 +16,6 @@ pub use event::{Event, Journal};
 pub use procs::Procs;
 pub use row::Row;
 pub use script::{Datum, Script, ScriptLine};
+pub use settling_law::settling_ends;
 pub use state::State;
 pub use status::{End, How, Status};
