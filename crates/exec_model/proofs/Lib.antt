@@ -4,3 +4,4 @@ pub mod Soundness
 pub mod SoundChanges
 pub mod SoundData
 pub mod SoundSettling
+pub mod SoundKilling
