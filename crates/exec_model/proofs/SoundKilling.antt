@@ -132,7 +132,60 @@ killed_outside-ends : (p : ℕ) (s : Status) (m : Moment) → p < length m.rows 
 killed_outside-ends p status.Ready m exists ready outside = subst HasEnded (sym (get_or-set_same m.rows p _ idle_row exists)) (record { ends = refl; outside = outside })
 killed_outside-ends p others m exists ready outside = absurd cc
 
+-- the same, where it may be inside a block
 killed-ends : (m : Moment) (p : ℕ) → p < length m.rows → is_ready_status (row_of m p).status ≡ true → (row_of m p).inside ≡ false → HasEnded (row_of (killed p m) p)
 killed-ends m p exists ready out = cond_both (row_of m p).inside _ (killed_outside p (row_of m p) (row_of m p).status m) (λ n. HasEnded (row_of n p))
     (λ inside. absurd cc)
     (λ outside. killed_outside-ends p (row_of m p).status m exists ready outside)
+
+-- killing keeps the number of rows
+length-killed : (p : ℕ) (m : Moment) → length (killed p m).rows ≡ length m.rows
+length-killed p m = cond_both (row_of m p).inside _ (killed_outside p (row_of m p) (row_of m p).status m) (λ n. length n.rows ≡ length m.rows)
+    (λ inside. length-set m.rows p _)
+    (λ outside. length-killed_outside p (row_of m p) (row_of m p).status m)
+  where
+    length-killed_outside : (p : ℕ) (row : Row) (s : Status) (m : Moment) → length (killed_outside p row s m).rows ≡ length m.rows
+    length-killed_outside p row status.Idle m = refl
+    length-killed_outside p row (status.Ending how) m = refl
+    length-killed_outside p row others m = length-set m.rows p (record row { status = status.Ending Terminated })
+
+-- an element other than the first is one of the others
+Contains-later : (o : ℕ) (processes : List ℕ) (p : ℕ) → Contains (o ∷ processes) p → (p ≡ o → ⊥) → Contains processes p
+Contains-later o processes p (zero, inside, e) other = absurd (other (sym e))
+Contains-later o processes p (suc k, inside, e) other = (k, omega arith, e)
+
+-- each Ready row outside a block has ended that is killed among others
+all_killed-ends : (processes : List ℕ) (m : Moment) (p : ℕ) → Contains processes p → p < length m.rows → is_ready_status (row_of m p).status ≡ true → (row_of m p).inside ≡ false → HasEnded (row_of (all_killed processes m) p)
+all_killed-ends [] m p (k, inside, e) exists ready outside = absurd (omega arith)
+all_killed-ends (o ∷ processes) m p among exists ready outside = ⊎_elim
+    (λ (same : p ≡ o). all_killed-ended processes (killed o m) p (subst (λ i. HasEnded (row_of (killed i m) p)) same (killed-ends m p exists ready outside)))
+    (λ (other : p ≡ o → ⊥).
+    let row = (killed-other o m p other).row in
+    all_killed-ends processes (killed o m) p (Contains-later o processes p among other) (subst (λ n. p < n) (sym (length-killed o m)) exists)
+    (ap (λ (r : Row). is_ready_status r.status) row ∙ ready) (ap (λ (r : Row). r.inside) row ∙ outside))
+    (cases_eq p o)
+
+-- an element that passes stays
+filter-contains : (test : ℕ → Bool) (numbers : List ℕ) (p : ℕ) → Contains numbers p → test p ≡ true → Contains (filter test numbers) p
+filter-contains test [] p (k, inside, e) passes = absurd (omega arith)
+filter-contains test (o ∷ numbers) p (zero, inside, e) passes =
+    cond_both (test o) (o ∷ filter test numbers) (filter test numbers) (λ kept. Contains kept p) (λ yes. (zero, omega arith, e)) (λ no. absurd (let also = ap test e in cc))
+filter-contains test (o ∷ numbers) p (suc k, inside, e) passes =
+    let later : Contains (filter test numbers) p = filter-contains test numbers p (k, omega arith, e) passes in
+    cond_both (test o) (o ∷ filter test numbers) (filter test numbers) (λ kept. Contains kept p) (λ yes. (suc later.0, omega (arith, later.1), later.2)) (λ no. later)
+
+-- a process is of its own family
+of_own_family : (steps : ℕ) (rows : List Row) (p : ℕ) → leads steps rows (Some p) p ≡ true
+of_own_family zero rows p = eq-eqb p p refl
+of_own_family (suc steps) rows p = or_left (p == p) _ (eq-eqb p p refl)
+
+-- so it is among those that are killed
+family-self : (rows : List Row) (p : ℕ) → p < length rows → Contains (family rows p) p
+family-self rows p exists =
+    filter-contains (is_of_family rows p) (range_with_len 0 (length rows)) p
+    (p, subst (λ n. p < n) (sym (length-range_with_len 0 (length rows))) exists, get_or-range_with_len 0 (length rows) p p exists ∙ omega arith)
+    (of_own_family (length rows) rows p)
+
+-- a Ready process outside a block has ended whose family is killed
+pub family_killed-ends : (m : Moment) (p : ℕ) → p < length m.rows → is_ready_status (row_of m p).status ≡ true → (row_of m p).inside ≡ false → HasEnded (row_of (family_killed p m) p)
+family_killed-ends m p exists ready outside = all_killed-ends (family m.rows p) m p (family-self m.rows p exists) exists ready outside
