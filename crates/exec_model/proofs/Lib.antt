@@ -5,3 +5,4 @@ pub mod SoundChanges
 pub mod SoundData
 pub mod SoundSettling
 pub mod SoundKilling
+pub mod SoundEffects
