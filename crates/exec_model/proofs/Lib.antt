@@ -6,3 +6,5 @@ pub mod SoundData
 pub mod SoundSettling
 pub mod SoundKilling
 pub mod SoundEffects
+pub mod SoundEvents
+pub mod SoundRuns
