@@ -1,19 +1,17 @@
 -- What settling leaves: each change takes one from what the rows may still do, so changes end.
-use Rattle.std.specs.Prelude.{nat_le, find, slice_index_or, slice_set}
-use Rattle.std.proofs.Common.{◌≡◌, ℕ, zero, suc, ◌+◌, ◌*◌, ◌<◌, ◌≤◌, Bool, true, false, not, ◌&&◌, cond, List, [], ◌∷◌, ◌++◌, length, get_or, set, sum_by, Option, Some, None, sym, refl, ap, subst, ◌∙◌, add-one, le_refl, arith, rules}
+use Rattle.std.proofs.Common.{◌≡◌, ℕ, zero, suc, ◌+◌, ◌*◌, ◌<◌, ◌≤◌, Bool, true, false, cond, List, [], ◌∷◌, length, set, Option, Some, None, sym, refl, ap, subst, ◌∙◌, arith}
 use Rattle.std.proofs.lemmas.Bool.{and_parts, cond_both, not-true}
 use Rattle.std.proofs.lemmas.List.{length-set}
 use Rattle.std.proofs.lemmas.Option.{same_Some}
 use Rattle.std.proofs.lemmas.List.Sums.{sum_by-set, sum_by-cons}
 use Rattle.hal_values.specs.declared.tables.Tables.{Tables}
-use Rattle.hal_values.specs.Answers.{Done}
 use Rattle.exec_model.specs.declared.change.Change.{Change}
 use Rattle.exec_model.specs.declared.change.Change.TheVariants.{Cancels, Drops, Leaves, Readies}
 use Rattle.exec_model.specs.declared.row.Row.{Row}
 use Rattle.exec_model.specs.declared.status.How.TheVariants.{Cancelled}
 use Rattle.exec_model.specs.declared.status.Status.{Status}
 use Rattle.exec_model.specs.declared.status.Status.TheVariants as status
-use Rattle.exec_model.specs.Moments.{Moment, row_of, with_row, made_ready, answered}
+use Rattle.exec_model.specs.Moments.{Moment, row_of}
 use Rattle.exec_model.specs.Ranks.{status_changes_left, changes_left, rank}
 use Rattle.exec_model.specs.Rows.{idle_row, row_in, is_active, is_before_cycle, is_ending}
 use Rattle.exec_model.specs.Settling.{wait_over, can_make, first_change, left_row, wait_done, change_made, lowest_change, next_change, settled_in, changes_of_row, settle}
@@ -190,7 +188,7 @@ pub rank-most : (rows : List Row) → rank rows ≤ changes_of_row * length rows
 rank-most [] = omega arith
 rank-most (row ∷ rows) = omega (arith, sum_by-cons changes_left row rows, changes_left-most row, rank-most rows)
 
--- what follows where the next change is None or Some
+-- what one step makes of the next change: None leaves the moment, Some is made and so many follow
 abbrev Next : Tables → Moment → ℕ → Option (ℕ × Change) → Moment
 Next tables m count o = elim o as (λ _. Moment) [ None ↦ m | Some next ↦ settled_in count tables (change_made next.0 (row_of m next.0) next.1 m) ]
 
@@ -203,3 +201,75 @@ settled_in-none (suc count) tables m e = ap (Next tables m count) e
 settled_in-some : (count : ℕ) (tables : Tables) (m : Moment) (next : ℕ × Change) → next_change tables m ≡ Some next
     → settled_in (suc count) tables m ≡ settled_in count tables (change_made next.0 (row_of m next.0) next.1 m)
 settled_in-some count tables m next e = ap (Next tables m count) e
+
+-- what is kept by each change that comes next is kept by any number of them
+settled_in-keeps : (P : Moment → Type 0) (tables : Tables) → ((m : Moment) (next : ℕ × Change) → next_change tables m ≡ Some next → P m → P (change_made next.0 (row_of m next.0) next.1 m))
+    → (count : ℕ) (m : Moment) → P m → P (settled_in count tables m)
+settled_in-keeps P tables keeps zero m here = here
+settled_in-keeps P tables keeps (suc count) m here =
+    go (next_change tables m) refl (λ next e. settled_in-keeps P tables keeps count (change_made next.0 (row_of m next.0) next.1 m) (keeps m next e here)) where
+      go : (o : Option (ℕ × Change)) → next_change tables m ≡ o
+          → ((next : ℕ × Change) → next_change tables m ≡ Some next → P (settled_in count tables (change_made next.0 (row_of m next.0) next.1 m))) → P (settled_in (suc count) tables m)
+      go None e later = subst P (sym (settled_in-none (suc count) tables m e)) here
+      go (Some next) e later = subst P (sym (settled_in-some count tables m next e)) (later next e)
+
+-- what is kept by each change that comes next is kept by settling
+pub settle-keeps : (P : Moment → Type 0) (tables : Tables) → ((m : Moment) (next : ℕ × Change) → next_change tables m ≡ Some next → P m → P (change_made next.0 (row_of m next.0) next.1 m))
+    → (m : Moment) → P m → P (settle tables m)
+settle-keeps P tables keeps m here = settled_in-keeps P tables keeps (changes_of_row * length m.rows) m here
+
+-- settling keeps the number of rows
+pub length-settle : (tables : Tables) (m : Moment) → length (settle tables m).rows ≡ length m.rows
+length-settle tables m =
+    settle-keeps (λ new. length new.rows ≡ length m.rows) tables (λ old next e same. length-change_made next.0 (row_of old next.0) next.1 old ∙ same) m refl
+
+-- where no row may make a change, none can
+rank-none : (tables : Tables) (m : Moment) → rank m.rows ≤ 0 → next_change tables m ≡ None
+rank-none tables m few = go (next_change tables m) refl where
+  go : (o : Option (ℕ × Change)) → next_change tables m ≡ o → next_change tables m ≡ None
+  go None e = e
+  go (Some next) e = absurd (omega (arith, rank-change_made tables m next e, few))
+
+-- after as many changes as the rows may make, none can be made
+settled_in-rests : (count : ℕ) (tables : Tables) (m : Moment) → rank m.rows ≤ count → next_change tables (settled_in count tables m) ≡ None
+settled_in-rests zero tables m few = rank-none tables m few
+settled_in-rests (suc count) tables m few =
+    go (next_change tables m) refl (λ next e. settled_in-rests count tables (change_made next.0 (row_of m next.0) next.1 m) (omega (arith, rank-change_made tables m next e, few))) where
+      go : (o : Option (ℕ × Change)) → next_change tables m ≡ o
+          → ((next : ℕ × Change) → next_change tables m ≡ Some next → next_change tables (settled_in count tables (change_made next.0 (row_of m next.0) next.1 m)) ≡ None)
+          → next_change tables (settled_in (suc count) tables m) ≡ None
+      go None e later = ap (next_change tables) (settled_in-none (suc count) tables m e) ∙ e
+      go (Some next) e later = ap (next_change tables) (settled_in-some count tables m next e) ∙ later next e
+
+-- numbers of changes that are enough give one moment
+pub settled_in-enough : (a b : ℕ) (tables : Tables) (m : Moment) → rank m.rows ≤ a → rank m.rows ≤ b → settled_in a tables m ≡ settled_in b tables m
+settled_in-enough zero b tables m enough also = sym (settled_in-none b tables m (rank-none tables m enough))
+settled_in-enough (suc a) zero tables m enough also = settled_in-none (suc a) tables m (rank-none tables m also)
+settled_in-enough (suc a) (suc b) tables m enough also =
+    go (next_change tables m) refl (λ next e. settled_in-enough a b tables (change_made next.0 (row_of m next.0) next.1 m)
+    (omega (arith, rank-change_made tables m next e, enough)) (omega (arith, rank-change_made tables m next e, also))) where
+      go : (o : Option (ℕ × Change)) → next_change tables m ≡ o
+          → ((next : ℕ × Change) → next_change tables m ≡ Some next
+          → settled_in a tables (change_made next.0 (row_of m next.0) next.1 m) ≡ settled_in b tables (change_made next.0 (row_of m next.0) next.1 m))
+          → settled_in (suc a) tables m ≡ settled_in (suc b) tables m
+      go None e later = settled_in-none (suc a) tables m e ∙ sym (settled_in-none (suc b) tables m e)
+      go (Some next) e later = settled_in-some a tables m next e ∙ later next e ∙ sym (settled_in-some b tables m next e)
+
+-- where no row can change, settling leaves the moment
+pub settle-none : (tables : Tables) (m : Moment) → next_change tables m ≡ None → settle tables m ≡ m
+settle-none tables m e = settled_in-none (changes_of_row * length m.rows) tables m e
+
+-- settling makes the next change, and settles then
+pub settle-some : (tables : Tables) (m : Moment) (next : ℕ × Change) → next_change tables m ≡ Some next → settle tables m ≡ settle tables (change_made next.0 (row_of m next.0) next.1 m)
+settle-some tables m next e =
+    let new : Moment = change_made next.0 (row_of m next.0) next.1 m in
+    let most : rank m.rows ≤ changes_of_row * length m.rows = rank-most m.rows in
+    let most' : rank new.rows ≤ changes_of_row * length new.rows = rank-most new.rows in
+    let less : rank new.rows < rank m.rows = rank-change_made tables m next e in
+    settled_in-enough (changes_of_row * length m.rows) (suc (changes_of_row * length m.rows)) tables m most (omega (arith, most))
+    ∙ settled_in-some (changes_of_row * length m.rows) tables m next e
+    ∙ settled_in-enough (changes_of_row * length m.rows) (changes_of_row * length new.rows) tables new (omega (arith, most, less)) most'
+
+-- after settling no row can change
+pub settle-rests : (tables : Tables) (m : Moment) → next_change tables (settle tables m) ≡ None
+settle-rests tables m = settled_in-rests (changes_of_row * length m.rows) tables m (rank-most m.rows)

@@ -4,6 +4,7 @@ pub mod Moments
 pub mod Expressions
 pub mod Times
 pub mod Settling
+pub mod Settles
 pub mod Killing
 pub mod Data
 pub mod Effects

@@ -9,6 +9,7 @@ mod order_law;
 mod procs;
 mod row;
 mod script;
+mod settling_law;
 mod state;
 mod status;
 
@@ -17,5 +18,6 @@ pub use order_law::first_is_an_order;
 pub use procs::Procs;
 pub use row::Row;
 pub use script::{Datum, Script, ScriptLine};
+pub use settling_law::settling_ends;
 pub use state::State;
 pub use status::{End, How, Status};
