@@ -9,7 +9,7 @@ use Rattle.hal_values.specs.declared.tables.Tables.{Tables}
 use Rattle.hal_values.specs.declared.value.Value.{Value}
 use Rattle.hal_values.specs.Answers.{Answered, Ends, Fits, FitsAlive}
 use Rattle.hal_values.specs.Fitting.{FitAll-agree, FitAll-push}
-use Rattle.hal_values.specs.Loads.{Meaning, FitsNext, FitAfter, FitAll, IsUpdate, Agree}
+use Rattle.hal_values.specs.Loads.{Meaning, FitsNext, FitAfter, FitAll, IsUpdate, IsLoad, Agree}
 use Rattle.hal_values.specs.Requests.{HasProcess}
 use Rattle.hal_values.specs.Tables.{process_count, IsSnapshot}
 use Rattle.exec_model.specs.declared.event.Event.{Event}
@@ -22,10 +22,13 @@ use Rattle.exec_model.specs.Opening.{opening}
 use Rattle.exec_model.specs.Report.{end_line, live_line, value_lines, elements, own_values, report}
 use Rattle.exec_model.specs.Rows.{is_ready, is_waiting}
 use Rattle.exec_model.specs.Runs.{IsOfProcess, AreOfProcesses, MakesEvents, IsNamed, IsUnknown, MakesLine, MakesLines, Reaches, Completes, open_blocks, IsRunTo, IsRun}
+use Rattle.exec_model.specs.Scripts.{IsScript}
 use Rattle.exec_model.specs.Settling.{settle}
 use Rattle.exec_model.specs.Sound.{IsSound, IsWait, KeepsClock}
 use Rattle.exec_model.specs.Steps.{request_of, block_of, block_done, touched_groups, block_groups, IsFree, IsHolder, IsActed, CanAct, CanOpen, CanBlock, IsAllowed, event_done, stepped, IsStep, Steps}
 use Rattle.exec_model.proofs.OneLane.{ready-has_process, inside-exists}
+use Rattle.exec_model.proofs.SoundEvents.{stepped-sound}
+use Rattle.exec_model.proofs.SoundRuns.{after_reaches-sound, IsRunTo-sound}
 
 -- an answer that fits also fits where UPDATE blocks end in the same way
 FitsAlive-same : (tables : Tables) (ends other : Ends) (asked : Request) (given : Answered) → ((snapshot : List Value) (turns : ℕ) → IsSnapshot tables.cells snapshot → ends snapshot turns ≡ other snapshot turns)
@@ -165,10 +168,6 @@ pub report-agree : (a b : Meaning) (m : Moment) → Agree a b → IsSound a m �
 report-agree a b m agree sound =
     ap₂ (λ t owns. m.output ++ (flat_map (end_line t) m.ends ++ (flat_map (live_line t m) (range_with_len 0 (process_count t)) ++ value_lines t m owns (elements t)))) agree.tables (own_values-agree a b m agree sound)
 
--- events that may come keep moments sound
-abbrev pub KeepsSound : Meaning → ℕ → Type 0
-KeepsSound q lanes = (m : Moment) (e : Event) → IsSound q m → IsAllowed q lanes m e → KeepsClock m e → IsSound q (stepped q m e)
-
 -- an event of a process keeps the clock
 KeepsClock-of_process : (m : Moment) (e : Event) → IsOfProcess e → KeepsClock m e
 KeepsClock-of_process m (event.Act p) kind = tt
@@ -178,16 +177,16 @@ KeepsClock-of_process m (event.Tick time) kind = absurd kind
 KeepsClock-of_process m (event.Preempt p) kind = tt
 
 -- a step by an event of a process keeps a moment sound
-pub IsStep-sound : (q : Meaning) (lanes : ℕ) (old new : Moment) (e : Event) → KeepsSound q lanes → IsSound q old → IsOfProcess e → IsStep q lanes old e new → IsSound q new
-IsStep-sound q lanes old new e keeps sound kind step = subst (IsSound q) (sym step.done) (keeps old e sound step.allowed (KeepsClock-of_process old e kind))
+pub IsStep-sound : (q : Meaning) (lanes : ℕ) (old new : Moment) (e : Event) → IsLoad q → IsSound q old → IsOfProcess e → IsStep q lanes old e new → IsSound q new
+IsStep-sound q lanes old new e load sound kind step = subst (IsSound q) (sym step.done) (stepped-sound q lanes old e load sound step.allowed (KeepsClock-of_process old e kind))
 
 -- steps by events of processes are the same
-Steps-agree : (a b : Meaning) (lanes : ℕ) (old : Moment) (events : List Event) (new : Moment) → Agree a b → KeepsSound a lanes → IsSound a old → AreOfProcesses events → Steps a lanes old events new → Steps b lanes old events new
-Steps-agree a b lanes old [] new agree keeps sound kind steps = steps
-Steps-agree a b lanes old (e ∷ events) new agree keeps sound kind steps = (
+Steps-agree : (a b : Meaning) (lanes : ℕ) (old : Moment) (events : List Event) (new : Moment) → Agree a b → IsLoad a → IsSound a old → AreOfProcesses events → Steps a lanes old events new → Steps b lanes old events new
+Steps-agree a b lanes old [] new agree load sound kind steps = steps
+Steps-agree a b lanes old (e ∷ events) new agree load sound kind steps = (
   steps.0,
   IsStep-agree a b lanes old steps.0 e agree sound steps.1,
-  Steps-agree a b lanes steps.0 events new agree keeps (IsStep-sound a lanes old steps.0 e keeps sound kind.0 steps.1) kind.1 steps.2,
+  Steps-agree a b lanes steps.0 events new agree load (IsStep-sound a lanes old steps.0 e load sound kind.0 steps.1) kind.1 steps.2,
 )
 
 -- one step by any event is the same
@@ -202,14 +201,14 @@ IsNamed-agree : (t u : Tables) (name : List ℕ) (p : ℕ) → t ≡ u → IsNam
 IsNamed-agree t u name p same named = subst (λ (x : Tables). IsNamed x name p) same named
 
 -- the events of a script line are the same
-MakesLine-agree : (a b : Meaning) (lanes : ℕ) (old : Moment) (l : ScriptLine) (events : List Event) (new : Moment) → Agree a b → KeepsSound a lanes → IsSound a old → MakesLine a lanes old l events new → MakesLine b lanes old l events new
-MakesLine-agree a b lanes old (line.Run count) events new agree keeps sound made =
-    record { steps = Steps-agree a b lanes old events new agree keeps sound made.kind made.steps; kind = made.kind; used_up = made.used_up }
-MakesLine-agree a b lanes old (line.Tick time) events new agree keeps sound made = (made.0, one_step-agree a b lanes old events (event.Tick time) new agree sound made.0 made.1)
-MakesLine-agree a b lanes old (line.Preempt name) events new agree keeps sound (inl made) =
+MakesLine-agree : (a b : Meaning) (lanes : ℕ) (old : Moment) (l : ScriptLine) (events : List Event) (new : Moment) → Agree a b → IsLoad a → IsSound a old → MakesLine a lanes old l events new → MakesLine b lanes old l events new
+MakesLine-agree a b lanes old (line.Run count) events new agree load sound made =
+    record { steps = Steps-agree a b lanes old events new agree load sound made.kind made.steps; kind = made.kind; used_up = made.used_up }
+MakesLine-agree a b lanes old (line.Tick time) events new agree load sound made = (made.0, one_step-agree a b lanes old events (event.Tick time) new agree sound made.0 made.1)
+MakesLine-agree a b lanes old (line.Preempt name) events new agree load sound (inl made) =
     inl (made.0, IsNamed-agree a.tables b.tables name made.0 agree.tables made.1, made.2, one_step-agree a b lanes old events (event.Preempt made.0) new agree sound made.2 made.3)
-MakesLine-agree a b lanes old (line.Preempt name) events new agree keeps sound (inr made) = inr (subst (λ t. IsUnknown t name) agree.tables made.0, made.1, made.2)
-MakesLine-agree a b lanes old (line.Input channel given) events new agree keeps sound made = made
+MakesLine-agree a b lanes old (line.Preempt name) events new agree load sound (inr made) = inr (subst (λ t. IsUnknown t name) agree.tables made.0, made.1, made.2)
+MakesLine-agree a b lanes old (line.Input channel given) events new agree load sound made = made
 
 -- each moment to which script lines lead from here is sound
 abbrev pub LeadsToSound : Meaning → ℕ → Moment → List ScriptLine → Type 0
@@ -220,77 +219,91 @@ pub LeadsToSound-rest : (q : Meaning) (lanes : ℕ) (old middle : Moment) (l : S
 LeadsToSound-rest q lanes old middle l lines front leads made count events m rest = leads (suc count) (front ++ events) m (front, events, middle, refl, made, rest)
 
 -- the events of script lines are the same
-MakesLines-agree : (a b : Meaning) (lanes : ℕ) (old : Moment) (lines : List ScriptLine) (events : List Event) (new : Moment) → Agree a b → KeepsSound a lanes → LeadsToSound a lanes old lines
+MakesLines-agree : (a b : Meaning) (lanes : ℕ) (old : Moment) (lines : List ScriptLine) (events : List Event) (new : Moment) → Agree a b → IsLoad a → LeadsToSound a lanes old lines
     → MakesLines a lanes old lines events new → MakesLines b lanes old lines events new
-MakesLines-agree a b lanes old [] events new agree keeps leads made = made
-MakesLines-agree a b lanes old (l ∷ lines) events new agree keeps leads made = (
+MakesLines-agree a b lanes old [] events new agree load leads made = made
+MakesLines-agree a b lanes old (l ∷ lines) events new agree load leads made = (
   made.0,
   made.1,
   made.2,
   made.3,
-  MakesLine-agree a b lanes old l made.0 made.2 agree keeps (leads 0 [] old (refl, refl)) made.4,
-  MakesLines-agree a b lanes made.2 lines made.1 new agree keeps (LeadsToSound-rest a lanes old made.2 l lines made.0 leads made.4) made.5,
+  MakesLine-agree a b lanes old l made.0 made.2 agree load (leads 0 [] old (refl, refl)) made.4,
+  MakesLines-agree a b lanes made.2 lines made.1 new agree load (LeadsToSound-rest a lanes old made.2 l lines made.0 leads made.4) made.5,
 )
 
 -- open blocks are done in the same way
-Completes-agree : (a b : Meaning) (lanes : ℕ) (old : Moment) (processes : List ℕ) (events : List Event) (new : Moment) → Agree a b → KeepsSound a lanes → IsSound a old
+Completes-agree : (a b : Meaning) (lanes : ℕ) (old : Moment) (processes : List ℕ) (events : List Event) (new : Moment) → Agree a b → IsLoad a → IsSound a old
     → Completes a lanes old processes events new → Completes b lanes old processes events new
-Completes-agree a b lanes old [] events new agree keeps sound done = done
-Completes-agree a b lanes old (p ∷ processes) events new agree keeps sound done = (
+Completes-agree a b lanes old [] events new agree load sound done = done
+Completes-agree a b lanes old (p ∷ processes) events new agree load sound done = (
   done.0,
   done.1,
   done.2,
   done.3,
   IsStep-agree a b lanes old done.2 (event.Block p done.0) agree sound done.4,
-  Completes-agree a b lanes done.2 processes done.1 new agree keeps (IsStep-sound a lanes old done.2 (event.Block p done.0) keeps sound tt done.4) done.5,
+  Completes-agree a b lanes done.2 processes done.1 new agree load (IsStep-sound a lanes old done.2 (event.Block p done.0) load sound tt done.4) done.5,
 )
 
--- the moment at which open blocks are done is sound
-pub Completes-sound : (q : Meaning) (lanes : ℕ) (old : Moment) (processes : List ℕ) (events : List Event) (new : Moment) → KeepsSound q lanes → IsSound q old → Completes q lanes old processes events new → IsSound q new
-Completes-sound q lanes old [] events new keeps sound done = subst (IsSound q) (sym done.1) sound
-Completes-sound q lanes old (p ∷ processes) events new keeps sound done =
-    Completes-sound q lanes done.2 processes done.1 new keeps (IsStep-sound q lanes old done.2 (event.Block p done.0) keeps sound tt done.4) done.5
+-- each moment to which the lines of a script lead from its opening is sound
+pub LeadsToSound-opening : (q : Meaning) (script : List ScriptLine) (lanes : ℕ) → IsLoad q → IsScript script → LeadsToSound q lanes (opening q.tables script) script
+LeadsToSound-opening q script lanes load limits count events m made = after_reaches-sound q script lanes count events m load limits made
 
--- each moment that a journal of the script reaches is sound
-abbrev pub ReachesSound : Meaning → List ScriptLine → ℕ → Type 0
-ReachesSound q script lanes = LeadsToSound q lanes (opening q.tables script) script
-
--- a journal reaches the same moments
-pub Reaches-agree : (a b : Meaning) (script : List ScriptLine) (lanes lines : ℕ) (journal : List Event) (m : Moment) → Agree a b → KeepsSound a lanes → ReachesSound a script lanes
-    → Reaches a script lanes lines journal m → Reaches b script lanes lines journal m
-Reaches-agree a b script lanes lines journal m agree keeps sound reaches =
-    subst (λ t. MakesLines b lanes (opening t script) (take lines script) journal m) agree.tables
-    (MakesLines-agree a b lanes (opening a.tables script) (take lines script) journal m agree keeps (λ count events new made. fewer lines count events new made) reaches)
-  where
-    fewer : (lines count : ℕ) (events : List Event) (new : Moment) → MakesLines a lanes (opening a.tables script) (take count (take lines script)) events new → IsSound a new
-    fewer lines count events new made = elim (cases_lt lines count) [
-      | inl below ↦ sound lines events new (subst (λ ls. MakesLines a lanes (opening a.tables script) ls events new) (take_all count (take lines script) (omega (arith, length-take lines script))) made)
-      | inr within ↦ sound count events new (subst (λ ls. MakesLines a lanes (opening a.tables script) ls events new) (take-take count lines script within) made)
-    ]
+-- the same of the first so many of its lines
+LeadsToSound-take : (q : Meaning) (lanes : ℕ) (old : Moment) (script : List ScriptLine) (lines : ℕ) → LeadsToSound q lanes old script → LeadsToSound q lanes old (take lines script)
+LeadsToSound-take q lanes old script lines leads count events m made = elim (cases_lt lines count) [
+  | inl below ↦ leads lines events m (subst (λ ls. MakesLines q lanes old ls events m) (take_all count (take lines script) (omega (arith, length-take lines script))) made)
+  | inr within ↦ leads count events m (subst (λ ls. MakesLines q lanes old ls events m) (take-take count lines script within) made)
+]
 
 -- the moment before the open blocks of a run are done is sound
-pub IsRunTo-middle : (q : Meaning) (script : List ScriptLine) (lanes : ℕ) (journal : List Event) (end_ : Moment) → ReachesSound q script lanes → (run : IsRunTo q script lanes journal end_) → IsSound q run.middle
-IsRunTo-middle q script lanes journal end_ sound run =
-    sound (length script) run.front run.middle (subst (λ ls. MakesLines q lanes (opening q.tables script) ls run.front run.middle) (sym (take_all (length script) script (omega arith))) run.lines)
+pub IsRunTo-middle : (q : Meaning) (script : List ScriptLine) (lanes : ℕ) (journal : List Event) (end_ : Moment) → IsLoad q → IsScript script → (run : IsRunTo q script lanes journal end_) → IsSound q run.middle
+IsRunTo-middle q script lanes journal end_ load limits run = after_reaches-sound q script lanes (length script) run.front run.middle load limits
+    (subst (λ ls. MakesLines q lanes (opening q.tables script) ls run.front run.middle) (sym (take_all (length script) script (omega arith))) run.lines)
 
--- the moment to which a run leads is sound
-pub IsRunTo-sound : (q : Meaning) (script : List ScriptLine) (lanes : ℕ) (journal : List Event) (end_ : Moment) → KeepsSound q lanes → ReachesSound q script lanes → IsRunTo q script lanes journal end_ → IsSound q end_
-IsRunTo-sound q script lanes journal end_ keeps sound run =
-    Completes-sound q lanes run.middle (open_blocks run.middle.rows) run.rest end_ keeps (IsRunTo-middle q script lanes journal end_ sound run) run.blocks
+-- a moment that a journal reaches with the one load is reached with the other
+Reaches-into : (a b : Meaning) (script : List ScriptLine) (lanes lines : ℕ) (journal : List Event) (m : Moment) → Agree a b → IsLoad a → IsScript script
+    → Reaches a script lanes lines journal m → Reaches b script lanes lines journal m
+Reaches-into a b script lanes lines journal m agree load limits reaches =
+    subst (λ t. MakesLines b lanes (opening t script) (take lines script) journal m) agree.tables
+    (MakesLines-agree a b lanes (opening a.tables script) (take lines script) journal m agree load
+    (LeadsToSound-take a lanes (opening a.tables script) script lines (LeadsToSound-opening a script lanes load limits)) reaches)
 
 -- a run of the one load is a run of the other, to the same moment
-pub IsRunTo-agree : (a b : Meaning) (script : List ScriptLine) (lanes : ℕ) (journal : List Event) (end_ : Moment) → Agree a b → KeepsSound a lanes → ReachesSound a script lanes
+IsRunTo-into : (a b : Meaning) (script : List ScriptLine) (lanes : ℕ) (journal : List Event) (end_ : Moment) → Agree a b → IsLoad a → IsScript script
     → IsRunTo a script lanes journal end_ → IsRunTo b script lanes journal end_
-IsRunTo-agree a b script lanes journal end_ agree keeps sound run = record {
+IsRunTo-into a b script lanes journal end_ agree load limits run = record {
   front = run.front;
   rest = run.rest;
   middle = run.middle;
   whole = run.whole;
   lines = subst (λ t. MakesLines b lanes (opening t script) script run.front run.middle) agree.tables
-      (MakesLines-agree a b lanes (opening a.tables script) script run.front run.middle agree keeps sound run.lines);
-  blocks = Completes-agree a b lanes run.middle (open_blocks run.middle.rows) run.rest end_ agree keeps (IsRunTo-middle a script lanes journal end_ sound run) run.blocks;
+      (MakesLines-agree a b lanes (opening a.tables script) script run.front run.middle agree load (LeadsToSound-opening a script lanes load limits) run.lines);
+  blocks = Completes-agree a b lanes run.middle (open_blocks run.middle.rows) run.rest end_ agree load (IsRunTo-middle a script lanes journal end_ load limits run) run.blocks;
 }
 
--- a run of the one load is a run of the other
-pub IsRun-agree : (a b : Meaning) (script : List ScriptLine) (lanes : ℕ) (journal : List Event) → Agree a b → KeepsSound a lanes → ReachesSound a script lanes → IsRun a script lanes journal → IsRun b script lanes journal
-IsRun-agree a b script lanes journal agree keeps sound run = (run.0, IsRunTo-agree a b script lanes journal run.0 agree keeps sound run.1)
+-- journals of loads that agree reach the same moments
+pub Reaches-agree : (a b : Meaning) → IsLoad a → IsLoad b → Agree a b → (script : List ScriptLine) (lanes lines : ℕ) (journal : List Event) (m : Moment) → IsScript script
+    → Reaches a script lanes lines journal m ↔ Reaches b script lanes lines journal m
+Reaches-agree a b load other agree script lanes lines journal m limits =
+    (Reaches-into a b script lanes lines journal m agree load limits, Reaches-into b a script lanes lines journal m (Agree-sym a b agree) other limits)
+
+-- loads that agree have the same runs to the same moments
+pub IsRunTo-agree : (a b : Meaning) → IsLoad a → IsLoad b → Agree a b → (script : List ScriptLine) (lanes : ℕ) (journal : List Event) (m : Moment) → IsScript script
+    → IsRunTo a script lanes journal m ↔ IsRunTo b script lanes journal m
+IsRunTo-agree a b load other agree script lanes journal m limits =
+    (IsRunTo-into a b script lanes journal m agree load limits, IsRunTo-into b a script lanes journal m (Agree-sym a b agree) other limits)
+
+-- loads that agree have the same runs
+pub IsRun-agree : (a b : Meaning) → IsLoad a → IsLoad b → Agree a b → (script : List ScriptLine) (lanes : ℕ) (journal : List Event) → IsScript script → IsRun a script lanes journal ↔ IsRun b script lanes journal
+IsRun-agree a b load other agree script lanes journal limits = (
+  λ run. (run.0, IsRunTo-into a b script lanes journal run.0 agree load limits run.1),
+  λ run. (run.0, IsRunTo-into b a script lanes journal run.0 (Agree-sym a b agree) other limits run.1),
+)
+
+-- at a moment that a journal reaches, loads that agree have the same report
+pub Reaches-report : (a b : Meaning) → IsLoad a → Agree a b → (script : List ScriptLine) (lanes lines : ℕ) (journal : List Event) (m : Moment) → IsScript script → Reaches a script lanes lines journal m → report a m ≡ report b m
+Reaches-report a b load agree script lanes lines journal m limits reaches = report-agree a b m agree (after_reaches-sound a script lanes lines journal m load limits reaches)
+
+-- and at the end of a run
+pub IsRunTo-report : (a b : Meaning) → IsLoad a → Agree a b → (script : List ScriptLine) (lanes : ℕ) (journal : List Event) (m : Moment) → IsScript script → IsRunTo a script lanes journal m → report a m ≡ report b m
+IsRunTo-report a b load agree script lanes journal m limits run = report-agree a b m agree (IsRunTo-sound a script lanes journal m load limits run)

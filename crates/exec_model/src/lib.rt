@@ -3,8 +3,10 @@
 //! computes them, over any processes.
 #![tactic(auto)]
 
+mod agreement_law;
 mod change;
 mod event;
+mod one_lane_law;
 mod order_law;
 mod procs;
 mod row;
@@ -13,7 +15,9 @@ mod settling_law;
 mod state;
 mod status;
 
+pub use agreement_law::loads_that_agree_have_equal_runs;
 pub use event::{Event, Journal};
+pub use one_lane_law::one_lane_is_one_run;
 pub use order_law::first_is_an_order;
 pub use procs::Procs;
 pub use row::Row;
