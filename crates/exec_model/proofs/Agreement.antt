@@ -1,5 +1,5 @@
 -- Loads that agree: what is sound, what may come, what it does and what is reported is the same for both, and so are their runs.
-use Rattle.std.proofs.Common.{◌≡◌, ◌≢◌, ℕ, zero, suc, ◌+◌, ◌<◌, ◌≤◌, ◌⊎◌, inl, inr, ◌↔◌, Bool, true, List, [], ◌∷◌, ◌++◌, length, map, take, flat_map, IsSome, bit_and, refl, sym, ◌∙◌, ap, ap₂, subst, arith}
+use Rattle.std.proofs.Common.{◌≡◌, ℕ, zero, suc, ◌+◌, ◌<◌, inl, inr, ◌↔◌, List, [], ◌∷◌, ◌++◌, length, map, take, flat_map, IsSome, bit_and, refl, sym, ◌∙◌, ap, ap₂, subst, arith}
 use Rattle.std.specs.List.{range_with_len}
 use Rattle.std.proofs.lemmas.Bool.{cases_lt}
 use Rattle.std.proofs.lemmas.List.{length-take, take_all, take-take}
@@ -20,12 +20,11 @@ use Rattle.exec_model.specs.Effects.{effect}
 use Rattle.exec_model.specs.Moments.{Moment, row_of, answers_of}
 use Rattle.exec_model.specs.Opening.{opening}
 use Rattle.exec_model.specs.Report.{end_line, live_line, value_lines, elements, own_values, report}
-use Rattle.exec_model.specs.Rows.{is_ready, is_waiting}
-use Rattle.exec_model.specs.Runs.{IsOfProcess, AreOfProcesses, MakesEvents, IsNamed, IsUnknown, MakesLine, MakesLines, Reaches, Completes, open_blocks, IsRunTo, IsRun}
+use Rattle.exec_model.specs.Runs.{IsOfProcess, AreOfProcesses, IsNamed, IsUnknown, MakesLine, MakesLines, Reaches, Completes, open_blocks, IsRunTo, IsRun}
 use Rattle.exec_model.specs.Scripts.{IsScript}
 use Rattle.exec_model.specs.Settling.{settle}
 use Rattle.exec_model.specs.Sound.{IsSound, IsWait, KeepsClock}
-use Rattle.exec_model.specs.Steps.{request_of, block_of, block_done, touched_groups, block_groups, IsFree, IsHolder, IsActed, CanAct, CanOpen, CanBlock, IsAllowed, event_done, stepped, IsStep, Steps}
+use Rattle.exec_model.specs.Steps.{request_of, block_of, block_done, touched_groups, block_groups, IsFree, IsActed, IsAllowed, event_done, stepped, IsStep, Steps}
 use Rattle.exec_model.proofs.OneLane.{ready-has_process, inside-exists}
 use Rattle.exec_model.proofs.SoundEvents.{stepped-sound}
 use Rattle.exec_model.proofs.SoundRuns.{after_reaches-sound, IsRunTo-sound}

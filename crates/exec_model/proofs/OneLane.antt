@@ -1,5 +1,5 @@
 -- The first Ready row: at a sound moment it may always have its event; and with one lane no other event of a process may come.
-use Rattle.std.proofs.Common.{◌≡◌, ◌≢◌, ℕ, ◌<◌, ◌≤◌, ◌⊎◌, inl, inr, Bool, true, false, cond, List, length, Option, Some, None, IsSome, refl, sym, ◌∙◌, ap, subst, arith}
+use Rattle.std.proofs.Common.{◌≡◌, ℕ, ◌<◌, ◌≤◌, ◌⊎◌, inl, inr, true, false, List, length, Option, Some, None, IsSome, refl, sym, ◌∙◌, ap, subst, arith}
 use Rattle.std.proofs.lemmas.Bool.{cases_lt, cases_Bool, true≢false}
 use Rattle.std.proofs.lemmas.List.{get_or_past}
 use Rattle.hal_values.specs.declared.request.Request.{Request}
@@ -8,7 +8,6 @@ use Rattle.hal_values.specs.declared.tables.Tables.{Tables}
 use Rattle.hal_values.specs.declared.value.Value.{Value}
 use Rattle.hal_values.specs.Loads.{Meaning, IsLoad, IsUpdate}
 use Rattle.hal_values.specs.Requests.{HasProcess, IsInOrder}
-use Rattle.hal_values.specs.Tables.{process_count}
 use Rattle.exec_model.specs.declared.event.Event.{Event}
 use Rattle.exec_model.specs.declared.event.Event.TheVariants as event
 use Rattle.exec_model.specs.declared.row.Row.{Row}
@@ -17,7 +16,7 @@ use Rattle.exec_model.specs.Order.{goes_before, IsInFirst}
 use Rattle.exec_model.specs.Rows.{row_in, idle_row, is_ready}
 use Rattle.exec_model.specs.Runs.{IsOfProcess}
 use Rattle.exec_model.specs.Sound.{IsSound}
-use Rattle.exec_model.specs.Steps.{request_of, block_of, IsFree, IsHolder, IsActed, CanAct, CanOpen, CanBlock, IsAllowed}
+use Rattle.exec_model.specs.Steps.{request_of, block_of, IsFree, IsActed, CanAct, CanOpen, CanBlock, IsAllowed}
 use Rattle.exec_model.proofs.Ordering.{ready-exists, place-first, first-one, first-wider, first-ahead}
 
 -- a process with a Ready row exists

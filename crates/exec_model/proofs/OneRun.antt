@@ -1,5 +1,5 @@
 -- With one lane a load has at most one run under a script.
-use Rattle.std.proofs.Common.{◌≡◌, ◌≢◌, ℕ, ◌<◌, ◌≤◌, ◌⊎◌, inl, inr, Bool, true, false, List, [], ◌∷◌, ◌++◌, length, slice_get, Some, refl, sym, ◌∙◌, ap, ap₂, subst, arith}
+use Rattle.std.proofs.Common.{◌≡◌, ℕ, ◌<◌, ◌≤◌, ◌⊎◌, inl, inr, true, List, [], ◌∷◌, ◌++◌, length, refl, sym, ◌∙◌, ap, ap₂, subst, arith}
 use Rattle.std.proofs.lemmas.Bool.{cases_order, true≢false}
 use Rattle.std.proofs.lemmas.List.Folds.{list_any_at}
 use Rattle.hal_values.specs.declared.tables.Tables.{Tables}
@@ -11,10 +11,10 @@ use Rattle.exec_model.specs.declared.script.ScriptLine.TheVariants as line
 use Rattle.exec_model.specs.Moments.{Moment, row_of}
 use Rattle.exec_model.specs.Opening.{opening}
 use Rattle.exec_model.specs.Rows.{idle_row, is_ready}
-use Rattle.exec_model.specs.Runs.{IsOfProcess, AreOfProcesses, IsQuiet, MakesEvents, IsNamed, MakesLine, MakesLines, Reaches, Completes, open_blocks, IsRunTo}
+use Rattle.exec_model.specs.Runs.{IsOfProcess, AreOfProcesses, IsQuiet, IsNamed, MakesLine, MakesLines, Reaches, Completes, open_blocks, IsRunTo}
 use Rattle.exec_model.specs.Scripts.{IsScript}
 use Rattle.exec_model.specs.Sound.{IsSound}
-use Rattle.exec_model.specs.Steps.{IsAllowed, stepped, IsStep, Steps}
+use Rattle.exec_model.specs.Steps.{IsAllowed, stepped, Steps}
 use Rattle.exec_model.proofs.Agreement.{IsStep-sound, LeadsToSound, LeadsToSound-rest, LeadsToSound-opening, IsRunTo-middle}
 use Rattle.exec_model.proofs.OneLane.{ready-has_process, one_block, one_event, some_event}
 use Rattle.exec_model.proofs.Ordering.{ready-exists}

@@ -1,5 +1,5 @@
 -- The order of Ready rows: it is strict and total, the places of Ready rows are 0, 1, 2 and so on, and the list of the first rows has just those.
-use Rattle.std.proofs.Common.{◌≡◌, ◌≢◌, ℕ, zero, suc, ◌+◌, ◌<◌, ◌≤◌, ◌==◌, nat_lt, ◌⊎◌, inl, inr, ◌↔◌, Bool, true, false, ◌&&◌, cond, List, [], ◌∷◌, length, get_or, slice_get, Option, Some, None, IsSome, Contains, count_by, filter_map, find, refl, sym, ◌∙◌, ap, subst, arith}
+use Rattle.std.proofs.Common.{◌≡◌, ◌≢◌, ℕ, zero, suc, ◌+◌, ◌<◌, ◌≤◌, ◌==◌, nat_lt, ◌⊎◌, inl, inr, ◌↔◌, Bool, true, false, ◌&&◌, cond, List, [], ◌∷◌, length, get_or, slice_get, Option, Some, None, Contains, count_by, filter_map, find, refl, sym, ◌∙◌, ap, subst, arith}
 use Rattle.std.specs.List.{range_with_len, cons_option}
 use Rattle.std.proofs.lemmas.Bool.{and_parts, and_from, and_left, and_right, cases_lt, cases_eq, cases_Bool, true≢false, false_from_ne_true, cond-true, cond-false, eqb-true, eq-eqb}
 use Rattle.std.proofs.lemmas.Option.{none-some, same_Some, slice_get_within, slice_get-get_or, get_or_from_slice_get}
@@ -7,7 +7,7 @@ use Rattle.std.proofs.lemmas.Bool.Decides.{nat_tests}
 use Rattle.std.proofs.lemmas.List.{get_or_past}
 use Rattle.std.proofs.lemmas.List.Sums.{sum_by-cons}
 use Rattle.exec_model.specs.declared.row.Row.{Row}
-use Rattle.exec_model.specs.Order.{has_smaller_stamp, has_greater_priority, goes_before, processes, is_ahead, place_of, IsInFirst, ready_at, first}
+use Rattle.exec_model.specs.Order.{has_smaller_stamp, has_greater_priority, goes_before, is_ahead, place_of, IsInFirst, ready_at, first}
 use Rattle.exec_model.specs.Rows.{row_in, idle_row, is_ready}
 
 -- nothing has a smaller stamp than itself
