@@ -4,3 +4,17 @@ pub mod OneSettling
 pub mod Stamps
 pub mod SettleSteps
 pub mod Families
+pub mod Ordering
+pub mod Settled
+pub mod OneSettling
+pub mod Soundness
+pub mod SoundChanges
+pub mod SoundData
+pub mod OneLane
+pub mod Agreement
+pub mod OneRun
+pub mod SoundSettling
+pub mod SoundKilling
+pub mod SoundEffects
+pub mod SoundEvents
+pub mod SoundRuns

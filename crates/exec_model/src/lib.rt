@@ -3,6 +3,7 @@
 //! computes them, over any processes.
 #![tactic(auto)]
 
+mod agreement_law;
 mod change;
 mod draft;
 mod effects;
@@ -10,6 +11,8 @@ mod event;
 mod expressions;
 mod killing;
 mod plain;
+mod one_lane_law;
+mod order_law;
 mod procs;
 mod row;
 mod rows;
@@ -21,8 +24,11 @@ mod status;
 mod times;
 mod told;
 
+pub use agreement_law::loads_that_agree_have_equal_runs;
 pub use event::{Event, Journal};
 pub use plain::Plain;
+pub use one_lane_law::one_lane_is_one_run;
+pub use order_law::first_is_an_order;
 pub use procs::Procs;
 pub use row::Row;
 pub use script::{Datum, Script, ScriptLine};
