@@ -5,8 +5,6 @@ pub mod Stamps
 pub mod SettleSteps
 pub mod Families
 pub mod Ordering
-pub mod Settled
-pub mod OneSettling
 pub mod Soundness
 pub mod SoundChanges
 pub mod SoundData

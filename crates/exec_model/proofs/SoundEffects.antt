@@ -32,7 +32,7 @@ use Rattle.exec_model.specs.Data.{datum_value}
 use Rattle.exec_model.specs.Effects.{value_at, start_status, scheduled, schedule_done, cancel_done, terminate_done, wait_status, wait_begun, signal_done, priority_done, datum_answer, input_done, next_status, finished, stop_done, effect}
 use Rattle.exec_model.specs.Expressions.{truth}
 use Rattle.exec_model.specs.Killing.{is_of_family, family_killed}
-use Rattle.exec_model.specs.Moments.{Moment, row_of, answers_of, with_row, answered, event_of, event_set, with_event}
+use Rattle.exec_model.specs.Moments.{Moment, row_of, answers_of, with_row, answered, event_of, event_set, with_event, taken_from}
 use Rattle.exec_model.specs.Rows.{idle_row, is_active, is_active_status, is_ready, is_ready_status, is_waiting, is_ending, has_dependents}
 use Rattle.exec_model.specs.Settling.{settle}
 use Rattle.exec_model.specs.Sound.{IsSound, IsWait, is_between}
@@ -217,7 +217,7 @@ input-sound : (q : Meaning) (m : Moment) (p channel : ℕ) (k : Kind) (data_ : L
 input-sound q m p channel k [] act = told-sound q m p (request.Input channel k) (Wrong (error 3 1)) act (λ e. cc) (inr (inl refl))
 input-sound q m p channel k (datum ∷ rest) act =
     told-sound q _ p (request.Input channel k) (datum_answer (datum_value k datum))
-    (acting-outside q m (record m { input = slice_set m.input channel rest }) p (request.Input channel k) act refl refl refl act.sound.store refl) (λ e. cc)
+    (acting-outside q m (taken_from channel m) p (request.Input channel k) act refl refl refl act.sound.store refl) (λ e. cc)
     (go (datum_value k datum) refl) where
       go : (o : Option Value) → datum_value k datum ≡ o → FitsAlive q.tables (q.block p (answers_of m p)) (request.Input channel k) (datum_answer o)
       go None e = inr (inr refl)
