@@ -13,6 +13,7 @@ mod killing;
 mod plain;
 mod one_lane_law;
 mod order_law;
+mod order;
 mod procs;
 mod row;
 mod rows;
