@@ -2,3 +2,4 @@ pub mod Drafting
 pub mod Settled
 pub mod OneSettling
 pub mod Stamps
+pub mod Numbers

@@ -4,9 +4,11 @@
 #![tactic(auto)]
 
 mod change;
+mod data;
 mod draft;
 mod event;
 mod expressions;
+mod opening;
 mod plain;
 mod procs;
 mod row;
