@@ -40,7 +40,7 @@ fn capped_number(base: u64, digits: &[u8]) -> u64
     number
 }
 
-/// The number that digits write, which is at most this.
+/// The number that digits write, if these are digits and it is at most this.
 fn number_up_to(most: u64, digits: &[u8]) -> Option<u64>
     requires { most < NUMBER_LIMIT }
     ensures { result ≡ (if is_number most digits.now then Some (number_in 10 digits.now) else None) }
