@@ -16,3 +16,4 @@ pub mod SoundKilling
 pub mod SoundEffects
 pub mod SoundEvents
 pub mod SoundRuns
+pub mod Numbers

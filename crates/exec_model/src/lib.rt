@@ -5,11 +5,13 @@
 
 mod agreement_law;
 mod change;
+mod data;
 mod draft;
 mod effects;
 mod event;
 mod expressions;
 mod killing;
+mod opening;
 mod plain;
 mod one_lane_law;
 mod order_law;
