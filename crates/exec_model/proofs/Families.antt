@@ -5,7 +5,7 @@ use Rattle.exec_model.specs.declared.row.Row.{Row}
 use Rattle.exec_model.specs.Killing.{leads, father_in, is_process}
 
 -- a number that isn't at the end leaves one more
-left_of : (n i : ℕ) → i < n → n - i ≡ suc (n - (i + 1))
+pub left_of : (n i : ℕ) → i < n → n - i ≡ suc (n - (i + 1))
 left_of n i lt = omega arith
 
 -- fathers lead there in as many steps, where the process isn't the one

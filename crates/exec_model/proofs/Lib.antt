@@ -17,3 +17,4 @@ pub mod SoundEffects
 pub mod SoundEvents
 pub mod SoundRuns
 pub mod Numbers
+pub mod Places

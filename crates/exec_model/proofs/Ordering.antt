@@ -83,7 +83,7 @@ abbrev pub IsFrom : ℕ → ℕ → ℕ → Type 0
 IsFrom a n x = (a ≤ x) × (x < a + n)
 
 -- the first number counts where it passes
-count_by-more : (f : ℕ → Bool) (a n : ℕ) → count_by f (range_with_len a (suc n)) ≡ cond (f a) 1 0 + count_by f (range_with_len (a + 1) n)
+pub count_by-more : (f : ℕ → Bool) (a n : ℕ) → count_by f (range_with_len a (suc n)) ≡ cond (f a) 1 0 + count_by f (range_with_len (a + 1) n)
 count_by-more f a n = sum_by-cons (λ x. cond (f x) 1 0) a (range_with_len (a + 1) n)
 
 -- the numbers that pass one test pass the other: they are not more

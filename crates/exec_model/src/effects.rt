@@ -1,10 +1,11 @@
 //! What requests do, and what they are answered.
 
-ghost use Rattle.std.specs.Prelude.{◌≡◌, IfOk, OnOk};
-ghost use Rattle.exec_model.specs.Drafts.{on, IsOver};
-ghost use Rattle.exec_model.specs.Effects.{bit_value, value_at, start_status, schedule_done, cancel_done, terminate_done, wait_status, wait_begun, signal_done, priority_done, channel_line, next_status, finished, finish_done, begin_done, stop_done};
+ghost use Rattle.std.specs.Prelude.{◌≡◌, ◌/◌, pos, IfOk, OnOk, slice_index_or, []};
+ghost use Rattle.exec_model.specs.Drafts.{on, IsOver, reply_answer};
+ghost use Rattle.exec_model.specs.Effects.{bit_value, value_at, start_status, schedule_done, cancel_done, terminate_done, wait_status, wait_begun, signal_done, priority_done, channel_line, next_status, finished, finish_done, begin_done, stop_done, input_done, datum_answer, effect};
 ghost use Rattle.exec_model.specs.Moments.{row_of};
 
+use crate::data::datum_of;
 use crate::draft::Draft;
 use crate::killing::{is_in_family, kill_family};
 use crate::procs::Procs;
@@ -14,7 +15,7 @@ use crate::state::State;
 use crate::status::{How, Status};
 use crate::times::{time_later, time_not_before};
 use crate::told::Reply;
-use hal_values::{Cycle, ErrNo, Line, Pause, Plan, Spot, Tables, Value, When};
+use hal_values::{Cycle, ErrNo, Kind, Line, Pause, Plan, Request, Spot, Tables, Value, When};
 use std::alloc::{AllocError, Global};
 
 const ALREADY_ACTIVE: ErrNo = ErrNo {
@@ -32,6 +33,16 @@ const NO_DESCENDANT: ErrNo = ErrNo {
     number: 3,
 };
 
+const NO_DATUM: ErrNo = ErrNo {
+    group: 3,
+    number: 1,
+};
+
+const OTHER_DATUM: ErrNo = ErrNo {
+    group: 3,
+    number: 2,
+};
+
 /// One bit.
 fn bit(holds: bool) -> Value
     ensures { result ≡ bit_value holds }
@@ -43,12 +54,7 @@ fn bit(holds: bool) -> Value
 }
 
 /// What is read.
-pub(crate) fn read_value<P: Procs>(
-    tables: &Tables,
-    state: &State,
-    draft: &Draft<P>,
-    spot: Spot,
-) -> Value
+fn read_value<P: Procs>(tables: &Tables, state: &State, draft: &Draft<P>, spot: Spot) -> Value
     requires { IsOver state.now draft.now }
     ensures { result ≡ value_at tables.now draft.now.now spot }
 {
@@ -77,7 +83,7 @@ fn status_of_start(now: u64, when: When) -> Result<Status, AllocError>
 }
 
 /// A cycle begins.
-pub(crate) fn begin<P: Procs>(draft: &mut Draft<P>, process: u8, row: Row) -> Result<(), AllocError>
+fn begin<P: Procs>(draft: &mut Draft<P>, process: u8, row: Row) -> Result<(), AllocError>
     ensures { OnOk result (draft.new ≡ on (begin_done process row) draft.old) }
 {
     draft.set_row(
@@ -93,11 +99,7 @@ pub(crate) fn begin<P: Procs>(draft: &mut Draft<P>, process: u8, row: Row) -> Re
 }
 
 /// Schedules a process.
-pub(crate) fn schedule<P: Procs>(
-    draft: &mut Draft<P>,
-    process: u8,
-    plan: Plan,
-) -> Result<(), AllocError>
+fn schedule<P: Procs>(draft: &mut Draft<P>, process: u8, plan: Plan) -> Result<(), AllocError>
     ensures { OnOk result (draft.new ≡ on (schedule_done process plan (row_of draft.old.now plan.process)) draft.old) }
 {
     let row = draft.row(plan.process);
@@ -129,11 +131,7 @@ pub(crate) fn schedule<P: Procs>(
 }
 
 /// Asks for a cancel of a process.
-pub(crate) fn cancel<P: Procs>(
-    draft: &mut Draft<P>,
-    process: u8,
-    other: u8,
-) -> Result<(), AllocError>
+fn cancel<P: Procs>(draft: &mut Draft<P>, process: u8, other: u8) -> Result<(), AllocError>
     ensures { OnOk result (draft.new ≡ on (cancel_done process other (row_of draft.old.now other)) draft.old) }
 {
     let row = draft.row(other);
@@ -153,11 +151,7 @@ pub(crate) fn cancel<P: Procs>(
 }
 
 /// Ends a process and its descendants.
-pub(crate) fn terminate<P: Procs>(
-    draft: &mut Draft<P>,
-    process: u8,
-    other: u8,
-) -> Result<(), AllocError>
+fn terminate<P: Procs>(draft: &mut Draft<P>, process: u8, other: u8) -> Result<(), AllocError>
     ensures { OnOk result (draft.new ≡ on (terminate_done process other (row_of draft.old.now other)) draft.old) }
 {
     if !draft.row(other).is_active() {
@@ -205,7 +199,7 @@ fn status_of_wait<P: Procs>(
 }
 
 /// Begins a wait.
-pub(crate) fn wait<P: Procs>(
+fn wait<P: Procs>(
     tables: &Tables,
     draft: &mut Draft<P>,
     process: u8,
@@ -227,7 +221,7 @@ pub(crate) fn wait<P: Procs>(
 }
 
 /// Has the event TRUE while the rows settle.
-pub(crate) fn signal<P: Procs>(
+fn signal<P: Procs>(
     tables: &Tables,
     draft: &mut Draft<P>,
     process: u8,
@@ -244,7 +238,7 @@ pub(crate) fn signal<P: Procs>(
 }
 
 /// Gives a process a priority.
-pub(crate) fn prioritize<P: Procs>(
+fn prioritize<P: Procs>(
     draft: &mut Draft<P>,
     process: u8,
     other: u8,
@@ -263,11 +257,7 @@ pub(crate) fn prioritize<P: Procs>(
 }
 
 /// `CHANNEL:`, the items of a WRITE, and a newline byte.
-pub(crate) fn line_of_channel(
-    alloc: Global,
-    channel: u8,
-    line: &Line,
-) -> Result<Vec<u8>, AllocError>
+fn line_of_channel(alloc: Global, channel: u8, line: &Line) -> Result<Vec<u8>, AllocError>
     ensures { IfOk result (λ bytes. bytes.items ≡ channel_line channel line.now) }
 {
     let mut bytes = format!(in alloc; "{channel}:")?.into_bytes();
@@ -313,11 +303,7 @@ fn finished_row(now: u64, row: Row) -> Result<Row, AllocError>
 }
 
 /// A cycle is done.
-pub(crate) fn finish<P: Procs>(
-    draft: &mut Draft<P>,
-    process: u8,
-    row: Row,
-) -> Result<(), AllocError>
+fn finish<P: Procs>(draft: &mut Draft<P>, process: u8, row: Row) -> Result<(), AllocError>
     ensures { OnOk result (draft.new ≡ on (finish_done process row) draft.old) }
 {
     let done = finished_row(draft.clock(), row)?;
@@ -327,11 +313,7 @@ pub(crate) fn finish<P: Procs>(
 }
 
 /// Ends a process with an error, and its descendants.
-pub(crate) fn stop<P: Procs>(
-    draft: &mut Draft<P>,
-    process: u8,
-    error: ErrNo,
-) -> Result<(), AllocError>
+fn stop<P: Procs>(draft: &mut Draft<P>, process: u8, error: ErrNo) -> Result<(), AllocError>
     ensures { OnOk result (draft.new ≡ on (stop_done process error) draft.old) }
 {
     kill_family(draft.alloc(), draft, process)?;
@@ -344,4 +326,140 @@ pub(crate) fn stop<P: Procs>(
         },
     );
     Ok(())
+}
+
+/// Takes the next datum that is left of the channel.
+fn input<P: Procs>(
+    state: &State,
+    draft: &mut Draft<P>,
+    process: u8,
+    channel: u8,
+    kind: Kind,
+) -> Result<(), AllocError>
+    requires { IsOver state.now draft.old }
+    ensures { OnOk result (draft.new ≡ on (input_done process channel kind (slice_index_or draft.old.now.input channel [])) draft.old) }
+{
+    let Some(data) = state.input.as_slice().get(usize::from(channel)) else {
+        draft.tell(process, Reply::Wrong(NO_DATUM))?;
+        return Ok(());
+    };
+    let Some(datum) = data.as_slice().first() else {
+        draft.tell(process, Reply::Wrong(NO_DATUM))?;
+        return Ok(());
+    };
+    let reply = reply_to_datum(datum_of(kind, datum.as_slice()));
+    draft.take(channel)?;
+    draft.tell(process, reply)?;
+    Ok(())
+}
+
+fn reply_to_datum(value: Option<Value>) -> Reply
+    ensures { reply_answer result ≡ datum_answer value }
+{
+    match value {
+        Some(value) => Reply::Value(value),
+        None => Reply::Wrong(OTHER_DATUM),
+    }
+}
+
+/// The clock in seconds, rounded down.
+fn seconds(clock: u64) -> Result<i32, AllocError>
+    ensures { IfOk result (λ time. time ≡ pos (clock / 1000)) }
+{
+    match i32::try_from(clock / 1000) {
+        Ok(time) => Ok(time),
+        Err(_) => Err(AllocError),
+    }
+}
+
+/// Does what a request asks for that an event Act answers.
+pub(crate) fn act<P: Procs>(
+    tables: &Tables,
+    state: &State,
+    draft: &mut Draft<P>,
+    process: u8,
+    request: Request,
+) -> Result<(), AllocError>
+    requires { IsOver state.now draft.old }
+    ensures { OnOk result (draft.new ≡ on (effect tables.now process (row_of draft.old.now process) request) draft.old) }
+{
+    let row = draft.row(process);
+    match request {
+        Request::Begin => {
+            begin(draft, process, row)?;
+            Ok(())
+        }
+        Request::Read(spot) => {
+            let value = read_value(tables, state, draft, spot);
+            draft.tell(process, Reply::Value(value))?;
+            Ok(())
+        }
+        Request::Write(cell, value) => {
+            draft.put(cell, value)?;
+            draft.tell(process, Reply::Done)?;
+            Ok(())
+        }
+        Request::Pass => {
+            draft.tell(process, Reply::Done)?;
+            Ok(())
+        }
+        Request::Schedule(plan) => {
+            schedule(draft, process, plan)?;
+            Ok(())
+        }
+        Request::Cancel(other) => {
+            cancel(draft, process, other)?;
+            Ok(())
+        }
+        Request::Terminate(other) => {
+            terminate(draft, process, other)?;
+            Ok(())
+        }
+        Request::Wait(pause) => {
+            wait(tables, draft, process, row, pause)?;
+            Ok(())
+        }
+        Request::Signal(event) => {
+            signal(tables, draft, process, event)?;
+            Ok(())
+        }
+        Request::Set(event) => {
+            draft.set_event(tables, event, true);
+            draft.tell(process, Reply::Done)?;
+            Ok(())
+        }
+        Request::Reset(event) => {
+            draft.set_event(tables, event, false);
+            draft.tell(process, Reply::Done)?;
+            Ok(())
+        }
+        Request::Priority(other, priority) => {
+            prioritize(draft, process, other, priority)?;
+            Ok(())
+        }
+        Request::Print(channel, line) => {
+            let bytes = line_of_channel(draft.alloc(), channel, &line)?;
+            draft.print(bytes.as_slice())?;
+            draft.tell(process, Reply::Done)?;
+            Ok(())
+        }
+        Request::Input(channel, kind) => {
+            input(state, draft, process, channel, kind)?;
+            Ok(())
+        }
+        Request::Now => {
+            let time = seconds(draft.clock())?;
+            draft.tell(process, Reply::Value(Value::Int(time)))?;
+            Ok(())
+        }
+        Request::Stop(error) => {
+            stop(draft, process, error)?;
+            Ok(())
+        }
+        Request::Finish => {
+            finish(draft, process, row)?;
+            Ok(())
+        }
+        Request::Update(_) | Request::Look(_) | Request::Close(_) => Ok(()),
+    }
 }
