@@ -18,3 +18,5 @@ pub mod SoundEvents
 pub mod SoundRuns
 pub mod Numbers
 pub mod Places
+pub mod Sharing
+pub mod Few

@@ -22,5 +22,5 @@ pub settle-step : (tables : Tables) (old new first : Drafted) (p : ℕ) (row : R
 settle-step tables old new first p row change is next made before =
     ap (on (settle tables)) made
     ∙ ap (λ (r : Row). on (settle tables) (on (change_made p r change) old)) is
-    ∙ ap (λ (m : Moment). let d : Drafted = record { base = old.base; now = m } in d) (sym (settle-some tables old.now (p, change) next))
+    ∙ ap (λ (m : Moment). let d : Drafted = record { base = old.base; now = m; closes = old.closes } in d) (sym (settle-some tables old.now (p, change) next))
     ∙ before

@@ -18,3 +18,5 @@ pub mod Processes
 pub mod Running
 pub mod Drafts
 pub mod Ranks
+pub mod Holding
+pub mod Telling

@@ -22,6 +22,7 @@ pub(crate) struct Draft<P: Procs> {
     rows: Vec<Row>,
     events: Vec<bool>,
     stamp: u64,
+    closes: Option<(u8, u16)>,
     told: Vec<Told>,
     ends: Vec<End>,
     line: Vec<u8>,
@@ -35,7 +36,7 @@ impl<P: Procs> Model for Draft<P> {
 
     ghost Value = { Drafted };
 
-    ghost use Rattle.exec_model.specs.Drafts.{told_all, data_taken};
+    ghost use Rattle.exec_model.specs.Drafts.{closed_first, told_all, data_taken};
     ghost use Rattle.exec_model.specs.Moments.{moment_of};
     ghost use Rattle.exec_model.specs.Steps.{written};
 
@@ -45,27 +46,28 @@ impl<P: Procs> Model for Draft<P> {
         store = written d.state.value.store d.writes.items;
         clock = d.clock;
         rows = d.rows.items;
-        answers = told_all (P.answers d.procs.value) d.told.items;
+        answers = told_all (closed_first d.state.value.store d.closes (P.answers d.procs.value)) d.told.items;
         events = d.events.items;
         output = d.state.value.output ++ d.line.items;
         ends = d.state.value.ends ++ d.ends.items;
         input = data_taken d.state.value.input d.taken.items;
         stamp = d.stamp;
       };
+      closes = d.closes;
     } };
 }
 
 #[tactic(auto, using(crate::proofs::Drafting::pushes))]
 impl<P: Procs> Draft<P> {
-    ghost use Rattle.std.specs.Prelude.{◌≡◌, ℕ, ◌+◌, ◌++◌, [], ◌∷◌, OnOk, IfOk, slice_set};
-    ghost use Rattle.exec_model.specs.Drafts.{Drafted, on, reply_answer, told_all};
-    ghost use Rattle.exec_model.specs.Moments.{Moment, moment_of, with_row, made_ready, answered, row_of, event_of, with_event, ended, stored, taken_from, printed, ticked};
+    ghost use Rattle.std.specs.Prelude.{◌≡◌, OnOk, IfOk};
+    ghost use Rattle.exec_model.specs.Drafts.{on, reply_answer, unchanged, closing_of};
+    ghost use Rattle.exec_model.specs.Moments.{moment_of, with_row, made_ready, answered, row_of, event_of, with_event, ended, stored, taken_from, printed, ticked};
     ghost use Rattle.exec_model.specs.Expressions.{truth};
     ghost use Rattle.exec_model.specs.Rows.{has_dependents};
 
     /// The step that changes nothing.
     pub(crate) fn of(alloc: Global, state: &State, procs: &P) -> Result<Draft<P>, AllocError>
-        ensures { IfOk result (λ draft. draft ≡ record { base = moment_of state.now (P.answers procs.now); now = moment_of state.now (P.answers procs.now) }) }
+        ensures { IfOk result (λ draft. draft ≡ unchanged (moment_of state.now (P.answers procs.now))) }
     {
         Ok(Draft {
             alloc,
@@ -75,6 +77,34 @@ impl<P: Procs> Draft<P> {
             rows: Vec::from_slice(alloc, state.rows.as_slice())?,
             events: Vec::from_slice(alloc, state.events.as_slice())?,
             stamp: state.stamp,
+            closes: None,
+            told: Vec::new(alloc),
+            ends: Vec::new(alloc),
+            line: Vec::new(alloc),
+            writes: Vec::new(alloc),
+            taken: Vec::new(alloc),
+        })
+    }
+
+    /// The step that answers a process whose UPDATE block is done.
+    pub(crate) fn closing(
+        alloc: Global,
+        state: &State,
+        procs: &P,
+        process: u8,
+        turns: u16,
+    ) -> Result<Draft<P>, AllocError>
+        ensures { IfOk result (λ draft. draft ≡ closing_of (moment_of state.now (P.answers procs.now)) process turns) }
+    {
+        Ok(Draft {
+            alloc,
+            state: Snapshot::of(state),
+            procs: Snapshot::of(procs),
+            clock: state.clock,
+            rows: Vec::from_slice(alloc, state.rows.as_slice())?,
+            events: Vec::from_slice(alloc, state.events.as_slice())?,
+            stamp: state.stamp,
+            closes: Some((process, turns)),
             told: Vec::new(alloc),
             ends: Vec::new(alloc),
             line: Vec::new(alloc),

@@ -10,6 +10,7 @@ mod draft;
 mod effects;
 mod event;
 mod expressions;
+mod holding;
 mod killing;
 mod one_lane_law;
 mod opening;
@@ -24,6 +25,7 @@ mod settling;
 mod settling_law;
 mod state;
 mod status;
+mod telling;
 mod times;
 mod told;
 

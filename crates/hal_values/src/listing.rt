@@ -50,7 +50,7 @@ impl<T> Listing<T> {
 }
 
 impl<T: Drop> Listing<T> {
-    ghost use Rattle.std.specs.Prelude.{◌≡◌, ◌<◌, [], ◌∷◌, ◌++◌, length, take, drop, slice_set, OnOk, OnErr};
+    ghost use Rattle.std.specs.Prelude.{◌≡◌, ◌<◌, [], ◌∷◌, ◌++◌, length, take, drop, slice_get, slice_set, Some, OnOk, OnErr};
 
     /// Adds an item at the end.
     pub fn push(&mut self, item: T) -> Result<(), AllocError>
@@ -74,5 +74,36 @@ impl<T: Drop> Listing<T> {
         ensures { self.new ≡ slice_set self.old place item }
     {
         self.items[place] = item;
+    }
+
+    /// Puts an item at a place, counted from 0, and gives back the one that was there.
+    pub fn replace(&mut self, place: usize, item: T) -> T
+        requires { place < length self.old }
+        ensures given { slice_get self.old place ≡ Some result }
+        ensures after { self.new ≡ slice_set self.old place item }
+    {
+        std::mem::replace(&mut self.items[place], item)
+    }
+
+    /// Takes the first item away, if there is one.
+    pub fn remove_first(&mut self)
+        ensures { self.new ≡ drop 1 self.old }
+    {
+        if !self.items.is_empty() {
+            let _first = self.items.remove(0);
+        }
+    }
+}
+
+impl<T: Copy> Listing<T> {
+    ghost use Rattle.std.specs.Prelude.{◌≡◌, ◌++◌, OnOk, OnErr};
+
+    /// Adds items at the end.
+    pub fn extend(&mut self, items: &[T]) -> Result<(), AllocError>
+        ensures added { OnOk result (self.new ≡ self.old ++ items.now) }
+        ensures same { OnErr result (self.new ≡ self.old) }
+    {
+        self.items.extend_from_slice(items)?;
+        Ok(())
     }
 }
