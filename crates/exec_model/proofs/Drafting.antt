@@ -1,5 +1,7 @@
 -- One more entry in a step in the making.
-use Rattle.std.proofs.Common.{◌≡◌, ℕ, List, [], ◌∷◌, ◌++◌, slice_set, refl}
+use Rattle.std.proofs.Common.{◌≡◌, ℕ, List, [], ◌∷◌, ◌++◌, drop, slice_set, slice_get, Some, ap, sym, ◌∙◌, refl}
+use Rattle.std.proofs.lemmas.List.{set-set}
+use Rattle.std.proofs.lemmas.Option.{get_or_from_slice_get}
 use Rattle.hal_values.specs.declared.value.Value.{Value}
 use Rattle.hal_values.specs.Answers.{Answered}
 use Rattle.exec_model.specs.declared.told.Told.{Told}
@@ -24,3 +26,12 @@ data_taken-push input (first ∷ before) channel = data_taken-push (datum_taken 
 
 -- the three
 pub ruleset pushes = (told_all-push, written-push, data_taken-push)
+
+-- the data of a channel, taken out and put back without their first one
+pub datum_taken-back : (old middle new : List (List (List ℕ))) (channel : ℕ) (data_ rest : List (List ℕ)) → slice_get old channel ≡ Some data_ → middle ≡ slice_set old channel [] → rest ≡ drop 1 data_ → new ≡ slice_set middle channel rest
+    → new ≡ datum_taken old channel
+datum_taken-back old middle new channel data_ rest given out shorter back =
+    back
+    ∙ ap (λ xs. slice_set xs channel rest) out
+    ∙ set-set old channel [] rest
+    ∙ ap (slice_set old channel) (shorter ∙ ap (drop 1) (sym (get_or_from_slice_get old channel data_ [] given)))

@@ -20,3 +20,5 @@ pub mod Numbers
 pub mod Places
 pub mod Sharing
 pub mod Few
+pub mod Tellings
+pub mod Drafted

@@ -20,3 +20,5 @@ pub mod Drafts
 pub mod Ranks
 pub mod Holding
 pub mod Telling
+pub mod Parts
+pub mod Events

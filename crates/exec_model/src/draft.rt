@@ -10,6 +10,22 @@ use std::alloc::{AllocError, Global};
 use std::marker::Model;
 use std::snapshot::Snapshot;
 
+/// What a step changes: the rows and events as they are to be, and what is to be added to the rest.
+#[derive(Drop)]
+pub(crate) struct Parts {
+    pub(crate) clock: u64,
+    pub(crate) rows: Vec<Row>,
+    pub(crate) events: Vec<bool>,
+    pub(crate) stamp: u64,
+    /// The process whose UPDATE block is done, and its turns.
+    pub(crate) closes: Option<(u8, u16)>,
+    pub(crate) told: Vec<Told>,
+    pub(crate) ends: Vec<End>,
+    pub(crate) line: Vec<u8>,
+    pub(crate) writes: Vec<(u16, Value)>,
+    pub(crate) taken: Vec<u8>,
+}
+
 /// A step in the making, over a state and processes that it leaves alone: the rows and events as they
 /// are to be, and what is to be added to the rest. Where the step can't be made, it is thrown away. A
 /// contract sees what the executive was and what it is to be.
@@ -64,6 +80,7 @@ impl<P: Procs> Draft<P> {
     ghost use Rattle.exec_model.specs.Moments.{moment_of, with_row, made_ready, answered, row_of, event_of, with_event, ended, stored, taken_from, printed, ticked};
     ghost use Rattle.exec_model.specs.Expressions.{truth};
     ghost use Rattle.exec_model.specs.Rows.{has_dependents};
+    ghost use Rattle.exec_model.specs.Parts.{IsMadeOf};
 
     /// The step that changes nothing.
     pub(crate) fn of(alloc: Global, state: &State, procs: &P) -> Result<Draft<P>, AllocError>
@@ -251,5 +268,23 @@ impl<P: Procs> Draft<P> {
         ensures { result ≡ has_dependents self.now.now.rows process }
     {
         any_dependent(self.rows.as_slice(), process)
+    }
+
+    /// What the step is to change and to add.
+    pub(crate) fn into_parts(self) -> Parts
+        ensures { IsMadeOf self result }
+    {
+        Parts {
+            clock: self.clock,
+            rows: self.rows,
+            events: self.events,
+            stamp: self.stamp,
+            closes: self.closes,
+            told: self.told,
+            ends: self.ends,
+            line: self.line,
+            writes: self.writes,
+            taken: self.taken,
+        }
     }
 }

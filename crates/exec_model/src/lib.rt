@@ -5,10 +5,12 @@
 
 mod agreement_law;
 mod change;
+mod commit;
 mod data;
 mod draft;
 mod effects;
 mod event;
+mod events;
 mod expressions;
 mod holding;
 mod killing;
