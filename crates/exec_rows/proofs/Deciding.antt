@@ -318,13 +318,19 @@ joined-append : (fronts : List (List Event)) (rest : List Event) → joined fron
 joined-append [] rest = refl
 joined-append (front ∷ fronts) rest = ap (λ x. front ++ x) (joined-append fronts rest) ∙ sym (append_assoc front (joined fronts []) rest)
 
--- a run that is found by computation is one, with the report
-pub runs_to-run : (q : Meaning) (script : List ScriptLine) (lanes : ℕ) (fronts : List (List Event)) (rest : List Event) (text : List ℕ) → runs_to q script lanes fronts rest text ≡ true
+-- a run over the journal that is given line by line
+joined_run : (q : Meaning) (script : List ScriptLine) (lanes : ℕ) (fronts : List (List Event)) (rest : List Event) (text : List ℕ) → runs_to q script lanes fronts rest text ≡ true
     → IsRunTo q script lanes (joined fronts rest) (after q script (joined fronts rest)) × (report q (after q script (joined fronts rest)) ≡ text)
-runs_to-run q script lanes fronts rest text e =
+joined_run q script lanes fronts rest text e =
     let a = makes_lines-lines q lanes (opening q.tables script) script fronts (λ middle. completes q lanes middle (open_blocks middle.rows) rest (λ end_. same_name (report q end_) text)) e in
     let b = completes-completes q lanes a.0 (open_blocks a.0.rows) rest (λ end_. same_name (report q end_) text) a.3 in
     let end_ : moment_after q a.0 rest ≡ after q script (joined fronts rest)
              = ap (λ m. moment_after q m rest) a.2 ∙ sym (moment_after-append q (opening q.tables script) (joined fronts []) rest) ∙ ap (λ j. moment_after q (opening q.tables script) j) (sym (joined-append fronts rest)) in
     (subst (λ m. IsRunTo q script lanes (joined fronts rest) m) end_ (record { front = joined fronts []; rest = rest; middle = a.0; whole = joined-append fronts rest; lines = a.1; blocks = b.0 }),
      subst (λ m. report q m ≡ text) end_ (same_name-equal _ _ b.1))
+
+-- a run that is found by computation is one, with the report
+pub runs_to-run : (q : Meaning) (script : List ScriptLine) (lanes : ℕ) (fronts : List (List Event)) (rest journal : List Event) (text : List ℕ) → joined fronts rest ≡ journal
+    → runs_to q script lanes fronts rest text ≡ true → IsRunTo q script lanes journal (after q script journal) × (report q (after q script journal) ≡ text)
+runs_to-run q script lanes fronts rest journal text same e =
+    subst (λ j. IsRunTo q script lanes j (after q script j) × (report q (after q script j) ≡ text)) same (joined_run q script lanes fronts rest text e)
