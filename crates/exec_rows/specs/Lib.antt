@@ -1,2 +1,4 @@
 pub mod Scripting
 pub mod Rows
+pub mod Checks
+pub mod Checked
