@@ -20,6 +20,10 @@ use Rattle.exec_model.specs.Order.{IsInFirst, place_of}
 use Rattle.exec_model.specs.Report.{report}
 use Rattle.exec_model.specs.Rows.{row_in, is_ready, idle_row}
 use Rattle.exec_model.specs.Runs.{IsOfProcess, IsQuiet, AreOfProcesses, MakesEvents, IsNamed, MakesLine, MakesLines, Completes, open_blocks, IsRunTo, moment_after, after}
+use Rattle.exec_rows.specs.declared.scripted.Scripted.{Scripted}
+use Rattle.exec_rows.specs.Checked.{scripted-checked}
+use Rattle.exec_rows.specs.Checks.{checks, scripted}
+use Rattle.exec_rows.specs.Scripting.{as_scripted}
 use Rattle.exec_model.specs.Steps.{request_of, block_groups, touched_groups, IsHolder, IsFree, IsActed, CanAct, CanOpen, block_of, CanBlock, IsAllowed, stepped, IsStep, Steps}
 
 -- a truth is one of its two
@@ -206,7 +210,7 @@ allows-allowed q lanes m (event.Preempt p) e = ltb-true p (process_count q.table
 -- steps go on from an event that is allowed
 makes_steps-one : (q : Meaning) (lanes : ℕ) (m : Moment) (happens : Event) (events : List Event) (then_ : Moment → Bool) (a : Bool) → allows q lanes m happens ≡ a
     → (makes_steps q lanes (stepped q m happens) events then_ ≡ true
-        → Steps q lanes (stepped q m happens) events (moment_after q (stepped q m happens) events) × (then_ (moment_after q (stepped q m happens) events) ≡ true))
+    → Steps q lanes (stepped q m happens) events (moment_after q (stepped q m happens) events) × (then_ (moment_after q (stepped q m happens) events) ≡ true))
     → (elim a as (λ b. Bool) [ true ↦ makes_steps q lanes (stepped q m happens) events then_ | false ↦ false ]) ≡ true
     → Steps q lanes m (happens ∷ events) (moment_after q m (happens ∷ events)) × (then_ (moment_after q m (happens ∷ events)) ≡ true)
 makes_steps-one q lanes m happens events then_ false is rest e = absurd (true≢false (sym e))
@@ -258,8 +262,8 @@ is_place_of-lowest [] name p e o below is = true≢false (sym e)
 is_place_of-lowest (first ∷ names) name zero e o below is = omega (arith, below)
 is_place_of-lowest (first ∷ names) name (suc p) e zero below is =
     true≢false (sym (subst (λ n. same_name n name ≡ true) (sym (some_same is)) (same_name-self name)) ∙ not-true _ (and_parts (not (same_name first name)) _ e).0) where
-  some_same : {a b : List ℕ} → Some a ≡ Some b → a ≡ b
-  some_same {a} {b} e = ap (λ v. unwrap_or v a) e
+      some_same : {a b : List ℕ} → Some a ≡ Some b → a ≡ b
+      some_same {a} {b} e = ap (λ v. unwrap_or v a) e
 is_place_of-lowest (first ∷ names) name (suc p) e (suc o) below is = is_place_of-lowest names name p (and_parts (not (same_name first name)) _ e).1 o (le_of_suc-le-suc below) is
 
 -- the events of a line lead to a moment of which what is asked holds
@@ -277,9 +281,15 @@ makes_line-line q lanes m (line.Tick time) (event.Tick t ∷ []) then_ e =
 makes_line-line q lanes m (line.Tick time) events then_ e = absurd (true≢false (sym e))
 makes_line-line q lanes m (line.Preempt name) (event.Preempt p ∷ []) then_ e =
     let a = and_parts (nat_lt p (process_count q.tables) && is_place_of q.tables.processes name p) _ e in
-    let b = and_parts (nat_lt p (process_count q.tables)) _ a.0 in
-    (inl (p, record { named = is_place_of-named q.tables.processes name p b.1; lowest = is_place_of-lowest q.tables.processes name p b.1 }, refl,
-      (stepped q m (event.Preempt p), record { allowed = ltb-true p (process_count q.tables) b.0; done = refl }, refl)), a.1)
+    let b = and_parts (nat_lt p (process_count q.tables)) _ a.0 in (
+      inl (
+        p,
+        record { named = is_place_of-named q.tables.processes name p b.1; lowest = is_place_of-lowest q.tables.processes name p b.1 },
+        refl,
+        (stepped q m (event.Preempt p), record { allowed = ltb-true p (process_count q.tables) b.0; done = refl }, refl),
+      ),
+      a.1,
+    )
 makes_line-line q lanes m (line.Preempt name) events then_ e = absurd (true≢false (sym e))
 makes_line-line q lanes m (line.Input channel given) [] then_ e = ((refl, refl), e)
 makes_line-line q lanes m (line.Input channel given) events then_ e = absurd (true≢false (sym e))
@@ -309,9 +319,17 @@ completes-completes q lanes m (p ∷ processes) (event.Block o turns ∷ events)
     let a = and_parts (o == p && allows q lanes m (event.Block o turns)) _ e in
     let b = and_parts (o == p) _ a.0 in
     let c = completes-completes q lanes (stepped q m (event.Block o turns)) processes events then_ a.1 in
-    let same = eqb-true o p b.0 in
-    ((turns, events, stepped q m (event.Block o turns), ap (λ x. event.Block x turns ∷ events) same,
-      subst (λ x. IsStep q lanes m (event.Block x turns) (stepped q m (event.Block o turns))) same (record { allowed = allows-allowed q lanes m (event.Block o turns) b.1; done = refl }), c.0), c.1)
+    let same = eqb-true o p b.0 in (
+      (
+        turns,
+        events,
+        stepped q m (event.Block o turns),
+        ap (λ x. event.Block x turns ∷ events) same,
+        subst (λ x. IsStep q lanes m (event.Block x turns) (stepped q m (event.Block o turns))) same (record { allowed = allows-allowed q lanes m (event.Block o turns) b.1; done = refl }),
+        c.0,
+      ),
+      c.1,
+    )
 completes-completes q lanes m processes events then_ e = absurd (true≢false (sym e))
 
 joined-append : (fronts : List (List Event)) (rest : List Event) → joined fronts rest ≡ joined fronts [] ++ rest
@@ -325,12 +343,19 @@ joined_run q script lanes fronts rest text e =
     let a = makes_lines-lines q lanes (opening q.tables script) script fronts (λ middle. completes q lanes middle (open_blocks middle.rows) rest (λ end_. same_name (report q end_) text)) e in
     let b = completes-completes q lanes a.0 (open_blocks a.0.rows) rest (λ end_. same_name (report q end_) text) a.3 in
     let end_ : moment_after q a.0 rest ≡ after q script (joined fronts rest)
-             = ap (λ m. moment_after q m rest) a.2 ∙ sym (moment_after-append q (opening q.tables script) (joined fronts []) rest) ∙ ap (λ j. moment_after q (opening q.tables script) j) (sym (joined-append fronts rest)) in
-    (subst (λ m. IsRunTo q script lanes (joined fronts rest) m) end_ (record { front = joined fronts []; rest = rest; middle = a.0; whole = joined-append fronts rest; lines = a.1; blocks = b.0 }),
-     subst (λ m. report q m ≡ text) end_ (same_name-equal _ _ b.1))
+    = ap (λ m. moment_after q m rest) a.2 ∙ sym (moment_after-append q (opening q.tables script) (joined fronts []) rest) ∙ ap (λ j. moment_after q (opening q.tables script) j) (sym (joined-append fronts rest)) in (
+      subst (λ m. IsRunTo q script lanes (joined fronts rest) m) end_ (record { front = joined fronts []; rest = rest; middle = a.0; whole = joined-append fronts rest; lines = a.1; blocks = b.0 }),
+      subst (λ m. report q m ≡ text) end_ (same_name-equal _ _ b.1),
+    )
 
 -- a run that is found by computation is one, with the report
 pub runs_to-run : (q : Meaning) (script : List ScriptLine) (lanes : ℕ) (fronts : List (List Event)) (rest journal : List Event) (text : List ℕ) → joined fronts rest ≡ journal
     → runs_to q script lanes fronts rest text ≡ true → IsRunTo q script lanes journal (after q script journal) × (report q (after q script journal) ≡ text)
 runs_to-run q script lanes fronts rest journal text same e =
     subst (λ j. IsRunTo q script lanes j (after q script j) × (report q (after q script j) ≡ text)) same (joined_run q script lanes fronts rest text e)
+
+-- a run of a scripted load that checks is found by computation of what stands in it
+pub scripted-run : (load : Scripted) (script : List ScriptLine) (lanes : ℕ) (fronts : List (List Event)) (rest journal : List Event) (text : List ℕ) → checks load ≡ true → joined fronts rest ≡ journal
+    → runs_to (as_scripted load) script lanes fronts rest text ≡ true → IsRunTo (scripted load) script lanes journal (after (scripted load) script journal) × (report (scripted load) (after (scripted load) script journal) ≡ text)
+scripted-run load script lanes fronts rest journal text right same e =
+    subst (λ q. IsRunTo q script lanes journal (after q script journal) × (report q (after q script journal) ≡ text)) (sym (scripted-checked load right)) (runs_to-run (as_scripted load) script lanes fronts rest journal text same e)

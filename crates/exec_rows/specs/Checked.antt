@@ -29,14 +29,14 @@ use Rattle.hal_values.specs.declared.value.Value.{Value}
 use Rattle.hal_values.specs.declared.value.Value.TheVariants as value
 use Rattle.hal_values.specs.Answers.{Answered, Begun, Told, Done, Wrong, Block, Killed}
 use Rattle.hal_values.specs.Kinds.{IsKind, IsOfKind}
-use Rattle.hal_values.specs.Loads.{Meaning, IsWritten, IsUpdate, IsLoad, turn_limit}
+use Rattle.hal_values.specs.Loads.{IsWritten, IsUpdate, IsLoad, turn_limit}
 use Rattle.hal_values.specs.Requests.{IsTime, IsForCell, HasSpot, IsWhenInOrder, IsCycleInOrder, IsGuardInOrder, IsPlanInOrder, IsPauseInOrder, IsInOrder}
-use Rattle.hal_values.specs.Smallest.{smallest, smallest_is_load}
+use Rattle.hal_values.specs.Smallest.{smallest_is_load}
 use Rattle.hal_values.specs.Tables.{process_count, event_count, IsPostfix, IsCell, IsTables}
 use Rattle.exec_rows.specs.declared.scripted.Ask.{Ask}
 use Rattle.exec_rows.specs.declared.scripted.Ask.TheVariants.{Plain, Update}
 use Rattle.exec_rows.specs.declared.scripted.Scripted.{Scripted}
-use Rattle.exec_rows.specs.Checks.{is_between, is_kind, is_of_kind, is_cell, is_postfix, are_tables, is_time, has_expression, has_process, has_event, is_for_cell, has_spot, is_when, is_cycle, is_guard, is_plan, is_pause, is_plain, is_written, is_ask, are_cycles, checks}
+use Rattle.exec_rows.specs.Checks.{is_between, is_kind, is_of_kind, is_cell, is_postfix, are_tables, is_time, has_expression, has_process, has_event, is_for_cell, has_spot, is_when, is_cycle, is_guard, is_plan, is_pause, is_plain, is_written, is_ask, are_cycles, checks, meaning_if, scripted}
 use Rattle.exec_rows.specs.Scripting.{Point, Before, Within, first_cycle, later_cycles, cycles_left, following, point_then, point_after, ask_request, asked_at, writes_if, ask_block, block_at, point_of, as_scripted}
 
 -- nothing follows of false
@@ -219,9 +219,10 @@ none_some : {A B : Type 0} {v : A} → None ≡ Some v → B
 none_some {A} {B} {v} e = absurd (true≢false (sym (ap is_some e)))
 
 writes_if-block : (tables : Tables) (turns last : ℕ) (b : Bool) (writes found : List (ℕ × Value)) → turns == last ≡ b → list_all (is_written tables) writes ≡ true → nat_le last turn_limit ≡ true → writes_if b writes ≡ Some found → IsBlock tables turns found
-writes_if-block tables turns last true writes found is right few e =
-    (subst (λ w. All (IsWritten tables) w) (ap (λ o. unwrap_or o []) e) (all_from (is_written tables) (IsWritten tables) (λ w. is_for_cell-for (slice_get tables.cells w.0) w.1) writes right),
-     subst (λ n. n ≤ turn_limit) (sym (eqb-true turns last is)) (leb-true last turn_limit few))
+writes_if-block tables turns last true writes found is right few e = (
+  subst (λ w. All (IsWritten tables) w) (ap (λ o. unwrap_or o []) e) (all_from (is_written tables) (IsWritten tables) (λ w. is_for_cell-for (slice_get tables.cells w.0) w.1) writes right),
+  subst (λ n. n ≤ turn_limit) (sym (eqb-true turns last is)) (leb-true last turn_limit few),
+)
 writes_if-block tables turns last false writes found is right few e = none_some e
 
 ask_block-block : (tables : Tables) (ask : Ask) (turns : ℕ) (writes : List (ℕ × Value)) → is_ask tables ask ≡ true → ask_block ask turns ≡ Some writes → IsBlock tables turns writes
@@ -296,7 +297,7 @@ pub checks-load : (load : Scripted) → checks load ≡ true → IsLoad (as_scri
 checks-load load e =
     let parts = and_parts (are_tables load.tables) _ e in
     let right : (p : ℕ) (answers : List Answered) → is_right load.tables (point_of load.bodies p answers) ≡ true
-              = λ p answers. point_of-right load.tables load.bodies p answers parts.1 in
+    = λ p answers. point_of-right load.tables load.bodies p answers parts.1 in
     record {
       right = are_tables-tables load.tables parts.0;
       begins = λ p exists. refl;
@@ -307,15 +308,6 @@ checks-load load e =
       one_end = λ p answers snapshot turns other writes others exists fit full found also. block_at-one (point_of load.bodies p answers) turns other writes others found also;
       ends = λ p answers snapshot exists fit full asks. block_at-ends load.tables (point_of load.bodies p answers) (right p answers) asks;
     }
-
--- what a scripted load says where it checks, and else what the smallest load says
-abbrev pub meaning_if : Bool → Scripted → Meaning
-meaning_if true load = as_scripted load
-meaning_if false load = smallest
-
--- what a scripted load says, as a load
-abbrev pub scripted : Scripted → Meaning
-scripted load = meaning_if (checks load) load
 
 -- a scripted load that checks says what stands in it
 pub scripted-checked : (load : Scripted) → checks load ≡ true → scripted load ≡ as_scripted load

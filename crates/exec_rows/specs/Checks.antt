@@ -24,12 +24,14 @@ use Rattle.hal_values.specs.declared.value.Kind.{Kind}
 use Rattle.hal_values.specs.declared.value.Kind.TheVariants as kind
 use Rattle.hal_values.specs.declared.value.Value.{Value}
 use Rattle.hal_values.specs.declared.value.Value.TheVariants as value
-use Rattle.hal_values.specs.Loads.{turn_limit}
+use Rattle.hal_values.specs.Loads.{Meaning, turn_limit}
 use Rattle.hal_values.specs.Requests.{time_limit}
+use Rattle.hal_values.specs.Smallest.{smallest}
 use Rattle.hal_values.specs.Tables.{process_count, event_count}
 use Rattle.exec_rows.specs.declared.scripted.Ask.{Ask}
 use Rattle.exec_rows.specs.declared.scripted.Ask.TheVariants.{Plain, Update}
 use Rattle.exec_rows.specs.declared.scripted.Scripted.{Scripted}
+use Rattle.exec_rows.specs.Scripting.{as_scripted}
 
 -- the number lies between two others
 abbrev pub is_between : ℤ → ℤ → ℤ → Bool
@@ -158,3 +160,12 @@ are_cycles tables cycles = list_all (list_all (is_ask tables)) cycles
 -- the tables are right, and all that is asked is in order
 abbrev pub checks : Scripted → Bool
 checks load = are_tables load.tables && list_all (are_cycles load.tables) load.bodies
+
+-- what a scripted load says where it checks, and else what the smallest load says
+abbrev pub meaning_if : Bool → Scripted → Meaning
+meaning_if true load = as_scripted load
+meaning_if false load = smallest
+
+-- what a scripted load says, as a load
+abbrev pub scripted : Scripted → Meaning
+scripted load = meaning_if (checks load) load

@@ -72,9 +72,9 @@ abbrev pub twice : Scripted
 twice = record {
   tables = record (bare two_names) { expressions = (item.Event 1 ∷ item.Not ∷ []) ∷ [] };
   bodies =
-    ((asks (request.Schedule (soon 1 40)) ∷ asks (request.Schedule (soon 1 40)) ∷ asks (request.Wait (pause.Event 0)) ∷ says (codes " AGAIN") ∷ asks (request.Schedule (soon 1 40)) ∷ []) ∷ [])
-    ∷ ((says (codes " T") ∷ []) ∷ (says (codes " T") ∷ []) ∷ [])
-    ∷ [];
+      ((asks (request.Schedule (soon 1 40)) ∷ asks (request.Schedule (soon 1 40)) ∷ asks (request.Wait (pause.Event 0)) ∷ says (codes " AGAIN") ∷ asks (request.Schedule (soon 1 40)) ∷ []) ∷ [])
+      ∷ ((says (codes " T") ∷ []) ∷ (says (codes " T") ∷ []) ∷ [])
+      ∷ [];
 }
 
 abbrev pub twice_script : List ScriptLine
@@ -89,9 +89,9 @@ abbrev pub stopped : Scripted
 stopped = record {
   tables = record (bare two_names) { expressions = (item.Event 1 ∷ item.Not ∷ []) ∷ [] };
   bodies =
-    ((asks (request.Schedule (soon 1 40)) ∷ asks (request.Schedule (soon 1 40)) ∷ asks (request.Stop (error 2 1)) ∷ []) ∷ [])
-    ∷ ((says (codes " T") ∷ []) ∷ [])
-    ∷ [];
+      ((asks (request.Schedule (soon 1 40)) ∷ asks (request.Schedule (soon 1 40)) ∷ asks (request.Stop (error 2 1)) ∷ []) ∷ [])
+      ∷ ((says (codes " T") ∷ []) ∷ [])
+      ∷ [];
 }
 
 -- P up to its stop, and T
@@ -107,9 +107,9 @@ abbrev pub counting : Scripted
 counting = record {
   tables = record (bare two_names) { cells = integer_cell 0 ∷ []; names = cell_name (codes "P.N") 0 ∷ [] };
   bodies =
-    ((asks (request.Schedule (record (soon 1 40) { cycle = cycle.Every 40 })) ∷ []) ∷ [])
-    ∷ (counting_cycle 1 (codes " 1 0") ∷ counting_cycle 2 (codes " 2 0") ∷ counting_cycle 3 (codes " 3 0") ∷ counting_cycle 4 (codes " 4 0") ∷ counting_cycle 5 (codes " 5 0") ∷ counting_cycle 6 (codes " 6 0") ∷ [])
-    ∷ [];
+      ((asks (request.Schedule (record (soon 1 40) { cycle = cycle.Every 40 })) ∷ []) ∷ [])
+      ∷ (counting_cycle 1 (codes " 1 0") ∷ counting_cycle 2 (codes " 2 0") ∷ counting_cycle 3 (codes " 3 0") ∷ counting_cycle 4 (codes " 4 0") ∷ counting_cycle 5 (codes " 5 0") ∷ counting_cycle 6 (codes " 6 0") ∷ [])
+      ∷ [];
 }
 
 -- the clock goes on by this between two runs
@@ -129,10 +129,10 @@ signalled = record {
     names = event_name (codes "P.F") 4 ∷ [];
   };
   bodies =
-    ((asks (request.Schedule (soon 1 60)) ∷ asks (request.Schedule (soon 2 60)) ∷ asks (request.Signal 3) ∷ asks (request.Read (spot.Event 3)) ∷ asks (request.Read (spot.Event 4)) ∷ says (codes " 0 1") ∷ []) ∷ [])
-    ∷ ((asks (request.Wait (pause.Event 0)) ∷ says (codes " A") ∷ []) ∷ [])
-    ∷ ((asks (request.Wait (pause.Event 1)) ∷ says (codes " B") ∷ []) ∷ [])
-    ∷ [];
+      ((asks (request.Schedule (soon 1 60)) ∷ asks (request.Schedule (soon 2 60)) ∷ asks (request.Signal 3) ∷ asks (request.Read (spot.Event 3)) ∷ asks (request.Read (spot.Event 4)) ∷ says (codes " 0 1") ∷ []) ∷ [])
+      ∷ ((asks (request.Wait (pause.Event 0)) ∷ says (codes " A") ∷ []) ∷ [])
+      ∷ ((asks (request.Wait (pause.Event 1)) ∷ says (codes " B") ∷ []) ∷ [])
+      ∷ [];
 }
 
 abbrev pub signalled_script : List ScriptLine
@@ -151,12 +151,12 @@ abbrev pub cancelled : Scripted
 cancelled = record {
   tables = bare (codes "P" ∷ codes "P.A" ∷ codes "P.B" ∷ codes "P.C" ∷ []);
   bodies =
-    ((asks (request.Schedule (each_second 1 when.Now)) ∷ asks (request.Schedule (each_second 2 (when.After (pos 5000)))) ∷ asks (request.Schedule (each_second 3 when.Now))
+      ((asks (request.Schedule (each_second 1 when.Now)) ∷ asks (request.Schedule (each_second 2 (when.After (pos 5000)))) ∷ asks (request.Schedule (each_second 3 when.Now))
       ∷ asks (request.Cancel 1) ∷ asks (request.Cancel 2) ∷ asks (request.Cancel 3) ∷ []) ∷ [])
-    ∷ []
-    ∷ []
-    ∷ ((asks (request.Wait (pause.For (pos 500))) ∷ says (codes " C") ∷ []) ∷ [])
-    ∷ [];
+      ∷ []
+      ∷ []
+      ∷ ((asks (request.Wait (pause.For (pos 500))) ∷ says (codes " C") ∷ []) ∷ [])
+      ∷ [];
 }
 
 abbrev pub cancelled_script : List ScriptLine
@@ -171,9 +171,9 @@ abbrev pub terminated : Scripted
 terminated = record {
   tables = record (bare (codes "P" ∷ codes "P.D" ∷ [])) { cells = integer_cell 1 ∷ []; names = cell_name (codes "P.K") 0 ∷ [] };
   bodies =
-    ((asks (request.Schedule (record (soon 1 50) { dependent = true })) ∷ asks (request.Terminate 0) ∷ []) ∷ [])
-    ∷ ((ask.Update 2 ((0, number 1) ∷ (0, number 2) ∷ []) 0 ∷ says (codes " NO") ∷ []) ∷ [])
-    ∷ [];
+      ((asks (request.Schedule (record (soon 1 50) { dependent = true })) ∷ asks (request.Terminate 0) ∷ []) ∷ [])
+      ∷ ((ask.Update 2 ((0, number 1) ∷ (0, number 2) ∷ []) 0 ∷ says (codes " NO") ∷ []) ∷ [])
+      ∷ [];
 }
 
 abbrev pub terminated_script : ℕ → List ScriptLine
@@ -188,10 +188,10 @@ abbrev pub preempted : Scripted
 preempted = record {
   tables = bare (codes "P" ∷ codes "P.A" ∷ codes "P.B" ∷ []);
   bodies =
-    ((asks (request.Schedule (soon 1 50)) ∷ asks (request.Schedule (soon 2 50)) ∷ []) ∷ [])
-    ∷ ((says (codes " A1") ∷ says (codes " A2") ∷ []) ∷ [])
-    ∷ ((says (codes " B1") ∷ []) ∷ [])
-    ∷ [];
+      ((asks (request.Schedule (soon 1 50)) ∷ asks (request.Schedule (soon 2 50)) ∷ []) ∷ [])
+      ∷ ((says (codes " A1") ∷ says (codes " A2") ∷ []) ∷ [])
+      ∷ ((says (codes " B1") ∷ []) ∷ [])
+      ∷ [];
 }
 
 abbrev pub preempted_script : List ScriptLine
@@ -206,9 +206,9 @@ abbrev pub guarded : Scripted
 guarded = record {
   tables = bare two_names;
   bodies =
-    ((asks (request.Schedule (record (soon 1 60) { cycle = cycle.Every 1000; guard = guard.UntilTime (pos 2000) })) ∷ []) ∷ [])
-    ∷ ((asks request.Now ∷ says (codes " 0") ∷ []) ∷ (asks request.Now ∷ says (codes " 1") ∷ []) ∷ [])
-    ∷ [];
+      ((asks (request.Schedule (record (soon 1 60) { cycle = cycle.Every 1000; guard = guard.UntilTime (pos 2000) })) ∷ []) ∷ [])
+      ∷ ((asks request.Now ∷ says (codes " 0") ∷ []) ∷ (asks request.Now ∷ says (codes " 1") ∷ []) ∷ [])
+      ∷ [];
 }
 
 abbrev pub guarded_script : List ScriptLine

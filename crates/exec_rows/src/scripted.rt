@@ -1,4 +1,4 @@
-use hal_values::{Listing, Request, Tables, Value};
+use hal_values::{Listing, Load, Request, Tables, Value};
 
 /// What a process of a scripted load asks in a cycle, between Begin and Finish.
 #[derive(Debug, Drop)]
@@ -10,9 +10,25 @@ pub enum Ask {
 }
 
 /// A load whose processes ask what lists say, whatever they are answered: for each process its cycles
-/// in order. Further cycles ask nothing.
+/// in order. Further cycles ask nothing, and a process that is killed goes on with its next cycle.
+/// Where the tables or a list aren't right it is the smallest load.
 #[derive(Debug, Drop)]
 pub struct Scripted {
     pub tables: Tables,
     pub bodies: Listing<Listing<Listing<Ask>>>,
+}
+
+impl Load for Scripted {
+    ghost use Rattle.exec_rows.specs.Checks.{scripted};
+    ghost use Rattle.exec_rows.specs.Checked.{scripted-load};
+
+    ghost tables = { λ load. (scripted load).tables };
+
+    ghost next = { λ load. (scripted load).next };
+
+    ghost block = { λ load. (scripted load).block };
+
+    ghost own = { λ load. (scripted load).own };
+
+    ghost is_load = { scripted-load };
 }
