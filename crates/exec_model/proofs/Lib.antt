@@ -1,0 +1,4 @@
+pub mod Drafting
+pub mod Settled
+pub mod OneSettling
+pub mod Stamps

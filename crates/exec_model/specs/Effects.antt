@@ -1,5 +1,5 @@
 -- What a request does, and what it is answered.
-use Rattle.std.specs.Prelude.{ℕ, ◌+◌, ◌/◌, nat_le, Bool, true, false, not, List, [], ◌∷◌, ◌++◌, codes, Option, Some, None, pos, slice_index_or, slice_set, if◌then◌else◌}
+use Rattle.std.specs.Prelude.{ℕ, ◌+◌, ◌/◌, nat_le, Bool, true, false, not, List, [], ◌∷◌, ◌++◌, codes, Option, Some, None, pos, slice_index_or, if◌then◌else◌}
 use Rattle.std.specs.Fmt.{decimal}
 use Rattle.hal_values.specs.declared.environment.ErrNo.{ErrNo}
 use Rattle.hal_values.specs.declared.plan.Cycle.{Cycle}
@@ -25,7 +25,7 @@ use Rattle.exec_model.specs.declared.status.Status.TheVariants as status
 use Rattle.exec_model.specs.Data.{datum_value}
 use Rattle.exec_model.specs.Expressions.{truth}
 use Rattle.exec_model.specs.Killing.{family_killed, is_of_family}
-use Rattle.exec_model.specs.Moments.{Moment, row_of, with_row, answered, event_of, with_event}
+use Rattle.exec_model.specs.Moments.{Moment, row_of, with_row, answered, event_of, with_event, stored, printed, taken_from}
 use Rattle.exec_model.specs.Rows.{is_active, has_dependents}
 use Rattle.exec_model.specs.Settling.{settle}
 use Rattle.exec_model.specs.Times.{not_before, later}
@@ -121,7 +121,7 @@ datum_answer (Some v) = Told v
 -- p asks for the next of the data that are left of the channel
 abbrev pub input_done : ℕ → ℕ → Kind → List (List ℕ) → Moment → Moment
 input_done p channel kind [] m = answered p (Wrong (error 3 1)) m
-input_done p channel kind (datum ∷ rest) m = answered p (datum_answer (datum_value kind datum)) (record m { input = slice_set m.input channel rest })
+input_done p channel kind (datum ∷ rest) m = answered p (datum_answer (datum_value kind datum)) (taken_from channel m)
 
 -- how a process goes on whose cycle is done: it ends where it is cancelled or has one cycle alone
 abbrev pub next_status : ℕ → Row → Cycle → Status
@@ -145,7 +145,7 @@ stop_done p e m = let m' = family_killed p m in with_row p (record (row_of m' p)
 abbrev pub effect : Tables → ℕ → Row → Request → Moment → Moment
 effect tables p row request.Begin m = answered p Begun (with_row p (record row { begun = true; started = true }) m)
 effect tables p row (request.Read spot) m = answered p (Told (value_at tables m spot)) m
-effect tables p row (request.Write cell v) m = answered p Done (record m { store = slice_set m.store cell v })
+effect tables p row (request.Write cell v) m = answered p Done (stored cell v m)
 effect tables p row request.Pass m = answered p Done m
 effect tables p row (request.Update groups) m = m
 effect tables p row (request.Schedule plan) m = schedule_done p plan (row_of m plan.process) m
@@ -156,7 +156,7 @@ effect tables p row (request.Signal e) m = signal_done tables p e m
 effect tables p row (request.Set e) m = answered p Done (with_event tables e true m)
 effect tables p row (request.Reset e) m = answered p Done (with_event tables e false m)
 effect tables p row (request.Priority q priority) m = priority_done p q priority (row_of m q) m
-effect tables p row (request.Print channel line) m = answered p Done (record m { output = m.output ++ channel_line channel line })
+effect tables p row (request.Print channel line) m = answered p Done (printed (channel_line channel line) m)
 effect tables p row (request.Input channel kind) m = input_done p channel kind (slice_index_or m.input channel []) m
 effect tables p row request.Now m = answered p (Told (value.Int (pos (m.clock / 1000)))) m
 effect tables p row (request.Stop e) m = stop_done p e m

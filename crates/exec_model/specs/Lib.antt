@@ -4,6 +4,7 @@ pub mod Moments
 pub mod Expressions
 pub mod Times
 pub mod Settling
+pub mod Settles
 pub mod Killing
 pub mod Data
 pub mod Effects
@@ -14,3 +15,6 @@ pub mod Runs
 pub mod Report
 pub mod Sound
 pub mod Processes
+pub mod Running
+pub mod Drafts
+pub mod Ranks

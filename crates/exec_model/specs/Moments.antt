@@ -1,5 +1,5 @@
 -- The executive at a moment.
-use Rattle.std.specs.Prelude.{ℕ, ◌+◌, ◌-◌, ◌<◌, nat_lt, Bool, false, List, [], ◌∷◌, ◌++◌, length, slice_index_or, slice_set, if◌then◌else◌}
+use Rattle.std.specs.Prelude.{ℕ, ◌+◌, ◌-◌, ◌<◌, nat_lt, Bool, false, List, [], ◌∷◌, ◌++◌, length, drop, slice_index_or, slice_set, if◌then◌else◌}
 use Rattle.hal_values.specs.declared.tables.Tables.{Tables}
 use Rattle.hal_values.specs.declared.value.Value.{Value}
 use Rattle.hal_values.specs.Answers.{Answered}
@@ -7,6 +7,7 @@ use Rattle.hal_values.specs.Tables.{process_count}
 use Rattle.exec_model.specs.declared.row.Row.{Row}
 use Rattle.exec_model.specs.declared.state.State.{State}
 use Rattle.exec_model.specs.declared.status.End.{End}
+use Rattle.exec_model.specs.declared.status.How.{How}
 use Rattle.exec_model.specs.declared.status.Status.TheVariants as status
 use Rattle.exec_model.specs.Rows.{row_in, is_active}
 
@@ -78,3 +79,26 @@ event_set tables e to events = if nat_lt e (process_count tables) then events el
 
 abbrev pub with_event : Tables → ℕ → Bool → Moment → Moment
 with_event tables e to m = record m { events = event_set tables e to m.events }
+
+-- an end is added
+abbrev pub ended : ℕ → How → ℕ → Moment → Moment
+ended p how cycles m = record m { ends = m.ends ++ record { process = p; clock = m.clock; how = how; cycles = cycles } ∷ [] }
+
+-- the shared cell holds the value
+abbrev pub stored : ℕ → Value → Moment → Moment
+stored cell v m = record m { store = slice_set m.store cell v }
+
+-- the first datum that is left of a channel is used up
+abbrev pub datum_taken : List (List (List ℕ)) → ℕ → List (List (List ℕ))
+datum_taken input channel = slice_set input channel (drop 1 (slice_index_or input channel []))
+
+abbrev pub taken_from : ℕ → Moment → Moment
+taken_from channel m = record m { input = datum_taken m.input channel }
+
+-- bytes are added to the output
+abbrev pub printed : List ℕ → Moment → Moment
+printed bytes m = record m { output = m.output ++ bytes }
+
+-- the clock goes on
+abbrev pub ticked : ℕ → Moment → Moment
+ticked time m = record m { clock = m.clock + time }

@@ -1,5 +1,5 @@
 -- What becomes of the rows by themselves, after each event.
-use Rattle.std.specs.Prelude.{ℕ, zero, suc, ◌+◌, ◌*◌, nat_le, Bool, true, false, not, ◌&&◌, List, [], ◌∷◌, ◌++◌, length, slice_set, Option, Some, None, if◌then◌else◌}
+use Rattle.std.specs.Prelude.{ℕ, zero, suc, ◌+◌, ◌*◌, nat_le, Bool, true, false, not, ◌&&◌, List, [], ◌∷◌, length, Option, Some, None, if◌then◌else◌}
 use Rattle.hal_values.specs.declared.plan.Guard.{Guard}
 use Rattle.hal_values.specs.declared.plan.Guard.TheVariants as guard
 use Rattle.hal_values.specs.declared.tables.Tables.{Tables}
@@ -11,7 +11,7 @@ use Rattle.exec_model.specs.declared.status.How.TheVariants.{Cancelled}
 use Rattle.exec_model.specs.declared.status.Status.{Status}
 use Rattle.exec_model.specs.declared.status.Status.TheVariants as status
 use Rattle.exec_model.specs.Expressions.{truth}
-use Rattle.exec_model.specs.Moments.{Moment, row_of, with_row, made_ready, answered}
+use Rattle.exec_model.specs.Moments.{Moment, row_of, with_row, made_ready, answered, ended}
 use Rattle.exec_model.specs.Rows.{is_active, is_before_cycle, is_ending, has_dependents}
 use Rattle.exec_model.specs.Times.{from_zero}
 
@@ -54,10 +54,7 @@ first_change tables m p row =
 
 -- a row that has ended becomes Idle, and an end line is added
 abbrev pub left_row : ℕ → Row → Status → Moment → Moment
-left_row p row (status.Ending how) m = record m {
-  rows = slice_set m.rows p (record row { status = status.Idle });
-  ends = m.ends ++ record { process = p; clock = m.clock; how = how; cycles = row.cycles } ∷ [];
-}
+left_row p row (status.Ending how) m = ended p how row.cycles (with_row p (record row { status = status.Idle }) m)
 left_row p row other m = m
 
 -- a row whose wait is over becomes Ready. Start and Gap set the start time to their time, StartOn to now; Time, Event and Dependents are answered Done

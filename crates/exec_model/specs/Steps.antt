@@ -1,5 +1,5 @@
 -- What one event does, and when it may come.
-use Rattle.std.specs.Prelude.{◌≡◌, ◌≢◌, ℕ, ◌+◌, ◌^◌, ◌<◌, Bool, true, false, List, [], ◌∷◌, Option, Some, None, IsSome, slice_get, slice_set, bit_and, if◌then◌else◌}
+use Rattle.std.specs.Prelude.{◌≡◌, ◌≢◌, ℕ, ◌^◌, ◌<◌, Bool, true, false, List, [], ◌∷◌, Option, Some, None, IsSome, slice_get, slice_set, bit_and, if◌then◌else◌}
 use Rattle.hal_values.specs.declared.request.Request.{Request}
 use Rattle.hal_values.specs.declared.request.Request.TheVariants as request
 use Rattle.hal_values.specs.declared.request.Spot.TheVariants as spot
@@ -15,7 +15,7 @@ use Rattle.exec_model.specs.declared.row.Row.{Row}
 use Rattle.exec_model.specs.declared.status.How.TheVariants.{Terminated}
 use Rattle.exec_model.specs.declared.status.Status.TheVariants as status
 use Rattle.exec_model.specs.Effects.{effect}
-use Rattle.exec_model.specs.Moments.{Moment, row_of, answers_of, with_row, answered, made_ready}
+use Rattle.exec_model.specs.Moments.{Moment, row_of, answers_of, with_row, answered, made_ready, ticked}
 use Rattle.exec_model.specs.Order.{IsInFirst}
 use Rattle.exec_model.specs.Rows.{is_ready}
 use Rattle.exec_model.specs.Settling.{settle}
@@ -115,7 +115,7 @@ abbrev pub event_done : Meaning → Moment → Event → Moment
 event_done q m (event.Act p) = effect q.tables p (row_of m p) (request_of q m p) m
 event_done q m (event.Open p) = with_row p (record (row_of m p) { inside = true }) m
 event_done q m (event.Block p turns) = block_done p turns (block_of q m p turns) m
-event_done q m (event.Tick time) = record m { clock = m.clock + time }
+event_done q m (event.Tick time) = ticked time m
 event_done q m (event.Preempt p) = preempted p (row_of m p) m
 
 -- the moment after the event
