@@ -2,3 +2,5 @@ pub mod Scripting
 pub mod Rows
 pub mod Checks
 pub mod Checked
+pub mod Playing
+pub mod Places

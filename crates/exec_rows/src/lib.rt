@@ -2,6 +2,9 @@
 //! them: computed from the definitions alone.
 #![tactic(auto)]
 
+mod copies;
+mod kept;
+mod place;
 mod rows;
 mod scripted;
 
