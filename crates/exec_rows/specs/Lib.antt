@@ -4,3 +4,4 @@ pub mod Checks
 pub mod Checked
 pub mod Playing
 pub mod Places
+pub mod Procs

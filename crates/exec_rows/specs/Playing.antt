@@ -1,7 +1,9 @@
 -- What the processes of a scripted load keep.
-use Rattle.std.specs.Prelude.{ℕ, List, [], map, Option, Some, None}
+use Rattle.std.specs.Prelude.{◌≡◌, ℕ, List, [], length, map, Bool, true, Option, Some, None}
 use Rattle.hal_values.specs.declared.value.Value.{Value}
 use Rattle.hal_values.specs.Answers.{Answered, Begun, Told, Done, Wrong, Block, Killed}
+use Rattle.hal_values.specs.Tables.{process_count}
+use Rattle.exec_model.specs.Processes.{Look}
 use Rattle.exec_rows.specs.declared.kept.Kept.{Kept}
 use Rattle.exec_rows.specs.declared.kept.Kept.TheVariants as kept
 
@@ -13,3 +15,25 @@ kept_answer kept.Done = Done
 kept_answer (kept.Wrong e) = Wrong e
 kept_answer (kept.Block snapshot turns) = Block snapshot turns
 kept_answer kept.Killed = Killed
+
+-- what is kept of a process: its answers, its room for further ones, and its last look
+pub record Held : Type 0 where
+  pub answers : List Answered
+  pub room : ℕ
+  pub look : Option Look
+
+-- nothing is kept
+abbrev pub nothing_held : Held
+nothing_held = record { answers = []; room = 0; look = None }
+
+-- the answers of each process
+abbrev pub all_answers : List Held → List (List Answered)
+all_answers desks = map (λ (desk : Held). desk.answers) desks
+
+-- the room of each process
+abbrev pub all_rooms : List Held → List ℕ
+all_rooms desks = map (λ (desk : Held). desk.room) desks
+
+-- the last look of each process
+abbrev pub all_looks : List Held → List (Option Look)
+all_looks desks = map (λ (desk : Held). desk.look) desks

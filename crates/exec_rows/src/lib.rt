@@ -3,6 +3,7 @@
 #![tactic(auto)]
 
 mod copies;
+mod desk;
 mod kept;
 mod place;
 mod rows;
