@@ -8,6 +8,7 @@ mod kept;
 mod place;
 mod rows;
 mod scripted;
+mod scripted_procs;
 
 pub use rows::{
     a_block_is_done_before_the_end, a_cancel_waits_for_the_cycle, a_failed_schedule_can_be_ignored,
@@ -16,3 +17,4 @@ pub use rows::{
     cycles_whose_time_has_come_all_run, five_cycles_whose_time_has_come_all_run,
 };
 pub use scripted::{Ask, Scripted};
+pub use scripted_procs::ScriptedProcs;
