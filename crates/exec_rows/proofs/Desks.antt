@@ -1,15 +1,16 @@
 -- What is kept of all processes, where that of one changes.
-use Rattle.std.proofs.Common.{◌≡◌, ◌≢◌, ℕ, zero, suc, ◌+◌, ◌<◌, ◌≤◌, List, [], ◌∷◌, ◌++◌, length, map, get_or, set, slice_index, replicate, Option, Some, None, IfSome, refl, sym, ap, ap₂, subst, ◌∙◌, arith, get_or-set_other, get_or-set_same, length-set, le_trans, le_of_suc-le-suc, eq-or-lt_of_le, ⊎_elim, inl, inr, le_refl, le_of_eq, add-one}
+use Rattle.std.proofs.Common.{◌≡◌, ◌≢◌, ℕ, zero, suc, ◌+◌, ◌<◌, ◌≤◌, List, [], ◌∷◌, ◌++◌, length, map, get_or, set, slice_index, replicate, Option, Some, None, IfSome, true, refl, sym, ap, ap₂, subst, ◌∙◌, arith, get_or-set_other, get_or-set_same, length-set, le_trans, le_of_suc-le-suc, eq-or-lt_of_le, ⊎_elim, inl, inr, le_refl, le_of_eq, add-one}
 use Rattle.std.proofs.lemmas.List.{get_or_default}
 use Rattle.hal_values.specs.Answers.{Answered}
 use Rattle.exec_model.specs.Moments.{answers_in, pushed_answer}
 use Rattle.exec_model.specs.Processes.{Look, look_at, told_answer, SameLooksBut, SameRoomsBut, NotLower, reserved_room}
 use Rattle.hal_values.specs.declared.answer.Answer.{Answer}
+use Rattle.hal_values.specs.Loads.{Meaning}
 use Rattle.hal_values.specs.Requests.{HasProcess}
 use Rattle.hal_values.specs.Tables.{process_count}
 use Rattle.exec_rows.specs.declared.scripted.Scripted.{Scripted}
 use Rattle.exec_rows.specs.Checked.{scripted-checked}
-use Rattle.exec_rows.specs.Checks.{scripted}
+use Rattle.exec_rows.specs.Checks.{checks, scripted}
 use Rattle.exec_rows.specs.Procs.{Playing, IsPlaying}
 use Rattle.exec_rows.specs.Playing.{Held, nothing_held, all_answers, all_rooms, all_looks}
 
@@ -78,12 +79,6 @@ rooms_set (desk ∷ desks) zero new more (suc o) = le_refl _
 rooms_set (desk ∷ desks) (suc p) new more zero = le_refl _
 rooms_set (desk ∷ desks) (suc p) new more (suc o) = rooms_set desks p new more o
 
-pub replicate_push : {A : Type 0} (n : ℕ) (x : A) → replicate n x ++ x ∷ [] ≡ replicate (n + 1) x
-replicate_push n x = go n ∙ ap (λ k. replicate k x) (sym (add-one n)) where
-  go : (k : ℕ) → replicate k x ++ x ∷ [] ≡ replicate (suc k) x
-  go zero = refl
-  go (suc k) = ap (λ xs. x ∷ xs) (go k)
-
 -- something is kept of each process that the load has
 pub has_desk : (load : Scripted) (desks : List Held) (p : ℕ) → IsPlaying load desks → HasProcess (scripted load).tables p → p < length desks
 has_desk load desks p playing exists =
@@ -103,8 +98,8 @@ pub told_at : (desks : List Held) (p : ℕ) (answer : Answer) (desk new : Held) 
 told_at desks p answer desk new below is told =
     let held : get_or desks p nothing_held ≡ desk = desk_at desks p desk below is in
     subst (λ look. IfSome (told_answer look answer) (λ given. all_answers (set desks p new) ≡ pushed_answer (all_answers desks) p given)) (sym (look_of desks p ∙ ap (λ (d : Held). d.look) held))
-      (if_some_weaker (told_answer desk.look answer) (λ given. new.answers ≡ desk.answers ++ given ∷ []) (λ given. all_answers (set desks p new) ≡ pushed_answer (all_answers desks) p given)
-        (λ given e. answers_pushed desks p new given (e ∙ ap (λ (d : Held). d.answers ++ given ∷ []) (sym held))) told)
+    (if_some_weaker (told_answer desk.look answer) (λ given. new.answers ≡ desk.answers ++ given ∷ []) (λ given. all_answers (set desks p new) ≡ pushed_answer (all_answers desks) p given)
+    (λ given e. answers_pushed desks p new given (e ∙ ap (λ (d : Held). d.answers ++ given ∷ []) (sym held))) told)
 
 -- the room of a process goes down as that of its desk
 pub room_told : (desks : List Held) (p : ℕ) (desk new : Held) → p < length desks → desk ≡ get_or desks p desk → new.room + 1 ≡ desk.room → slice_index (all_rooms (set desks p new)) p + 1 ≡ slice_index (all_rooms desks) p
@@ -147,7 +142,15 @@ reserved_more old load desks count end_ new was below room = record {
   looks = was.looks;
   rooms = was.rooms;
   reserved = λ p less. ⊎_elim (λ (e : p ≡ count). subst (λ n. reserved_room ≤ slice_index (all_rooms (set desks count new)) n) (sym e) (subst (λ n. reserved_room ≤ n) (sym (room_set desks count new below)) room))
-    (λ (l : p < count). was.reserved p l) (eq-or-lt_of_le (below_one p less));
+      (λ (l : p < count). was.reserved p l) (eq-or-lt_of_le (below_one p less));
 } where
   below_one : (p : ℕ) → p < count + 1 → p ≤ count
   below_one p less = omega (arith, less)
+
+-- before any answer no process has one
+pub no_answers : (load : Scripted) (desks : List Held) (n : ℕ) → checks load ≡ true → desks ≡ replicate n nothing_held → n ≡ process_count load.tables → all_answers desks ≡ replicate (process_count (scripted load).tables) []
+no_answers load desks n right fresh all =
+    ap all_answers fresh ∙ map_replicate n ∙ ap (λ k. replicate k []) (all ∙ ap (λ (q : Meaning). process_count q.tables) (sym (scripted-checked load right))) where
+      map_replicate : (k : ℕ) → all_answers (replicate k nothing_held) ≡ replicate k []
+      map_replicate zero = refl
+      map_replicate (suc k) = ap (λ xs. [] ∷ xs) (map_replicate k)

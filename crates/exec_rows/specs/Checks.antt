@@ -64,11 +64,14 @@ is_postfix events operands (item.Not ∷ items) = nat_le 1 operands && is_postfi
 is_postfix events operands (item.And ∷ items) = nat_le 2 operands && is_postfix events (operands - 1) items
 is_postfix events operands (item.Or ∷ items) = nat_le 2 operands && is_postfix events (operands - 1) items
 
+-- the tables keep their limits
+abbrev pub are_few : Tables → Bool
+are_few tables = nat_le (length tables.cells) CELL_LIMIT && (nat_le (process_count tables) PROCESS_LIMIT && nat_le (length tables.events) EVENT_LIMIT)
+
 -- the tables are right
 abbrev pub are_tables : Tables → Bool
 are_tables tables =
-    (nat_le (length tables.cells) CELL_LIMIT && (nat_le (process_count tables) PROCESS_LIMIT && nat_le (length tables.events) EVENT_LIMIT))
-    && (list_all is_cell tables.cells && (list_all (is_postfix (event_count tables) 0) tables.expressions && nat_lt tables.first (process_count tables)))
+    are_few tables && (list_all is_cell tables.cells && (list_all (is_postfix (event_count tables) 0) tables.expressions && nat_lt tables.first (process_count tables)))
 
 -- the time is within its limit either way
 abbrev pub is_time : ℤ → Bool

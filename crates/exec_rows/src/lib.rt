@@ -2,6 +2,7 @@
 //! them: computed from the definitions alone.
 #![tactic(auto)]
 
+mod checking;
 mod copies;
 mod desk;
 mod kept;

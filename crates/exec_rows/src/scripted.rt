@@ -1,3 +1,4 @@
+use crate::checking::{are_right_bodies, are_right_tables};
 use hal_values::{Listing, Load, Request, Tables, Value};
 
 /// What a process of a scripted load asks in a cycle, between Begin and Finish.
@@ -16,6 +17,18 @@ pub enum Ask {
 pub struct Scripted {
     pub tables: Tables,
     pub bodies: Listing<Listing<Listing<Ask>>>,
+}
+
+impl Scripted {
+    ghost use Rattle.std.specs.Prelude.{◌≡◌};
+    ghost use Rattle.exec_rows.specs.Checks.{checks};
+
+    /// The tables are right, and so is all that the lists ask.
+    pub fn is_right(&self) -> bool
+        ensures { result ≡ checks self.now }
+    {
+        are_right_tables(&self.tables) && are_right_bodies(&self.tables, self.bodies.as_slice())
+    }
 }
 
 impl Load for Scripted {

@@ -28,14 +28,14 @@ impl Model for ScriptedProcs {
 impl ScriptedProcs {
     ghost use Rattle.std.specs.Prelude.{◌≡◌, [], replicate, true, IfOk};
     ghost use Rattle.hal_values.specs.Tables.{process_count};
-    ghost use Rattle.exec_rows.specs.Checks.{checks};
-    ghost use Rattle.exec_rows.specs.Playing.{nothing_held};
+    ghost use Rattle.exec_rows.specs.Checks.{checks, scripted};
+    ghost use Rattle.exec_rows.specs.Playing.{all_answers};
 
     /// The processes of this load, before any answer.
     pub fn start(alloc: Global, load: Scripted) -> Result<ScriptedProcs, AllocError>
         requires { checks load ≡ true }
         ensures load { IfOk result (λ procs. procs.load ≡ load) }
-        ensures desks { IfOk result (λ procs. procs.desks ≡ replicate (process_count load.tables) nothing_held) }
+        ensures answers { IfOk result (λ procs. all_answers procs.desks ≡ replicate (process_count (scripted procs.load).tables) []) }
     {
         let mut desks = Vec::new(alloc);
         for _name in load.tables.processes.as_slice() {
