@@ -1,12 +1,11 @@
 -- Runs that are found by computation.
 use Rattle.std.specs.List.{list_any}
-use Rattle.std.proofs.Common.{◌≡◌, ◌≢◌, ℕ, zero, suc, ◌<◌, ◌≤◌, ◌==◌, nat_lt, nat_le, Bool, true, false, not, ◌&&◌, ◌||◌, ◌⊎◌, List, [], ◌∷◌, ◌++◌, length, slice_get, Option, Some, None, IsSome, bit_and, inl, inr, refl, sym, ap, ap₂, subst, unwrap_or, append_assoc, eq-eqb, ◌∙◌, arith, eqb-true, leb-true, ltb-true, ltb-false, eq-or-lt_of_le, le_of_suc-le-suc, true≢false}
+use Rattle.std.proofs.Common.{◌≡◌, ◌≢◌, ℕ, zero, suc, ◌<◌, ◌≤◌, ◌==◌, nat_lt, Bool, true, false, not, ◌&&◌, ◌||◌, ◌⊎◌, List, [], ◌∷◌, ◌++◌, length, slice_get, Option, Some, None, IsSome, bit_and, inl, inr, refl, sym, ap, ap₂, subst, unwrap_or, append_assoc, eq-eqb, ◌∙◌, arith, eqb-true, ltb-true, ltb-false, eq-or-lt_of_le, le_of_suc-le-suc, true≢false}
 use Rattle.std.specs.Cmp.Derive.{both_true}
 use Rattle.std.proofs.lemmas.Bool.{and_parts, not-true, not-false, false≢true}
 use Rattle.std.proofs.lemmas.List.{get_or_past}
 use Rattle.hal_values.specs.declared.request.Request.{Request}
 use Rattle.hal_values.specs.declared.request.Request.TheVariants as request
-use Rattle.hal_values.specs.declared.tables.Tables.{Tables}
 use Rattle.hal_values.specs.Loads.{Meaning, IsUpdate}
 use Rattle.hal_values.specs.Tables.{process_count}
 use Rattle.exec_model.specs.declared.event.Event.{Event}
@@ -19,12 +18,12 @@ use Rattle.exec_model.specs.Opening.{opening}
 use Rattle.exec_model.specs.Order.{IsInFirst, place_of}
 use Rattle.exec_model.specs.Report.{report}
 use Rattle.exec_model.specs.Rows.{row_in, is_ready, idle_row}
-use Rattle.exec_model.specs.Runs.{IsOfProcess, IsQuiet, AreOfProcesses, MakesEvents, IsNamed, MakesLine, MakesLines, Completes, open_blocks, IsRunTo, moment_after, after}
+use Rattle.exec_model.specs.Runs.{IsOfProcess, IsQuiet, AreOfProcesses, MakesLine, MakesLines, Completes, open_blocks, IsRunTo, moment_after, after}
 use Rattle.exec_rows.specs.declared.scripted.Scripted.{Scripted}
 use Rattle.exec_rows.specs.Checked.{scripted-checked}
 use Rattle.exec_rows.specs.Checks.{checks, scripted}
 use Rattle.exec_rows.specs.Scripting.{as_scripted}
-use Rattle.exec_model.specs.Steps.{request_of, block_groups, touched_groups, IsHolder, IsFree, IsActed, CanAct, CanOpen, block_of, CanBlock, IsAllowed, stepped, IsStep, Steps}
+use Rattle.exec_model.specs.Steps.{request_of, block_groups, touched_groups, IsHolder, IsFree, IsActed, block_of, IsAllowed, stepped, IsStep, Steps}
 
 -- a truth is one of its two
 both : (a b : Bool) → (a || b) ≡ true → (a ≡ true) ⊎ (b ≡ true)

@@ -1,9 +1,9 @@
 -- What is kept of all processes, where that of one changes.
-use Rattle.std.proofs.Common.{◌≡◌, ◌≢◌, ℕ, zero, suc, ◌+◌, ◌<◌, ◌≤◌, List, [], ◌∷◌, ◌++◌, length, map, get_or, set, slice_index, replicate, Option, Some, None, IfSome, true, refl, sym, ap, ap₂, subst, ◌∙◌, arith, get_or-set_other, get_or-set_same, length-set, le_trans, le_of_suc-le-suc, eq-or-lt_of_le, ⊎_elim, inl, inr, le_refl, le_of_eq, add-one}
+use Rattle.std.proofs.Common.{◌≡◌, ℕ, zero, suc, ◌+◌, ◌<◌, ◌≤◌, List, [], ◌∷◌, ◌++◌, length, map, get_or, set, slice_index, replicate, Option, Some, None, IfSome, true, refl, sym, ap, subst, ◌∙◌, arith, get_or-set_other, get_or-set_same, length-set, le_trans, le_of_suc-le-suc, eq-or-lt_of_le, ⊎_elim, le_refl}
 use Rattle.std.proofs.lemmas.List.{get_or_default}
 use Rattle.hal_values.specs.Answers.{Answered}
 use Rattle.exec_model.specs.Moments.{answers_in, pushed_answer}
-use Rattle.exec_model.specs.Processes.{Look, look_at, told_answer, SameLooksBut, SameRoomsBut, NotLower, reserved_room}
+use Rattle.exec_model.specs.Processes.{look_at, told_answer, SameLooksBut, SameRoomsBut, NotLower, reserved_room}
 use Rattle.hal_values.specs.declared.answer.Answer.{Answer}
 use Rattle.hal_values.specs.Loads.{Meaning}
 use Rattle.hal_values.specs.Requests.{HasProcess}

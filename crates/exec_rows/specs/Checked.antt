@@ -1,5 +1,5 @@
 -- A scripted load that checks is what a load is said to be.
-use Rattle.std.proofs.Common.{◌≡◌, ◌≢◌, ℕ, zero, suc, ◌+◌, ◌-◌, ◌<◌, ◌≤◌, ◌==◌, nat_le, nat_lt, Bool, true, false, ◌&&◌, List, [], ◌∷◌, ◌++◌, length, All, Option, Some, None, IsSome, slice_get, slice_index_or, ℤ, pos, negsuc, ◌≤ℤ◌, refl, sym, ap, subst, ◌∙◌, unwrap_or, is_some, ◌^◌, eqb-true, leb-true, ltb-true, eq-eqb, true≢false}
+use Rattle.std.proofs.Common.{◌≡◌, ℕ, zero, suc, ◌+◌, ◌-◌, ◌≤◌, ◌==◌, nat_le, nat_lt, Bool, true, false, ◌&&◌, List, [], ◌∷◌, ◌++◌, length, All, Option, Some, None, IsSome, slice_get, slice_index_or, ℤ, pos, negsuc, ◌≤ℤ◌, refl, sym, ap, subst, ◌∙◌, unwrap_or, is_some, ◌^◌, eqb-true, leb-true, ltb-true, eq-eqb, true≢false}
 use Rattle.std.specs.Int.Signed.{le_z, le_z_yes}
 use Rattle.std.specs.Cmp.Derive.{both_true}
 use Rattle.std.specs.List.{list_all}
@@ -27,7 +27,7 @@ use Rattle.hal_values.specs.declared.value.Kind.{Kind}
 use Rattle.hal_values.specs.declared.value.Kind.TheVariants as kind
 use Rattle.hal_values.specs.declared.value.Value.{Value}
 use Rattle.hal_values.specs.declared.value.Value.TheVariants as value
-use Rattle.hal_values.specs.Answers.{Answered, Begun, Told, Done, Wrong, Block, Killed}
+use Rattle.hal_values.specs.Answers.{Answered, Done, Killed}
 use Rattle.hal_values.specs.Kinds.{IsKind, IsOfKind}
 use Rattle.hal_values.specs.Loads.{IsWritten, IsUpdate, IsLoad, turn_limit}
 use Rattle.hal_values.specs.Requests.{IsTime, IsForCell, HasSpot, IsWhenInOrder, IsCycleInOrder, IsGuardInOrder, IsPlanInOrder, IsPauseInOrder, IsInOrder}
@@ -36,7 +36,7 @@ use Rattle.hal_values.specs.Tables.{process_count, event_count, IsPostfix, IsCel
 use Rattle.exec_rows.specs.declared.scripted.Ask.{Ask}
 use Rattle.exec_rows.specs.declared.scripted.Ask.TheVariants.{Plain, Update}
 use Rattle.exec_rows.specs.declared.scripted.Scripted.{Scripted}
-use Rattle.exec_rows.specs.Checks.{is_between, is_kind, is_of_kind, is_cell, is_postfix, are_tables, is_time, has_expression, has_process, has_event, is_for_cell, has_spot, is_when, is_cycle, is_guard, is_plan, is_pause, is_plain, is_written, is_ask, are_cycles, checks, meaning_if, scripted}
+use Rattle.exec_rows.specs.Checks.{is_between, is_kind, is_of_kind, is_cell, is_postfix, are_tables, is_time, has_process, is_for_cell, has_spot, is_when, is_cycle, is_guard, is_plan, is_pause, is_plain, is_written, is_ask, are_cycles, checks, meaning_if, scripted}
 use Rattle.exec_rows.specs.Scripting.{Point, Before, Within, first_cycle, later_cycles, cycles_left, following, point_then, point_after, ask_request, asked_at, writes_if, ask_block, block_at, point_of, as_scripted}
 
 -- nothing follows of false

@@ -1,8 +1,6 @@
 -- What the processes of a scripted load keep.
-use Rattle.std.specs.Prelude.{◌≡◌, ℕ, List, [], length, map, Bool, true, Option, Some, None}
-use Rattle.hal_values.specs.declared.value.Value.{Value}
+use Rattle.std.specs.Prelude.{ℕ, List, [], map, Option, None}
 use Rattle.hal_values.specs.Answers.{Answered, Begun, Told, Done, Wrong, Block, Killed}
-use Rattle.hal_values.specs.Tables.{process_count}
 use Rattle.exec_model.specs.Processes.{Look}
 use Rattle.exec_rows.specs.declared.kept.Kept.{Kept}
 use Rattle.exec_rows.specs.declared.kept.Kept.TheVariants as kept

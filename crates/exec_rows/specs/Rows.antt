@@ -1,5 +1,5 @@
 -- The loads, scripts and journals of the rows.
-use Rattle.std.specs.Prelude.{ℕ, ◌+◌, ◌*◌, List, [], ◌∷◌, ◌++◌, codes, pos, replicate, true, false}
+use Rattle.std.specs.Prelude.{ℕ, ◌*◌, List, [], ◌∷◌, ◌++◌, codes, pos, replicate, true, false}
 use Rattle.hal_values.specs.declared.plan.Cycle.TheVariants as cycle
 use Rattle.hal_values.specs.declared.plan.Guard.TheVariants as guard
 use Rattle.hal_values.specs.declared.plan.Plan.{Plan}

@@ -1,5 +1,5 @@
 use Rattle.std.specs.Fmt.{digits}
-use Rattle.std.proofs.Common.{◌∷◌, ◌++◌, [], codes, refl}
+use Rattle.std.proofs.Common.{◌∷◌, [], codes, refl}
 use Rattle.exec_rows.specs.Rows.{terminated, terminated_script, terminated_journal}
 use Rattle.exec_rows.proofs.Deciding.{scripted-run}
 use Rattle.exec_rows.proofs.rows.a_block_is_done_before_the_end.Goals as goal

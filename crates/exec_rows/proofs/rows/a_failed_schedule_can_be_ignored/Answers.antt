@@ -1,5 +1,5 @@
 use Rattle.std.specs.Fmt.{digits}
-use Rattle.std.proofs.Common.{◌∷◌, ◌++◌, [], codes, refl}
+use Rattle.std.proofs.Common.{◌∷◌, [], codes, refl}
 use Rattle.exec_rows.specs.Rows.{twice, twice_script, twice_journal}
 use Rattle.exec_rows.proofs.Deciding.{scripted-run}
 use Rattle.exec_rows.proofs.rows.a_failed_schedule_can_be_ignored.Goals as goal

@@ -1,5 +1,5 @@
 use Rattle.std.specs.Fmt.{digits}
-use Rattle.std.proofs.Common.{◌∷◌, ◌++◌, [], codes, refl}
+use Rattle.std.proofs.Common.{◌∷◌, [], codes, refl}
 use Rattle.exec_rows.specs.Rows.{twice_script, stopped, stopped_journal}
 use Rattle.exec_rows.proofs.Deciding.{scripted-run}
 use Rattle.exec_rows.proofs.rows.a_failed_schedule_stops_its_process.Goals as goal

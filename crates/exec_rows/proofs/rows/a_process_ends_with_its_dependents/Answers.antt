@@ -1,5 +1,5 @@
 use Rattle.std.specs.Fmt.{digits}
-use Rattle.std.proofs.Common.{◌∷◌, ◌++◌, [], codes, refl}
+use Rattle.std.proofs.Common.{◌∷◌, [], codes, refl}
 use Rattle.exec_rows.specs.Rows.{acts, terminated, terminated_script}
 use Rattle.exec_rows.proofs.Deciding.{scripted-run}
 use Rattle.exec_rows.proofs.rows.a_process_ends_with_its_dependents.Goals as goal

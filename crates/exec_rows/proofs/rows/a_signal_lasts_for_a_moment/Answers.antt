@@ -1,5 +1,5 @@
 use Rattle.std.specs.Fmt.{digits}
-use Rattle.std.proofs.Common.{◌∷◌, ◌++◌, [], codes, refl}
+use Rattle.std.proofs.Common.{◌∷◌, [], codes, refl}
 use Rattle.exec_rows.specs.Rows.{signalled, signalled_script, signalled_journal}
 use Rattle.exec_rows.proofs.Deciding.{scripted-run}
 use Rattle.exec_rows.proofs.rows.a_signal_lasts_for_a_moment.Goals as goal

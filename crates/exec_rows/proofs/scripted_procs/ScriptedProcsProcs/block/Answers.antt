@@ -1,4 +1,4 @@
-use Rattle.std.proofs.Common.{◌≡◌, ◌<◌, length, get_or, sym, ap, subst, ◌∙◌, refl, Some, le_of_eq}
+use Rattle.std.proofs.Common.{◌≡◌, ◌<◌, length, get_or, sym, ap, subst, ◌∙◌, refl, le_of_eq}
 use Rattle.hal_values.specs.Requests.{HasProcess}
 use Rattle.exec_rows.specs.Checks.{scripted}
 use Rattle.exec_rows.specs.Playing.{Held, nothing_held}
