@@ -1,8 +1,9 @@
 -- A step in the making: what the executive was, and what it is to be.
-use Rattle.std.specs.Prelude.{ℕ, List, [], ◌∷◌, ◌++◌}
+use Rattle.std.specs.Prelude.{◌≡◌, ℕ, List, [], ◌∷◌, ◌++◌}
 use Rattle.hal_values.specs.declared.value.Value.{Value}
 use Rattle.hal_values.specs.Answers.{Answered, Begun, Done, Wrong, Killed}
 use Rattle.hal_values.specs.Answers.{Told as Answer}
+use Rattle.exec_model.specs.declared.state.State.{State}
 use Rattle.exec_model.specs.declared.told.Reply.{Reply}
 use Rattle.exec_model.specs.declared.told.Reply.TheVariants as reply
 use Rattle.exec_model.specs.declared.told.Told.{Told}
@@ -34,3 +35,8 @@ told_all answers (given ∷ others) = told_all (pushed_answer answers given.proc
 abbrev pub data_taken : List (List (List ℕ)) → List ℕ → List (List (List ℕ))
 data_taken input [] = input
 data_taken input (channel ∷ others) = data_taken (datum_taken input channel) others
+
+-- the step in the making has the store of a state, and what is left to be read there
+pub record IsOver (state : State) (draft : Drafted) : Type 0 where
+  pub store : draft.now.store ≡ state.store
+  pub input : draft.now.input ≡ state.input

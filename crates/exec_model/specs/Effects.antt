@@ -141,9 +141,17 @@ finished now row = record row {
 abbrev pub stop_done : ℕ → ErrNo → Moment → Moment
 stop_done p e m = let m' = family_killed p m in with_row p (record (row_of m' p) { status = status.Ending (Error e) }) m'
 
+-- p's cycle is done
+abbrev pub finish_done : ℕ → Row → Moment → Moment
+finish_done p row m = answered p Done (with_row p (finished m.clock row) m)
+
+-- p's cycle begins
+abbrev pub begin_done : ℕ → Row → Moment → Moment
+begin_done p row m = answered p Begun (with_row p (record row { begun = true; started = true }) m)
+
 -- what p's request does, where p has this row. An UPDATE block is opened and done by events of its own; Look and Close are asked inside one alone
 abbrev pub effect : Tables → ℕ → Row → Request → Moment → Moment
-effect tables p row request.Begin m = answered p Begun (with_row p (record row { begun = true; started = true }) m)
+effect tables p row request.Begin m = begin_done p row m
 effect tables p row (request.Read spot) m = answered p (Told (value_at tables m spot)) m
 effect tables p row (request.Write cell v) m = answered p Done (stored cell v m)
 effect tables p row request.Pass m = answered p Done m
@@ -160,6 +168,6 @@ effect tables p row (request.Print channel line) m = answered p Done (printed (c
 effect tables p row (request.Input channel kind) m = input_done p channel kind (slice_index_or m.input channel []) m
 effect tables p row request.Now m = answered p (Told (value.Int (pos (m.clock / 1000)))) m
 effect tables p row (request.Stop e) m = stop_done p e m
-effect tables p row request.Finish m = answered p Done (with_row p (finished m.clock row) m)
+effect tables p row request.Finish m = finish_done p row m
 effect tables p row (request.Look cell) m = m
 effect tables p row (request.Close turns) m = m

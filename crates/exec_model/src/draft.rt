@@ -40,18 +40,18 @@ impl<P: Procs> Model for Draft<P> {
     ghost use Rattle.exec_model.specs.Steps.{written};
 
     ghost view = { λ d. record {
-        base = moment_of d.state.value (P.answers d.procs.value);
-        now = record {
-            store = written d.state.value.store d.writes.items;
-            clock = d.clock;
-            rows = d.rows.items;
-            answers = told_all (P.answers d.procs.value) d.told.items;
-            events = d.events.items;
-            output = d.state.value.output ++ d.line.items;
-            ends = d.state.value.ends ++ d.ends.items;
-            input = data_taken d.state.value.input d.taken.items;
-            stamp = d.stamp;
-        };
+      base = moment_of d.state.value (P.answers d.procs.value);
+      now = record {
+        store = written d.state.value.store d.writes.items;
+        clock = d.clock;
+        rows = d.rows.items;
+        answers = told_all (P.answers d.procs.value) d.told.items;
+        events = d.events.items;
+        output = d.state.value.output ++ d.line.items;
+        ends = d.state.value.ends ++ d.ends.items;
+        input = data_taken d.state.value.input d.taken.items;
+        stamp = d.stamp;
+      };
     } };
 }
 
@@ -81,6 +81,11 @@ impl<P: Procs> Draft<P> {
             writes: Vec::new(alloc),
             taken: Vec::new(alloc),
         })
+    }
+
+    /// The allocator of what the step is to add.
+    pub(crate) fn alloc(&self) -> Global {
+        self.alloc
     }
 
     /// Milliseconds.

@@ -3,10 +3,18 @@
 //! computes them, over any processes.
 #![tactic(auto)]
 
+mod agreement_law;
 mod change;
+mod data;
 mod draft;
+mod effects;
 mod event;
 mod expressions;
+mod killing;
+mod one_lane_law;
+mod opening;
+mod order;
+mod order_law;
 mod plain;
 mod procs;
 mod row;
@@ -19,7 +27,10 @@ mod status;
 mod times;
 mod told;
 
+pub use agreement_law::loads_that_agree_have_equal_runs;
 pub use event::{Event, Journal};
+pub use one_lane_law::one_lane_is_one_run;
+pub use order_law::first_is_an_order;
 pub use plain::Plain;
 pub use procs::Procs;
 pub use row::Row;

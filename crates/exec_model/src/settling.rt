@@ -15,11 +15,7 @@ use hal_values::{Guard, Tables};
 use std::alloc::AllocError;
 
 /// Whether the guard of a process asks for a cancel.
-fn does_guard_ask<P: Procs>(
-    tables: &Tables,
-    draft: &Draft<P>,
-    row: Row,
-) -> Result<bool, AllocError>
+fn does_guard_ask<P: Procs>(tables: &Tables, draft: &Draft<P>, row: Row) -> Result<bool, AllocError>
     ensures { IfOk result (λ asks. asks ≡ guard_asks tables.now draft.now.now row.started row.guard) }
 {
     match row.guard {
@@ -159,4 +155,41 @@ fn make_change<P: Procs>(
             Ok(())
         }
     }
+}
+
+/// The number of the process at a place; it gives up past 256 processes.
+pub(crate) fn process_at(place: usize) -> Result<u8, AllocError>
+    ensures { IfOk result (λ process. process ≡ place) }
+{
+    match u8::try_from(place) {
+        Ok(process) => Ok(process),
+        Err(_) => Err(AllocError),
+    }
+}
+
+/// The lowest row that can change, and its first change.
+fn change_to_make<P: Procs>(
+    tables: &Tables,
+    draft: &Draft<P>,
+) -> Result<Option<(u8, Change)>, AllocError>
+    ensures { IfOk result (λ next. next ≡ next_change tables.now draft.now.now) }
+{
+    for (place, row) in draft.rows().iter().enumerate() {
+        let process = process_at(place)?;
+        if let Some(change) = change_of(tables, draft, process, *row)? {
+            return Ok(Some((process, change)));
+        }
+    }
+    Ok(None)
+}
+
+/// Makes changes until none can be made.
+pub(crate) fn settle_rows<P: Procs>(tables: &Tables, draft: &mut Draft<P>) -> Result<(), AllocError>
+    ensures { OnOk result (draft.new ≡ on (settle tables.now) draft.old) }
+{
+    'changes: while let Some((process, change)) = change_to_make(tables, draft)? {
+        let row = draft.row(process);
+        make_change(draft, process, row, change)?;
+    }
+    Ok(())
 }

@@ -1,10 +1,10 @@
 -- What a load is, and when two loads agree.
 use Rattle.std.specs.Prelude.{◌≡◌, ℕ, ◌≤◌, List, [], ◌∷◌, ◌++◌, Some, All, IsSome}
 use Rattle.hal_values.specs.declared.request.Request.{Request}
-use Rattle.hal_values.specs.declared.request.Request.TheVariants.{Begin, Update}
+use Rattle.hal_values.specs.declared.request.Request.TheVariants.{Begin, Finish, Update}
 use Rattle.hal_values.specs.declared.tables.Tables.{Tables}
 use Rattle.hal_values.specs.declared.value.Value.{Value}
-use Rattle.hal_values.specs.Answers.{Answered, Killed, Ends, Fits}
+use Rattle.hal_values.specs.Answers.{Answered, Done, Killed, Ends, Fits}
 use Rattle.hal_values.specs.Requests.{HasProcess, IsInOrder, IsWrite}
 use Rattle.hal_values.specs.Tables.{IsTables, IsSnapshot}
 
@@ -45,13 +45,14 @@ abbrev pub IsUpdate : Request → Type 0
 IsUpdate (Update groups) = Unit {0}
 IsUpdate asked = ⊥
 
--- what is said of every load: its tables are right; a process asks Begin first and after Killed, and after fitting answers only requests in order;
--- and an UPDATE block that is asked for ends, after one number of turns alone, which keeps the limit of turns, and writes only cells that exist, with
+-- what is said of every load: its tables are right; a process asks Begin first, after Killed and after a finished cycle, and after fitting answers only
+-- requests in order; and an UPDATE block that is asked for ends, after one number of turns alone, which keeps the limit of turns, and writes only cells that exist, with
 -- values of their kind
 pub record IsLoad (q : Meaning) : Type 0 where
   pub right : IsTables q.tables
   pub begins : (p : ℕ) → HasProcess q.tables p → q.next p [] ≡ Begin
   pub restarts : (p : ℕ) (answers : List Answered) → HasProcess q.tables p → FitAll q p answers → q.next p (answers ++ Killed ∷ []) ≡ Begin
+  pub cycles : (p : ℕ) (answers : List Answered) → HasProcess q.tables p → FitAll q p answers → q.next p answers ≡ Finish → q.next p (answers ++ Done ∷ []) ≡ Begin
   pub in_order : (p : ℕ) (answers : List Answered) → HasProcess q.tables p → FitAll q p answers → IsInOrder q.tables (q.next p answers)
   pub writes_right : (p : ℕ) (answers : List Answered) (snapshot : List Value) (turns : ℕ) (writes : List (ℕ × Value)) → HasProcess q.tables p → FitAll q p answers
       → IsSnapshot q.tables.cells snapshot → q.block p answers snapshot turns ≡ Some writes → All (IsWritten q.tables) writes

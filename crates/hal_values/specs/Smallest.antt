@@ -1,14 +1,14 @@
 -- The smallest load: its one process asks Begin, Pass and Finish, and then begins again. It shows that what is said of
 -- every load can be met.
 use Rattle.std.specs.Prelude.{◌≡◌, ℕ, List, [], ◌∷◌, ◌++◌, Option, Some, None, codes}
-use Rattle.std.proofs.Common.{refl, ap, subst}
+use Rattle.std.proofs.Common.{refl, ap, subst, ◌∙◌}
 use Rattle.std.proofs.lemmas.Bool.{leb-true, ltb-true}
 use Rattle.std.proofs.lemmas.List.Elements.{All-nil}
 use Rattle.hal_values.specs.declared.request.Request.{Request}
 use Rattle.hal_values.specs.declared.request.Request.TheVariants as request
 use Rattle.hal_values.specs.declared.tables.Tables.{Tables}
 use Rattle.hal_values.specs.declared.value.Value.{Value}
-use Rattle.hal_values.specs.Answers.{Answered, Killed}
+use Rattle.hal_values.specs.Answers.{Answered, Done, Killed}
 use Rattle.hal_values.specs.Requests.{IsInOrder}
 use Rattle.hal_values.specs.Loads.{Meaning, IsLoad, IsUpdate}
 
@@ -64,6 +64,17 @@ point_after-killed : (answers : List Answered) (point : Point) → point_after (
 point_after-killed [] point = refl
 point_after-killed (given ∷ later) point = point_after-killed later (point_then given point)
 
+-- after one more answer
+point_after-push : (answers : List Answered) (given : Answered) (point : Point) → point_after (answers ++ given ∷ []) point ≡ point_then given (point_after answers point)
+point_after-push [] given point = refl
+point_after-push (first ∷ later) given point = point_after-push later given (point_then first point)
+
+-- a point at which Finish is asked is followed by one at which Begin is
+begins_after : (point : Point) → asked_at point ≡ request.Finish → asked_at (point_then Done point) ≡ request.Begin
+begins_after AtBegin e = cc
+begins_after AtPass e = cc
+begins_after AtFinish e = refl
+
 asked_in_order : (point : Point) → IsInOrder smallest_tables (asked_at point)
 asked_in_order AtBegin = tt
 asked_in_order AtPass = tt
@@ -88,6 +99,7 @@ smallest_is_load = record {
   right = record { few_cells = leb-true 0 _ refl; few_processes = leb-true 1 _ refl; few_events = leb-true 0 _ refl; cells = All-nil _; expressions = All-nil _; first = ltb-true 0 1 refl };
   begins = λ p exists. refl;
   restarts = λ p answers exists fit. ap asked_at (point_after-killed answers AtBegin);
+  cycles = λ p answers exists fit e. ap asked_at (point_after-push answers Done AtBegin) ∙ begins_after (point_after answers AtBegin) e;
   in_order = λ p answers exists fit. asked_in_order (point_after answers AtBegin);
   writes_right = λ p answers snapshot turns writes exists fit full e. absurd (no_writes writes e);
   few_turns = λ p answers snapshot turns writes exists fit full e. absurd (no_writes writes e);

@@ -17,6 +17,7 @@ impl Model for Text {
 
 impl Text {
     ghost use Rattle.std.specs.Prelude.{◌≡◌, ◌<◌, ◌≤◌, [], ◌∷◌, ◌++◌, length};
+    ghost use Rattle.std.specs.Option.{SomeIff};
 
     /// The empty text.
     pub fn new() -> Text
@@ -24,6 +25,17 @@ impl Text {
     {
         Text {
             bytes: ArrayVec::new(),
+        }
+    }
+
+    /// The text of these bytes, where they aren't too many.
+    pub fn of(bytes: &[u8]) -> Option<Text>
+        ensures { SomeIff result (length bytes.now ≤ 255) bytes.now }
+    {
+        let mut text = ArrayVec::new();
+        match text.try_extend_from_slice(bytes) {
+            Ok(()) => Some(Text { bytes: text }),
+            Err(_) => None,
         }
     }
 
