@@ -301,6 +301,7 @@ checks-load load e =
     record {
       right = are_tables-tables load.tables parts.0;
       begins = λ p exists. refl;
+      cycles = λ p answers exists fit asked. cycles-begin load e p answers asked;
       restarts = λ p answers exists fit. ap asked_at (point_after-push answers Killed (Before (slice_index_or load.bodies p [])));
       in_order = λ p answers exists fit. asked_at-in_order load.tables (point_of load.bodies p answers) (right p answers);
       writes_right = λ p answers snapshot turns writes exists fit full found. (block_at-block load.tables (point_of load.bodies p answers) turns writes (right p answers) found).0;
