@@ -2,10 +2,14 @@
 //! them: computed from the definitions alone.
 #![tactic(auto)]
 
+#[cfg(test)]
+mod checked;
 mod checking;
 mod copies;
 mod desk;
 mod kept;
+#[cfg(test)]
+mod loads;
 mod place;
 mod rows;
 mod scripted;
