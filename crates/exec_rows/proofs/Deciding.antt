@@ -25,7 +25,7 @@ use Rattle.exec_rows.specs.Checks.{checks, scripted}
 use Rattle.exec_rows.specs.Scripting.{as_scripted}
 use Rattle.exec_model.specs.Steps.{request_of, block_groups, touched_groups, IsHolder, IsFree, IsActed, block_of, IsAllowed, stepped, IsStep, Steps}
 
--- a truth is one of its two
+-- where one of two is true, this one is or that one
 both : (a b : Bool) → (a || b) ≡ true → (a ≡ true) ⊎ (b ≡ true)
 both true b e = inl refl
 both false b e = inr e
@@ -59,6 +59,7 @@ is_update asked = false
 abbrev pub is_early : ℕ → List Row → ℕ → Bool
 is_early lanes rows p = is_ready (row_in rows p) && nat_lt (place_of rows p) lanes
 
+-- there is something
 abbrev pub is_found : {A : Type 0} → Option A → Bool
 is_found None = false
 is_found (Some v) = true
@@ -76,6 +77,7 @@ abbrev pub makes_steps : Meaning → ℕ → Moment → List Event → (Moment �
 makes_steps q lanes m [] then_ = then_ m
 makes_steps q lanes m (happens ∷ events) then_ = elim (allows q lanes m happens) [ true ↦ makes_steps q lanes (stepped q m happens) events then_ | false ↦ false ]
 
+-- the event is one of a process
 abbrev pub is_of_process : Event → Bool
 is_of_process (event.Act p) = true
 is_of_process (event.Open p) = true
@@ -83,6 +85,7 @@ is_of_process (event.Block p turns) = true
 is_of_process (event.Tick time) = false
 is_of_process (event.Preempt p) = false
 
+-- each event is one of a process
 abbrev pub are_of_processes : List Event → Bool
 are_of_processes [] = true
 are_of_processes (happens ∷ events) = is_of_process happens && are_of_processes events
@@ -170,19 +173,23 @@ is_free-free q m p e o holder = split (nat_lt o (length m.rows)) refl where
   split true is = none_holds-free q m p (touched_groups q.tables (request_of q m p)) (length m.rows) e o (ltb-true o (length m.rows) is) holder
   split false is = no_row q m p (touched_groups q.tables (request_of q m p)) o (ltb-false o (length m.rows) is) holder
 
+-- a request that is found to be answered by Act is
 is_acted-acted : (asked : Request) → is_acted asked ≡ true → IsActed asked
 is_acted-acted (request.Update groups) e = absurd (true≢false (sym e))
 is_acted-acted (request.Look cell) e = absurd (true≢false (sym e))
 is_acted-acted (request.Close turns) e = absurd (true≢false (sym e))
 is_acted-acted asked e = tt
 
+-- a request that is found to be an UPDATE block is one
 is_update-update : (asked : Request) → is_update asked ≡ true → IsUpdate asked
 is_update-update (request.Update groups) e = tt
 is_update-update asked e = absurd (true≢false (sym e))
 
+-- a process that is found among the first is one of them
 is_early-early : (lanes : ℕ) (rows : List Row) (p : ℕ) → is_early lanes rows p ≡ true → IsInFirst lanes rows p
 is_early-early lanes rows p e = let parts = and_parts (is_ready (row_in rows p)) _ e in record { ready = parts.0; early = ltb-true (place_of rows p) lanes parts.1 }
 
+-- what is found is there
 is_found-some : {A : Type 0} (v : Option A) → is_found v ≡ true → IsSome v
 is_found-some None e = absurd (true≢false (sym e))
 is_found-some (Some v) e = refl
@@ -223,6 +230,7 @@ makes_steps-steps q lanes m [] then_ e = (refl, e)
 makes_steps-steps q lanes m (happens ∷ events) then_ e =
     makes_steps-one q lanes m happens events then_ (allows q lanes m happens) refl (makes_steps-steps q lanes (stepped q m happens) events then_) e
 
+-- events that are found to be of processes are
 are_of_processes-are : (events : List Event) → are_of_processes events ≡ true → AreOfProcesses events
 are_of_processes-are [] e = tt
 are_of_processes-are (happens ∷ events) e = let parts = and_parts (is_of_process happens) _ e in (is_of_process-is happens parts.0, are_of_processes-are events parts.1) where
@@ -251,11 +259,13 @@ same_name-self : (a : List ℕ) → same_name a a ≡ true
 same_name-self [] = refl
 same_name-self (a ∷ as_) = both_true (eq-eqb a a refl) (same_name-self as_)
 
+-- the place that is found has the name
 is_place_of-named : (names : List (List ℕ)) (name : List ℕ) (p : ℕ) → is_place_of names name p ≡ true → slice_get names p ≡ Some name
 is_place_of-named [] name p e = absurd (true≢false (sym e))
 is_place_of-named (first ∷ names) name zero e = ap Some (same_name-equal first name e)
 is_place_of-named (first ∷ names) name (suc p) e = is_place_of-named names name p (and_parts (not (same_name first name)) _ e).1
 
+-- no place before the one that is found has the name
 is_place_of-lowest : (names : List (List ℕ)) (name : List ℕ) (p : ℕ) → is_place_of names name p ≡ true → (o : ℕ) → o < p → slice_get names o ≢ Some name
 is_place_of-lowest [] name p e o below is = true≢false (sym e)
 is_place_of-lowest (first ∷ names) name zero e o below is = omega (arith, below)
@@ -331,6 +341,7 @@ completes-completes q lanes m (p ∷ processes) (event.Block o turns ∷ events)
     )
 completes-completes q lanes m processes events then_ e = absurd (true≢false (sym e))
 
+-- the events after those of the lines stand at the end
 joined-append : (fronts : List (List Event)) (rest : List Event) → joined fronts rest ≡ joined fronts [] ++ rest
 joined-append [] rest = refl
 joined-append (front ∷ fronts) rest = ap (λ x. front ++ x) (joined-append fronts rest) ∙ sym (append_assoc front (joined fronts []) rest)

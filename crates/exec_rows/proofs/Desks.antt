@@ -32,35 +32,45 @@ map_same f [] p x d below e = refl
 map_same f (y ∷ ys) zero x d below e = ap (λ z. z ∷ map f ys) e
 map_same f (y ∷ ys) (suc p) x d below e = ap (λ zs. f y ∷ zs) (map_same f ys p x d (le_of_suc-le-suc below) e)
 
+-- the room of a process is that of its desk
 pub room_at : (desks : List Held) (p : ℕ) → slice_index (all_rooms desks) p ≡ (get_or desks p nothing_held).room
 room_at desks p = map_get (λ (desk : Held). desk.room) desks p nothing_held
 
+-- the last look of a process is that of its desk
 pub look_of : (desks : List Held) (p : ℕ) → look_at (all_looks desks) p ≡ (get_or desks p nothing_held).look
 look_of desks p = map_get (λ (desk : Held). desk.look) desks p nothing_held
 
+-- the answers of a process are those of its desk
 pub answers_at : (desks : List Held) (p : ℕ) → answers_in (all_answers desks) p ≡ (get_or desks p nothing_held).answers
 answers_at desks p = map_get (λ (desk : Held). desk.answers) desks p nothing_held
 
+-- a desk with the same answers leaves all answers as they are
 pub answers_same : (desks : List Held) (p : ℕ) (new : Held) → p < length desks → new.answers ≡ (get_or desks p nothing_held).answers → all_answers (set desks p new) ≡ all_answers desks
 answers_same desks p new below e = map_same (λ (desk : Held). desk.answers) desks p new nothing_held below e
 
+-- a desk with the same look leaves all looks as they are
 pub looks_same : (desks : List Held) (p : ℕ) (new : Held) → p < length desks → new.look ≡ (get_or desks p nothing_held).look → all_looks (set desks p new) ≡ all_looks desks
 looks_same desks p new below e = map_same (λ (desk : Held). desk.look) desks p new nothing_held below e
 
+-- a desk with one answer more gives its process that answer
 pub answers_pushed : (desks : List Held) (p : ℕ) (new : Held) (given : Answered) → new.answers ≡ (get_or desks p nothing_held).answers ++ given ∷ [] → all_answers (set desks p new) ≡ pushed_answer (all_answers desks) p given
 answers_pushed desks p new given e =
     map_set (λ (desk : Held). desk.answers) desks p new
     ∙ ap (λ answers. set (all_answers desks) p answers) (e ∙ ap (λ answers. answers ++ given ∷ []) (sym (answers_at desks p)))
 
+-- the last look of a process is that of its new desk
 pub look_set : (desks : List Held) (p : ℕ) (new : Held) → p < length desks → look_at (all_looks (set desks p new)) p ≡ new.look
 look_set desks p new below = look_of (set desks p new) p ∙ ap (λ (desk : Held). desk.look) (get_or-set_same desks p new nothing_held below)
 
+-- the room of a process is that of its new desk
 pub room_set : (desks : List Held) (p : ℕ) (new : Held) → p < length desks → slice_index (all_rooms (set desks p new)) p ≡ new.room
 room_set desks p new below = room_at (set desks p new) p ∙ ap (λ (desk : Held). desk.room) (get_or-set_same desks p new nothing_held below)
 
+-- a new desk leaves the looks of all others
 pub looks_other : (desks : List Held) (p : ℕ) (new : Held) → SameLooksBut p (all_looks desks) (all_looks (set desks p new))
 looks_other desks p new o other = look_of (set desks p new) o ∙ ap (λ (desk : Held). desk.look) (get_or-set_other desks p o new nothing_held other) ∙ sym (look_of desks o)
 
+-- a new desk leaves the rooms of all others
 pub rooms_other : (desks : List Held) (p : ℕ) (new : Held) → SameRoomsBut p (all_rooms desks) (all_rooms (set desks p new))
 rooms_other desks p new o other = room_at (set desks p new) o ∙ ap (λ (desk : Held). desk.room) (get_or-set_other desks p o new nothing_held other) ∙ sym (room_at desks o)
 
@@ -68,6 +78,7 @@ rooms_other desks p new o other = room_at (set desks p new) o ∙ ap (λ (desk :
 pub rooms_refl : (rooms : List ℕ) → NotLower rooms rooms
 rooms_refl rooms p = le_refl _
 
+-- no room becomes lower in two steps
 pub rooms_trans : (a b c : List ℕ) → NotLower a b → NotLower b c → NotLower a c
 rooms_trans a b c first second p = omega (arith, first p, second p)
 
@@ -88,6 +99,7 @@ has_desk load desks p playing exists =
 pub desk_at : (desks : List Held) (p : ℕ) (desk : Held) → p < length desks → desk ≡ get_or desks p desk → get_or desks p nothing_held ≡ desk
 desk_at desks p desk below is = get_or_default desks p nothing_held desk below ∙ sym is
 
+-- what follows of something holds of it
 if_some_weaker : {A : Type 0} (o : Option A) (P Q : A → Type 0) → ((x : A) → P x → Q x) → IfSome o P → IfSome o Q
 if_some_weaker None P Q tells given = tt
 if_some_weaker (Some x) P Q tells given = tells x given

@@ -77,12 +77,15 @@ are_tables tables =
 abbrev pub is_time : ℤ → Bool
 is_time t = is_between (negsuc 2147483647999) t (pos time_limit)
 
+-- the event expression exists
 abbrev pub has_expression : Tables → ℕ → Bool
 has_expression tables x = nat_lt x (length tables.expressions)
 
+-- the process exists
 abbrev pub has_process : Tables → ℕ → Bool
 has_process tables p = nat_lt p (process_count tables)
 
+-- the event exists
 abbrev pub has_event : Tables → ℕ → Bool
 has_event tables e = nat_lt e (event_count tables)
 
@@ -91,34 +94,41 @@ abbrev pub is_for_cell : Option Cell → Value → Bool
 is_for_cell None v = false
 is_for_cell (Some cell) v = is_of_kind cell.kind v
 
+-- the cell of this number exists, and the value is of its kind
 abbrev pub is_write : Tables → ℕ → Value → Bool
 is_write tables cell v = is_for_cell (slice_get tables.cells cell) v
 
+-- what is read exists
 abbrev pub has_spot : Tables → Spot → Bool
 has_spot tables (spot.Cell cell) = nat_lt cell (length tables.cells)
 has_spot tables (spot.Event e) = has_event tables e
 
+-- what the start names exists, and its time is within the limit
 abbrev pub is_when : Tables → When → Bool
 is_when tables when.Now = true
 is_when tables (when.At t) = is_time t
 is_when tables (when.After t) = is_time t
 is_when tables (when.On x) = has_expression tables x
 
+-- the time between cycles is within the limit
 abbrev pub is_cycle : Cycle → Bool
 is_cycle cycle.Once = true
 is_cycle cycle.Again = true
 is_cycle (cycle.Every t) = nat_le t time_limit
 is_cycle (cycle.After t) = nat_le t time_limit
 
+-- what the guard names exists, and its time is within the limit
 abbrev pub is_guard : Tables → Guard → Bool
 is_guard tables guard.Free = true
 is_guard tables (guard.While x) = has_expression tables x
 is_guard tables (guard.Until x) = has_expression tables x
 is_guard tables (guard.UntilTime t) = is_time t
 
+-- what the plan names exists, and its times are within the limit
 abbrev pub is_plan : Tables → Plan → Bool
 is_plan tables plan = (has_process tables plan.process && is_when tables plan.when) && (is_cycle plan.cycle && is_guard tables plan.guard)
 
+-- what the wait names exists, and its time is within the limit
 abbrev pub is_pause : Tables → Pause → Bool
 is_pause tables (pause.For t) = is_time t
 is_pause tables (pause.Till t) = is_time t
@@ -148,6 +158,7 @@ is_plain tables request.Finish = false
 is_plain tables (request.Look cell) = false
 is_plain tables (request.Close turns) = false
 
+-- a cell that exists gets a value of its kind
 abbrev pub is_written : Tables → (ℕ × Value) → Bool
 is_written tables written = is_write tables written.0 written.1
 

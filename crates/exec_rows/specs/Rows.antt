@@ -77,6 +77,7 @@ twice = record {
       ∷ [];
 }
 
+-- `RUN 50`
 abbrev pub twice_script : List ScriptLine
 twice_script = line.Run 50 ∷ []
 
@@ -135,6 +136,7 @@ signalled = record {
       ∷ [];
 }
 
+-- `RUN 50`
 abbrev pub signalled_script : List ScriptLine
 signalled_script = line.Run 50 ∷ []
 
@@ -159,6 +161,7 @@ cancelled = record {
       ∷ [];
 }
 
+-- `RUN 100`, `TICK 500`, `RUN 100`
 abbrev pub cancelled_script : List ScriptLine
 cancelled_script = line.Run 100 ∷ line.Tick 500 ∷ line.Run 100 ∷ []
 
@@ -176,6 +179,7 @@ terminated = record {
       ∷ [];
 }
 
+-- `RUN` with this count
 abbrev pub terminated_script : ℕ → List ScriptLine
 terminated_script count = line.Run count ∷ []
 
@@ -194,6 +198,7 @@ preempted = record {
       ∷ [];
 }
 
+-- `RUN 6`, `PREEMPT P.A`, `RUN 100`
 abbrev pub preempted_script : List ScriptLine
 preempted_script = line.Run 6 ∷ line.Preempt (codes "P.A") ∷ line.Run 100 ∷ []
 
@@ -211,6 +216,7 @@ guarded = record {
       ∷ [];
 }
 
+-- `RUN 20`, with `TICK 1000` twice between
 abbrev pub guarded_script : List ScriptLine
 guarded_script = line.Run 20 ∷ line.Tick 1000 ∷ line.Run 20 ∷ line.Tick 1000 ∷ line.Run 20 ∷ []
 
