@@ -12,8 +12,6 @@ use Rattle.exec_model.specs.declared.row.Row.{Row}
 use Rattle.exec_model.specs.Drafts.{Drafted, on, unchanged, closing_of}
 use Rattle.exec_model.specs.Effects.{effect}
 use Rattle.exec_model.specs.Moments.{Moment, row_of, answers_of, with_row}
-use Rattle.exec_model.specs.Order.{IsInFirst}
-use Rattle.exec_model.specs.Rows.{row_in}
 use Rattle.exec_model.specs.Settling.{settle}
 use Rattle.exec_model.specs.Sound.{IsSound}
 use Rattle.exec_model.specs.Steps.{CanBlock, request_of, stepped, event_done, block_of, block_done, block_left, written}

@@ -22,3 +22,4 @@ pub mod Sharing
 pub mod Few
 pub mod Tellings
 pub mod Drafted
+pub mod Runnings

@@ -1,5 +1,5 @@
 -- The loops over processes that count and find.
-use Rattle.std.proofs.Common.{◌≡◌, ℕ, suc, ◌+◌, ◌-◌, ◌<◌, Bool, true, false, cond, List, length, count_by, ap, sym, subst, refl, arith}
+use Rattle.std.proofs.Common.{◌≡◌, ℕ, suc, ◌+◌, ◌-◌, ◌<◌, Bool, true, false, cond, List, length, count_by, ap, subst, refl, arith}
 use Rattle.std.specs.List.{range_with_len}
 use Rattle.exec_model.specs.declared.row.Row.{Row}
 use Rattle.exec_model.specs.Order.{IsInFirst}

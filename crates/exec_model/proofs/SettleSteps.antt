@@ -1,5 +1,5 @@
 -- One turn of the loop that makes changes.
-use Rattle.std.proofs.Common.{◌≡◌, ℕ, ◌<◌, Some, sym, subst, ap, ◌∙◌, refl}
+use Rattle.std.proofs.Common.{◌≡◌, ℕ, ◌<◌, Some, sym, subst, ap, ◌∙◌}
 use Rattle.hal_values.specs.declared.tables.Tables.{Tables}
 use Rattle.exec_model.specs.declared.change.Change.{Change}
 use Rattle.exec_model.specs.declared.row.Row.{Row}

@@ -1,6 +1,6 @@
 -- A moment stays sound where rows change by themselves.
-use Rattle.std.specs.Prelude.{◌≡◌, ℕ, Bool, true, false, not, ◌&&◌, List, [], ◌∷◌, ◌++◌, length, slice_set, Option, Some, None}
-use Rattle.std.proofs.Common.{sym, subst, refl, ap, ◌∙◌, inl, inr}
+use Rattle.std.specs.Prelude.{◌≡◌, ℕ, true, false, not, ◌&&◌, List, [], ◌∷◌, ◌++◌, Some}
+use Rattle.std.proofs.Common.{sym, refl, ap, ◌∙◌, inr}
 use Rattle.std.proofs.lemmas.Bool.{and_parts, not-true}
 use Rattle.std.proofs.lemmas.List.{set-get_or}
 use Rattle.hal_values.specs.declared.request.Request.{Request}
@@ -8,9 +8,8 @@ use Rattle.hal_values.specs.declared.request.Request.TheVariants as request
 use Rattle.hal_values.specs.declared.tables.Tables.{Tables}
 use Rattle.hal_values.specs.Answers.{Answered, Done, Ends, FitsAlive}
 use Rattle.hal_values.specs.Fitting.{FitAll-push}
-use Rattle.hal_values.specs.Loads.{Meaning, FitAll}
+use Rattle.hal_values.specs.Loads.{Meaning}
 use Rattle.hal_values.specs.Requests.{HasProcess}
-use Rattle.hal_values.specs.Tables.{process_count}
 use Rattle.exec_model.specs.declared.change.Change.{Change}
 use Rattle.exec_model.specs.declared.change.Change.TheVariants.{Cancels, Drops, Leaves, Readies}
 use Rattle.exec_model.specs.declared.row.Row.{Row}

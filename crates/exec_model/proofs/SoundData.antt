@@ -1,5 +1,5 @@
 -- Which values are read from a store, a clock or a script.
-use Rattle.std.specs.Prelude.{◌≡◌, ℕ, zero, suc, ◌+◌, ◌-◌, ◌*◌, ◌/◌, ◌^◌, ◌<◌, ◌≤◌, ◌==◌, nat_le, Bool, true, false, ◌&&◌, ◌||◌, List, [], ◌∷◌, length, fold, Option, Some, None, slice_get, slice_set, slice_index_or, All, ℤ, pos, negsuc, neg_ℤ, ◌≤ℤ◌}
+use Rattle.std.specs.Prelude.{◌≡◌, ℕ, zero, suc, ◌+◌, ◌-◌, ◌*◌, ◌/◌, ◌^◌, ◌<◌, ◌≤◌, ◌==◌, nat_le, Bool, true, false, ◌&&◌, List, [], ◌∷◌, length, fold, Option, Some, None, slice_get, slice_set, slice_index_or, All, ℤ, pos, neg_ℤ}
 use Rattle.std.specs.List.{list_all}
 use Rattle.std.proofs.Common.{subst, refl, inl, inr, arith}
 use Rattle.std.proofs.Math.Nat.{two-pow-succ}
@@ -16,7 +16,7 @@ use Rattle.hal_values.specs.declared.value.Kind.{Kind}
 use Rattle.hal_values.specs.declared.value.Kind.TheVariants as kind
 use Rattle.hal_values.specs.declared.value.Value.{Value}
 use Rattle.hal_values.specs.declared.value.Value.TheVariants as value
-use Rattle.hal_values.specs.Kinds.{IsOfKind, IsInteger, IsDatum, IsBits}
+use Rattle.hal_values.specs.Kinds.{IsInteger, IsDatum, IsBits}
 use Rattle.hal_values.specs.Loads.{IsWritten}
 use Rattle.hal_values.specs.Requests.{IsForCell, HasSpot, IsOfSpot}
 use Rattle.hal_values.specs.Tables.{IsSnapshot}

@@ -1,6 +1,6 @@
 -- What a request does keeps a moment sound.
-use Rattle.std.specs.Prelude.{◌≡◌, ◌≢◌, ℕ, ◌+◌, ◌-◌, ◌<◌, ◌≤◌, nat_lt, nat_le, Bool, true, false, List, [], ◌∷◌, ◌++◌, length, slice_index_or, slice_set, Option, Some, None}
-use Rattle.std.proofs.Common.{sym, subst, refl, ap, ◌∙◌, inl, inr, ⊎_elim, arith}
+use Rattle.std.specs.Prelude.{◌≡◌, ◌≢◌, ℕ, ◌<◌, ◌≤◌, nat_lt, nat_le, Bool, true, false, List, [], ◌∷◌, ◌++◌, length, slice_index_or, slice_set, Option, Some, None}
+use Rattle.std.proofs.Common.{sym, subst, refl, ap, ◌∙◌, inl, inr, ⊎_elim}
 use Rattle.std.proofs.lemmas.Bool.{cases_eq, cases_lt, cond_both}
 use Rattle.std.proofs.lemmas.List.{length-set, get_or_past, get_or-set_same}
 use Rattle.std.proofs.lemmas.Option.{same_Some}
@@ -18,14 +18,13 @@ use Rattle.hal_values.specs.declared.request.Request.TheVariants as request
 use Rattle.hal_values.specs.declared.tables.Tables.{Tables}
 use Rattle.hal_values.specs.declared.value.Kind.{Kind}
 use Rattle.hal_values.specs.declared.value.Value.{Value}
-use Rattle.hal_values.specs.Answers.{Answered, Begun, Told, Done, Wrong, Killed, Ends, error, FitsAlive}
+use Rattle.hal_values.specs.Answers.{Answered, Begun, Told, Done, Wrong, error, FitsAlive}
 use Rattle.hal_values.specs.Fitting.{FitAll-push}
-use Rattle.hal_values.specs.Kinds.{IsDatum}
 use Rattle.hal_values.specs.Loads.{Meaning, IsLoad, FitAll}
 use Rattle.hal_values.specs.Requests.{HasProcess, IsInOrder}
 use Rattle.hal_values.specs.Tables.{process_count, IsSnapshot}
 use Rattle.exec_model.specs.declared.row.Row.{Row}
-use Rattle.exec_model.specs.declared.status.How.TheVariants.{Closed, Cancelled, Error}
+use Rattle.exec_model.specs.declared.status.How.TheVariants.{Cancelled, Error}
 use Rattle.exec_model.specs.declared.status.Status.{Status}
 use Rattle.exec_model.specs.declared.status.Status.TheVariants as status
 use Rattle.exec_model.specs.Data.{datum_value}
@@ -40,8 +39,8 @@ use Rattle.exec_model.specs.Steps.{request_of}
 use Rattle.exec_model.specs.Times.{not_before, later}
 use Rattle.exec_model.proofs.SoundData.{snapshot-set, value_at-is, seconds-integer, datum_value-datum}
 use Rattle.exec_model.proofs.SoundKilling.{HasEnded, family_killed-sound, family_killed-other, family_killed-ends}
-use Rattle.exec_model.proofs.SoundSettling.{IsSameAt, with_row-other, settle-sound, IsGoing, GoesOn, settle-goes_on}
-use Rattle.exec_model.proofs.Soundness.{IsRowSound, IsSound-row, IsSound-same, with_row-sound, answered-sound, answered-with_row-sound, IsRowSound-begins, IsRowSound-ready, IsRowSound-same, begins_outside, asks_begun, is_ready-others}
+use Rattle.exec_model.proofs.SoundSettling.{IsSameAt, with_row-other, settle-sound, GoesOn, settle-goes_on}
+use Rattle.exec_model.proofs.Soundness.{IsSound-row, IsSound-same, with_row-sound, answered-sound, answered-with_row-sound, IsRowSound-begins, IsRowSound-ready, IsRowSound-same, asks_begun}
 
 -- the process is Ready and outside a block at a sound moment, and asks this
 pub record IsActing (q : Meaning) (m : Moment) (p : ℕ) (asked : Request) : Type 0 where

@@ -1,39 +1,36 @@
 -- An event keeps a moment sound, and moves the clock as far as a Tick says.
-use Rattle.std.specs.Prelude.{◌≡◌, ℕ, ◌+◌, ◌≤◌, Bool, true, false, List, [], ◌∷◌, ◌++◌, length, Option, Some, None, IsSome, slice_set, suc}
+use Rattle.std.specs.Prelude.{◌≡◌, ℕ, ◌+◌, ◌≤◌, true, false, List, [], ◌∷◌, ◌++◌, Option, Some, None, IsSome, slice_set, suc}
 use Rattle.std.proofs.Common.{sym, subst, refl, ap, ◌∙◌, inr, arith}
 use Rattle.std.proofs.lemmas.Bool.{cond_both}
 use Rattle.std.proofs.lemmas.List.{get_or-set_same, set-set}
 use Rattle.hal_base.specs.declared.limits.TheConstants.{TICK_SUM_LIMIT}
-use Rattle.hal_values.specs.declared.environment.ErrNo.{ErrNo}
-use Rattle.hal_values.specs.declared.plan.Plan.{Plan}
 use Rattle.hal_values.specs.declared.request.Request.{Request}
 use Rattle.hal_values.specs.declared.request.Request.TheVariants as request
 use Rattle.hal_values.specs.declared.tables.Tables.{Tables}
 use Rattle.hal_values.specs.declared.value.Kind.{Kind}
 use Rattle.hal_values.specs.declared.value.Value.{Value}
-use Rattle.hal_values.specs.Answers.{Answered, Block, Killed, Ends, FitsAlive}
+use Rattle.hal_values.specs.Answers.{Block, Killed, Ends, FitsAlive}
 use Rattle.hal_values.specs.Fitting.{FitAll-push, FitAll-killed}
 use Rattle.hal_values.specs.Loads.{Meaning, IsLoad, FitAll, IsUpdate}
 use Rattle.hal_values.specs.Requests.{HasProcess}
-use Rattle.hal_values.specs.Tables.{process_count, IsSnapshot}
+use Rattle.hal_values.specs.Tables.{IsSnapshot}
 use Rattle.exec_model.specs.declared.event.Event.{Event}
 use Rattle.exec_model.specs.declared.event.Event.TheVariants as event
 use Rattle.exec_model.specs.declared.row.Row.{Row}
 use Rattle.exec_model.specs.declared.status.How.TheVariants.{Terminated}
 use Rattle.exec_model.specs.declared.status.Status.{Status}
 use Rattle.exec_model.specs.declared.status.Status.TheVariants as status
-use Rattle.exec_model.specs.Effects.{schedule_done, cancel_done, terminate_done, wait_status, wait_begun, priority_done, input_done, effect}
+use Rattle.exec_model.specs.Effects.{terminate_done, wait_status, wait_begun, input_done, effect}
 use Rattle.exec_model.specs.Killing.{family, is_of_family, family_killed}
-use Rattle.exec_model.specs.Moments.{Moment, row_of, answers_of, answers_in, with_row, answered, pushed_answer, made_ready, event_of, with_event}
-use Rattle.exec_model.specs.Rows.{row_in, idle_row, is_active, is_ready, is_ready_status, is_waiting}
-use Rattle.exec_model.specs.Settling.{settle}
-use Rattle.exec_model.specs.Sound.{IsSound, KeepsClock, is_between}
-use Rattle.exec_model.specs.Steps.{request_of, IsAllowed, CanAct, CanOpen, CanBlock, block_of, written, block_left, block_done, preempted, event_done, stepped}
+use Rattle.exec_model.specs.Moments.{Moment, row_of, answers_of, answers_in, with_row, answered, made_ready, with_event}
+use Rattle.exec_model.specs.Rows.{is_active, is_ready, is_ready_status}
+use Rattle.exec_model.specs.Sound.{IsSound, KeepsClock}
+use Rattle.exec_model.specs.Steps.{request_of, IsAllowed, CanAct, CanOpen, CanBlock, block_of, written, block_done, preempted, event_done, stepped}
 use Rattle.exec_model.proofs.SoundData.{written-snapshot}
-use Rattle.exec_model.proofs.SoundEffects.{IsActing, ready-exists, effect-sound}
+use Rattle.exec_model.proofs.SoundEffects.{ready-exists, effect-sound}
 use Rattle.exec_model.proofs.SoundKilling.{all_killed-outside}
 use Rattle.exec_model.proofs.SoundSettling.{settle-sound, settle-clock}
-use Rattle.exec_model.proofs.Soundness.{IsRowSound, IsSound-row, IsSound-set, IsSound-same, with_row-sound, made_ready-sound, IsRowSound-begins, IsRowSound-ready, IsRowSound-same, begins_no_block, asks_begun, is_ready-others}
+use Rattle.exec_model.proofs.Soundness.{IsSound-row, IsSound-set, IsSound-same, with_row-sound, made_ready-sound, IsRowSound-begins, IsRowSound-ready, IsRowSound-same, begins_no_block, asks_begun}
 
 -- an Act keeps a moment sound
 act-sound : (q : Meaning) (lanes : ℕ) (m : Moment) (p : ℕ) → IsLoad q → IsSound q m → CanAct q lanes m p → IsSound q (event_done q m (event.Act p))

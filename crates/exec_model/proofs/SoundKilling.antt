@@ -1,12 +1,12 @@
 -- A moment stays sound where processes are killed, and which rows stay as they are.
-use Rattle.std.specs.Prelude.{◌≡◌, ◌≢◌, ℕ, zero, suc, ◌+◌, ◌<◌, ◌≤◌, ◌==◌, Bool, true, false, ◌||◌, List, [], ◌∷◌, ◌++◌, length, slice_index_or, filter, Option, Some, None, All, Contains, cond}
+use Rattle.std.specs.Prelude.{◌≡◌, ◌≢◌, ℕ, zero, suc, ◌<◌, ◌≤◌, ◌==◌, Bool, true, false, List, [], ◌∷◌, length, filter, Some, All, Contains, cond}
 use Rattle.std.specs.List.{range_with_len}
-use Rattle.std.proofs.Common.{sym, subst, refl, ap, ◌∙◌, inl, inr, ⊎_elim, arith}
-use Rattle.std.proofs.lemmas.Bool.{cases_eq, cases_Bool, cases_lt, cond_both, eq-eqb, or_left}
+use Rattle.std.proofs.Common.{sym, subst, refl, ap, ◌∙◌, ⊎_elim, arith}
+use Rattle.std.proofs.lemmas.Bool.{cases_eq, cases_lt, cond_both, eq-eqb, or_left}
 use Rattle.std.proofs.lemmas.List.{get_or_past, get_or-set_same, length-set}
 use Rattle.std.proofs.lemmas.List.Elements.{All-head, All-tail, All-weaker, filter_passes}
 use Rattle.std.proofs.lemmas.List.FromFn.{length-range_with_len, get_or-range_with_len}
-use Rattle.hal_values.specs.Answers.{Answered, Killed}
+use Rattle.hal_values.specs.Answers.{Killed}
 use Rattle.hal_values.specs.Fitting.{FitAll-killed}
 use Rattle.hal_values.specs.Loads.{Meaning, IsLoad}
 use Rattle.hal_values.specs.Requests.{HasProcess}
@@ -17,10 +17,10 @@ use Rattle.exec_model.specs.declared.status.Status.{Status}
 use Rattle.exec_model.specs.declared.status.Status.TheVariants as status
 use Rattle.exec_model.specs.Killing.{leads, is_of_family, family, killed_outside, killed, all_killed, family_killed}
 use Rattle.exec_model.specs.Moments.{Moment, row_of, answers_of, with_row, answered}
-use Rattle.exec_model.specs.Rows.{row_in, idle_row, is_ending, is_ready_status}
+use Rattle.exec_model.specs.Rows.{idle_row, is_ending, is_ready_status}
 use Rattle.exec_model.specs.Sound.{IsSound}
 use Rattle.exec_model.proofs.SoundSettling.{IsSameOutside, IsSameOutside-refl, IsSameOutside-trans, IsSameAt, IsSameAt-refl, IsSameAt-trans, with_row-other}
-use Rattle.exec_model.proofs.Soundness.{IsRowSound, IsSound-row, with_row-sound, answered-with_row-sound, IsRowSound-begins, IsRowSound-same}
+use Rattle.exec_model.proofs.Soundness.{IsSound-row, with_row-sound, answered-with_row-sound, IsRowSound-begins, IsRowSound-same}
 use Rattle.std.proofs.lemmas.List.{get_or-set_other}
 
 -- p is answered Killed, and ends terminated

@@ -1,6 +1,5 @@
 -- Every moment of a run is sound.
-use Rattle.std.specs.Prelude.{◌≡◌, ℕ, ◌+◌, ◌<◌, ◌≤◌, ◌==◌, Bool, true, false, List, [], ◌∷◌, ◌++◌, length, map, replicate, take, sum, sum_by, All, slice_index_or}
-use Rattle.std.specs.List.{range_with_len}
+use Rattle.std.specs.Prelude.{◌≡◌, ℕ, ◌+◌, ◌≤◌, ◌==◌, List, [], ◌∷◌, ◌++◌, map, replicate, take, sum_by, All}
 use Rattle.std.proofs.Common.{sym, subst, refl, ap, ap₂, ◌∙◌, inl, inr, arith}
 use Rattle.std.proofs.lemmas.Bool.{cond_both}
 use Rattle.std.proofs.lemmas.List.{length-map, length-replicate, get_or-replicate}
@@ -15,17 +14,16 @@ use Rattle.hal_values.specs.Requests.{HasProcess}
 use Rattle.hal_values.specs.Tables.{process_count, IsCell, IsSnapshot}
 use Rattle.exec_model.specs.declared.event.Event.{Event}
 use Rattle.exec_model.specs.declared.event.Event.TheVariants as event
-use Rattle.exec_model.specs.declared.row.Row.{Row}
 use Rattle.exec_model.specs.declared.script.ScriptLine.{ScriptLine}
 use Rattle.exec_model.specs.declared.script.ScriptLine.TheVariants as line
 use Rattle.exec_model.specs.declared.status.Status.TheVariants as status
-use Rattle.exec_model.specs.Moments.{Moment, row_of, answers_of, answers_in}
+use Rattle.exec_model.specs.Moments.{Moment, answers_of, answers_in}
 use Rattle.exec_model.specs.Opening.{usual_priority, opening_row, opening_rows, event_start, unsettled, opening}
-use Rattle.exec_model.specs.Rows.{row_in, idle_row, is_waiting}
-use Rattle.exec_model.specs.Runs.{IsOfProcess, AreOfProcesses, MakesEvents, MakesLine, MakesLines, Reaches, Completes, open_blocks, IsRunTo}
+use Rattle.exec_model.specs.Rows.{row_in, idle_row}
+use Rattle.exec_model.specs.Runs.{IsOfProcess, AreOfProcesses, MakesLine, MakesLines, Reaches, Completes, open_blocks, IsRunTo}
 use Rattle.exec_model.specs.Scripts.{asked_time, IsScript}
 use Rattle.exec_model.specs.Sound.{IsSound}
-use Rattle.exec_model.specs.Steps.{IsStep, Steps, stepped}
+use Rattle.exec_model.specs.Steps.{Steps}
 use Rattle.exec_model.proofs.SoundEvents.{stepped-sound, stepped-clock, event_time, KeepsClock-from}
 use Rattle.exec_model.proofs.SoundSettling.{settle-sound, settle-clock}
 use Rattle.exec_model.proofs.Soundness.{IsRowSound, IsSound-from_rows, IsRowSound-begins}

@@ -1,10 +1,9 @@
 -- What settling leaves as it is: soundness, the store, the clock, and a process that may act.
-use Rattle.std.specs.Prelude.{◌≡◌, ℕ, ◌<◌, Bool, true, false, not, ◌&&◌, List, length, Option, Some, ◌≢◌, slice_set}
+use Rattle.std.specs.Prelude.{◌≡◌, ℕ, ◌<◌, true, false, not, ◌&&◌, List, length, ◌≢◌}
 use Rattle.std.proofs.Common.{sym, subst, refl, ap, ◌∙◌, ⊎_elim}
 use Rattle.std.proofs.lemmas.Bool.{and_parts, cases_eq}
 use Rattle.std.proofs.lemmas.List.{get_or-set_same, get_or-set_other}
 use Rattle.hal_values.specs.declared.tables.Tables.{Tables}
-use Rattle.hal_values.specs.declared.value.Value.{Value}
 use Rattle.hal_values.specs.Answers.{Answered, Done}
 use Rattle.hal_values.specs.Loads.{Meaning}
 use Rattle.exec_model.specs.declared.change.Change.{Change}
@@ -12,9 +11,9 @@ use Rattle.exec_model.specs.declared.change.Change.TheVariants.{Cancels, Drops, 
 use Rattle.exec_model.specs.declared.row.Row.{Row}
 use Rattle.exec_model.specs.declared.status.Status.{Status}
 use Rattle.exec_model.specs.declared.status.Status.TheVariants as status
-use Rattle.exec_model.specs.Moments.{Moment, row_of, answers_of, with_row, answered, made_ready, pushed_answer}
+use Rattle.exec_model.specs.Moments.{Moment, row_of, answers_of, with_row, answered, made_ready}
 use Rattle.exec_model.specs.Rows.{idle_row, is_ready, is_ready_status, is_ending, is_before_cycle}
-use Rattle.exec_model.specs.Settling.{can_make, first_change, wait_over, left_row, wait_done, change_made, next_change, settle}
+use Rattle.exec_model.specs.Settling.{can_make, wait_over, left_row, wait_done, change_made, settle}
 use Rattle.exec_model.specs.Sound.{IsSound}
 use Rattle.exec_model.proofs.Settled.{first_change-can, next_change-finds, settle-keeps}
 use Rattle.exec_model.proofs.SoundChanges.{change_made-sound}

@@ -1,20 +1,19 @@
 -- What holds of one row and its answers at every moment of a run, and how a moment stays sound where one row changes.
-use Rattle.std.specs.Prelude.{◌≡◌, ℕ, ◌+◌, ◌<◌, ◌≤◌, Bool, true, false, List, [], ◌∷◌, ◌++◌, length, slice_set, ◌⊎◌}
-use Rattle.std.proofs.Common.{sym, subst, refl, ap, ◌∙◌, inl, inr, arith, ⊎_elim}
+use Rattle.std.specs.Prelude.{◌≡◌, ℕ, ◌<◌, ◌≤◌, true, false, List, [], ◌∷◌, ◌++◌, length, slice_set}
+use Rattle.std.proofs.Common.{sym, subst, refl, ap, ◌∙◌, ⊎_elim}
 use Rattle.std.proofs.lemmas.Bool.{cases_eq, cases_Bool}
 use Rattle.std.proofs.lemmas.List.{length-set, get_or-set_same, get_or-set_other, set-get_or}
 use Rattle.hal_base.specs.declared.limits.TheConstants.{TICK_SUM_LIMIT}
 use Rattle.hal_values.specs.declared.request.Request.{Request}
 use Rattle.hal_values.specs.declared.request.Request.TheVariants as request
 use Rattle.hal_values.specs.Answers.{Answered}
-use Rattle.hal_values.specs.Fitting.{FitAll-push}
-use Rattle.hal_values.specs.Loads.{Meaning, FitAll, FitsNext, IsUpdate}
+use Rattle.hal_values.specs.Loads.{Meaning, FitAll, IsUpdate}
 use Rattle.hal_values.specs.Requests.{HasProcess}
 use Rattle.hal_values.specs.Tables.{process_count, IsSnapshot}
 use Rattle.exec_model.specs.declared.row.Row.{Row}
 use Rattle.exec_model.specs.declared.status.Status.{Status}
 use Rattle.exec_model.specs.declared.status.Status.TheVariants as status
-use Rattle.exec_model.specs.Moments.{Moment, row_of, answers_of, answers_in, with_row, answered, made_ready, pushed_answer}
+use Rattle.exec_model.specs.Moments.{Moment, row_of, answers_of, answers_in, with_row, answered, made_ready}
 use Rattle.exec_model.specs.Rows.{row_in, idle_row, is_ready, is_ready_status, is_waiting}
 use Rattle.exec_model.specs.Sound.{IsSound, IsWait, is_between}
 

@@ -1,5 +1,5 @@
 -- The answers that lead to a sound moment fit, one after another.
-use Rattle.std.proofs.Common.{◌≡◌, ℕ, ◌<◌, ◌++◌, Bool, true, false, List, [], ◌∷◌, length, get_or, set, Option, Some, None, get_or-set_same, get_or-set_other, length-set, append_assoc, append-nil, inl, inr, ap, sym, ◌∙◌, subst, refl, arith}
+use Rattle.std.proofs.Common.{◌≡◌, ℕ, ◌<◌, ◌++◌, List, [], ◌∷◌, length, Option, Some, None, get_or-set_same, get_or-set_other, length-set, append_assoc, append-nil, inl, inr, ap, sym, ◌∙◌, subst, refl, arith}
 use Rattle.std.proofs.lemmas.Bool.{cases_eq, cases_lt}
 use Rattle.std.proofs.lemmas.List.{set_past}
 use Rattle.hal_values.specs.declared.value.Value.{Value}
@@ -10,7 +10,7 @@ use Rattle.hal_values.specs.Tables.{process_count}
 use Rattle.exec_model.specs.declared.told.Told.{Told}
 use Rattle.exec_model.specs.Drafts.{told_all, reply_answer, closed_first}
 use Rattle.exec_model.specs.Moments.{answers_in, pushed_answer}
-use Rattle.exec_model.specs.Telling.{FitOne, FitTold, FitClosed}
+use Rattle.exec_model.specs.Telling.{FitTold, FitClosed}
 
 -- an answer among fitting ones fits what is asked after those before it
 FitAfter-among : (q : Meaning) (p : ℕ) (before front : List Answered) (given : Answered) (later : List Answered) → FitAfter q p before (front ++ given ∷ later) → FitsNext q p (before ++ front) given

@@ -1,5 +1,5 @@
 -- What a datum of a script is for a receiver.
-use Rattle.std.specs.Prelude.{ℕ, ◌+◌, ◌-◌, ◌*◌, ◌==◌, nat_le, Bool, true, false, ◌&&◌, ◌||◌, List, [], ◌∷◌, length, fold, Option, Some, None, ℤ, pos, neg_ℤ, if◌then◌else◌}
+use Rattle.std.specs.Prelude.{ℕ, ◌+◌, ◌-◌, ◌*◌, ◌==◌, nat_le, Bool, false, ◌&&◌, ◌||◌, List, [], ◌∷◌, length, fold, Option, Some, None, ℤ, pos, neg_ℤ, if◌then◌else◌}
 use Rattle.std.specs.List.{list_all}
 use Rattle.hal_values.specs.declared.value.Kind.{Kind}
 use Rattle.hal_values.specs.declared.value.Kind.TheVariants as kind

@@ -1,5 +1,5 @@
 -- What a request does, and what it is answered.
-use Rattle.std.specs.Prelude.{ℕ, ◌+◌, ◌/◌, nat_le, Bool, true, false, not, List, [], ◌∷◌, ◌++◌, codes, Option, Some, None, pos, slice_index_or, if◌then◌else◌}
+use Rattle.std.specs.Prelude.{ℕ, ◌+◌, ◌/◌, nat_le, Bool, true, false, List, [], ◌∷◌, ◌++◌, codes, Option, Some, None, pos, slice_index_or, if◌then◌else◌}
 use Rattle.std.specs.Fmt.{decimal}
 use Rattle.hal_values.specs.declared.environment.ErrNo.{ErrNo}
 use Rattle.hal_values.specs.declared.plan.Cycle.{Cycle}

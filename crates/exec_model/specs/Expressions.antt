@@ -1,5 +1,5 @@
 -- Event expressions, which are written with the operands first.
-use Rattle.std.specs.Prelude.{ℕ, Bool, true, false, not, ◌&&◌, ◌||◌, List, [], ◌∷◌, slice_index_or}
+use Rattle.std.specs.Prelude.{ℕ, Bool, false, not, ◌&&◌, ◌||◌, List, [], ◌∷◌, slice_index_or}
 use Rattle.hal_values.specs.declared.tables.Item.{Item}
 use Rattle.hal_values.specs.declared.tables.Item.TheVariants as item
 use Rattle.hal_values.specs.declared.tables.Tables.{Tables}

@@ -1,8 +1,7 @@
 -- The order in which Ready rows are taken.
-use Rattle.std.specs.Prelude.{◌≡◌, ℕ, ◌<◌, ◌==◌, nat_lt, Bool, true, false, ◌&&◌, List, length, Option, count_by, filter_map, find, IsTrue, if◌then◌else◌}
+use Rattle.std.specs.Prelude.{◌≡◌, ℕ, ◌<◌, ◌==◌, nat_lt, Bool, true, false, ◌&&◌, List, length, Option, count_by, filter_map, find, if◌then◌else◌}
 use Rattle.std.specs.List.{range_with_len}
 use Rattle.exec_model.specs.declared.row.Row.{Row}
-use Rattle.exec_model.specs.Moments.{Moment}
 use Rattle.exec_model.specs.Rows.{row_in, is_ready}
 
 -- the process with the smaller stamp goes first. No two Ready rows of a run have one stamp; where two had, the lower process would go first

@@ -1,5 +1,5 @@
 -- The report of a moment, byte by byte.
-use Rattle.std.specs.Prelude.{◌≡◌, ℕ, ◌+◌, ◌-◌, ◌*◌, ◌/◌, ◌%◌, ◌^◌, ◌==◌, nat_le, nat_lt, zero, suc, Bool, true, false, ◌&&◌, List, [], ◌∷◌, ◌++◌, length, map, take, drop, take_while, codes, Option, Some, None, slice_index_or, slice_set, flat_map, if◌then◌else◌}
+use Rattle.std.specs.Prelude.{ℕ, ◌+◌, ◌*◌, ◌/◌, ◌%◌, ◌^◌, ◌==◌, nat_le, nat_lt, zero, suc, Bool, true, false, ◌&&◌, List, [], ◌∷◌, ◌++◌, length, map, take, drop, take_while, codes, Option, Some, None, slice_index_or, slice_set, flat_map, if◌then◌else◌}
 use Rattle.std.specs.Fmt.{decimal, signed_decimal}
 use Rattle.std.specs.List.{range_with_len}
 use Rattle.hal_values.specs.declared.tables.ReportBase.{ReportBase}
@@ -10,7 +10,6 @@ use Rattle.hal_values.specs.declared.value.Value.{Value}
 use Rattle.hal_values.specs.declared.value.Value.TheVariants as value
 use Rattle.hal_values.specs.Loads.{Meaning}
 use Rattle.hal_values.specs.Tables.{process_count}
-use Rattle.exec_model.specs.declared.row.Row.{Row}
 use Rattle.exec_model.specs.declared.status.End.{End}
 use Rattle.exec_model.specs.declared.status.How.{How}
 use Rattle.exec_model.specs.declared.status.How.TheVariants as how

@@ -1,5 +1,5 @@
 -- Rows: what the executive keeps of a process.
-use Rattle.std.specs.Prelude.{ℕ, ◌==◌, Bool, true, false, ◌&&◌, List, Option, Some, None, length, slice_index_or}
+use Rattle.std.specs.Prelude.{ℕ, ◌==◌, Bool, true, false, ◌&&◌, List, Option, Some, None, slice_index_or}
 use Rattle.std.specs.List.{list_any}
 use Rattle.hal_values.specs.declared.plan.Cycle.TheVariants.{Once}
 use Rattle.hal_values.specs.declared.plan.Guard.TheVariants.{Free}

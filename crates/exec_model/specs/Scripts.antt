@@ -1,5 +1,5 @@
 -- The limits of scripts.
-use Rattle.std.specs.Prelude.{ℕ, ◌+◌, ◌≤◌, Bool, false, true, List, [], ◌∷◌, length, sum, map}
+use Rattle.std.specs.Prelude.{ℕ, ◌≤◌, Bool, false, true, List, [], ◌∷◌, length, sum, map}
 use Rattle.hal_base.specs.declared.limits.TheConstants.{SCRIPT_LINE_LIMIT, RUN_LIMIT, RUN_SUM_LIMIT, TICK_LIMIT, TICK_SUM_LIMIT}
 use Rattle.exec_model.specs.declared.script.ScriptLine.{ScriptLine}
 use Rattle.exec_model.specs.declared.script.ScriptLine.TheVariants.{Run, Tick, Preempt, Input}

@@ -1,12 +1,12 @@
 -- What one event does, and when it may come.
-use Rattle.std.specs.Prelude.{◌≡◌, ◌≢◌, ℕ, ◌^◌, ◌<◌, Bool, true, false, List, [], ◌∷◌, Option, Some, None, IsSome, slice_get, slice_set, bit_and, if◌then◌else◌}
+use Rattle.std.specs.Prelude.{◌≡◌, ◌≢◌, ℕ, ◌^◌, true, false, List, [], ◌∷◌, Option, Some, None, IsSome, slice_get, slice_set, bit_and, if◌then◌else◌}
 use Rattle.hal_values.specs.declared.request.Request.{Request}
 use Rattle.hal_values.specs.declared.request.Request.TheVariants as request
 use Rattle.hal_values.specs.declared.request.Spot.TheVariants as spot
 use Rattle.hal_values.specs.declared.tables.Cell.{Cell}
 use Rattle.hal_values.specs.declared.tables.Tables.{Tables}
 use Rattle.hal_values.specs.declared.value.Value.{Value}
-use Rattle.hal_values.specs.Answers.{Answered, Block, Killed}
+use Rattle.hal_values.specs.Answers.{Block, Killed}
 use Rattle.hal_values.specs.Loads.{Meaning, IsUpdate}
 use Rattle.hal_values.specs.Requests.{HasProcess}
 use Rattle.exec_model.specs.declared.event.Event.{Event}

@@ -9,7 +9,7 @@ ghost use Rattle.exec_model.specs.Parts.{parts_moment};
 ghost use Rattle.exec_model.specs.Sound.{IsSound};
 ghost use Rattle.exec_model.specs.Steps.{written};
 
-use crate::draft::Parts;
+use crate::draft::{Draft, Parts};
 use crate::procs::Procs;
 use crate::script::Datum;
 use crate::state::State;
@@ -110,5 +110,26 @@ pub(crate) fn commit<P: Procs>(
     state.rows = Listing::new(parts.rows);
     state.events = Listing::new(parts.events);
     state.stamp = parts.stamp;
+    Ok(())
+}
+
+/// Makes a step, or leaves all as it is.
+pub(crate) fn take_step<P: Procs>(
+    alloc: Global,
+    procs: &mut P,
+    state: &mut State,
+    draft: Draft<P>,
+) -> Result<(), AllocError>
+    requires lists { length (P.answers procs.old) ≡ process_count (P.Of.tables (P.load procs.old)) }
+    requires base { draft.base ≡ moment_of state.old (P.answers procs.old) }
+    requires looked { IsLooked (P.looks procs.old) state.old.store draft.closes }
+    requires sound { IsSound (meaning_of P.Of.tables P.Of.next P.Of.block P.Of.own (P.load procs.old)) draft.now }
+    ensures made { OnOk result (moment_of state.new (P.answers procs.new) ≡ draft.now) }
+    ensures same_state { OnErr result (state.new ≡ state.old) }
+    ensures same_answers { OnErr result (P.answers procs.new ≡ P.answers procs.old) }
+    ensures load { P.load procs.new ≡ P.load procs.old }
+{
+    let parts = draft.into_parts();
+    commit(alloc, procs, state, parts)?;
     Ok(())
 }

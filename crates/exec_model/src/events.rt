@@ -1,18 +1,20 @@
 //! Which steps the events are, and when they may come.
 
-ghost use Rattle.std.specs.Prelude.{◌≡◌, IfOk, IfSome, OnOk, IsTrue, ◌↔◌};
+ghost use Rattle.std.specs.Prelude.{◌≡◌, ◌≤◌, ◌↔◌, ℕ, false, IfOk, IfSome, IfNone, OnOk, IsTrue};
 ghost use Rattle.hal_values.specs.Loads.{meaning_of, IsUpdate};
 ghost use Rattle.exec_model.specs.Drafts.{on, IsLooked};
 ghost use Rattle.exec_model.specs.Events.{IsDrafted};
 ghost use Rattle.exec_model.specs.Moments.{moment_of};
 ghost use Rattle.exec_model.specs.Sound.{IsSound};
-ghost use Rattle.exec_model.specs.Steps.{written, block_left, preempted, IsActed};
+ghost use Rattle.exec_model.specs.Steps.{written, block_left, preempted, IsActed, IsAllowed};
+ghost use Rattle.exec_model.specs.Rows.{is_ready, row_in};
+ghost use Rattle.exec_model.specs.Runs.{IsOfProcess};
 
 use crate::draft::Draft;
 use crate::effects::act;
 use crate::event::Event;
 use crate::holding::{is_held, touch_of};
-use crate::order::is_in_first;
+use crate::order::{first_ready, is_in_first};
 use crate::procs::Procs;
 use crate::row::Row;
 use crate::rows::row_at;
@@ -225,4 +227,71 @@ fn drafted_block<P: Procs>(
     leave_block(&mut draft, process, row)?;
     settle_rows(procs.tables(), &mut draft)?;
     Ok(Some(draft))
+}
+
+/// The step of an event, or None where it may not come.
+pub(crate) fn drafted<P: Procs>(
+    alloc: Global,
+    procs: &mut P,
+    state: &State,
+    lanes: u8,
+    event: Event,
+) -> Result<Option<Draft<P>>, AllocError>
+    requires { IsSound (meaning_of P.Of.tables P.Of.next P.Of.block P.Of.own (P.load procs.old)) (moment_of state.now (P.answers procs.old)) }
+    ensures drafted { IfOk result (IsDrafted (meaning_of P.Of.tables P.Of.next P.Of.block P.Of.own (P.load procs.old)) lanes (moment_of state.now (P.answers procs.old)) event) }
+    ensures looked { IfOk result (λ made. IfSome made (λ draft. IsLooked (P.looks procs.new) state.now.store draft.closes)) }
+    ensures same { (P.load procs.new ≡ P.load procs.old) × (P.answers procs.new ≡ P.answers procs.old) }
+{
+    match event {
+        Event::Act(process) => {
+            let made = drafted_act(alloc, procs, state, lanes, process)?;
+            Ok(made)
+        }
+        Event::Open(process) => {
+            let made = drafted_open(alloc, procs, state, lanes, process)?;
+            Ok(made)
+        }
+        Event::Block(process, turns) => {
+            let made = drafted_block(alloc, procs, state, lanes, process, turns)?;
+            Ok(made)
+        }
+        Event::Tick(time) => {
+            let made = drafted_tick(alloc, procs, state, lanes, time)?;
+            Ok(made)
+        }
+        Event::Preempt(process) => {
+            let made = drafted_preempt(alloc, procs, state, lanes, process)?;
+            Ok(made)
+        }
+    }
+}
+
+/// An event of the first process that is Ready, or None where none is.
+pub(crate) fn first_event<P: Procs>(
+    alloc: Global,
+    procs: &mut P,
+    state: &State,
+    lanes: u8,
+) -> Result<Option<Event>, AllocError>
+    requires sound { IsSound (meaning_of P.Of.tables P.Of.next P.Of.block P.Of.own (P.load procs.old)) (moment_of state.now (P.answers procs.old)) }
+    requires lanes { 1 ≤ lanes }
+    ensures of_process { IfOk result (λ found. IfSome found IsOfProcess) }
+    ensures found { IfOk result (λ found. IfSome found (IsAllowed (meaning_of P.Of.tables P.Of.next P.Of.block P.Of.own (P.load procs.old)) lanes (moment_of state.now (P.answers procs.old)))) }
+    ensures none { IfOk result (λ found. IfNone found ((p : ℕ) → is_ready (row_in state.now.rows p) ≡ false)) }
+    ensures same { (P.load procs.new ≡ P.load procs.old) × (P.answers procs.new ≡ P.answers procs.old) }
+{
+    let rows = state.rows.as_slice();
+    let Some(process) = first_ready(rows)? else {
+        return Ok(None);
+    };
+    if row_at(rows, process).inside {
+        let mut writes = Vec::new(alloc);
+        let turns = procs.block(process, state.store.as_slice(), &mut writes)?;
+        return Ok(Some(Event::Block(process, turns)));
+    }
+    let request = procs.ask(process)?;
+    if is_update(&request) {
+        return Ok(Some(Event::Open(process)));
+    }
+    Ok(Some(Event::Act(process)))
 }

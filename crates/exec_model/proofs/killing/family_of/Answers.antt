@@ -1,5 +1,4 @@
 use Rattle.std.proofs.Common.{length, ap, sym, ◌∙◌}
-use Rattle.std.specs.declared.vec.Vec.{Vec}
 use Rattle.exec_model.specs.Killing.{is_of_family}
 use Rattle.exec_model.proofs.Families.{filter-taken, filter-left}
 use Rattle.exec_model.proofs.killing.family_of.Goals as goal

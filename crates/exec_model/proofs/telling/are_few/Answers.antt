@@ -1,4 +1,4 @@
-use Rattle.std.proofs.Common.{[], subst, sym, arith}
+use Rattle.std.proofs.Common.{subst, sym, arith}
 use Rattle.std.proofs.lemmas.List.{drop_all}
 use Rattle.exec_model.proofs.Few.{EachFew, EachFew-drop, TellsFew-from}
 use Rattle.exec_model.proofs.telling.are_few.Goals as goal
