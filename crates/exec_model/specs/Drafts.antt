@@ -30,13 +30,17 @@ abbrev pub IsLooked : List (Option Look) → List Value → Option (ℕ × ℕ) 
 IsLooked looks store None = Unit {0}
 IsLooked looks store (Some done) = look_at looks done.0 ≡ Some (record { store = store; turns = done.1 })
 
+-- a step that does no more than answer the process whose UPDATE block is done, if there is one
+abbrev pub begun_of : Moment → Option (ℕ × ℕ) → Drafted
+begun_of m closes = record { base = m; now = record m { answers = closed_first m.store closes m.answers }; closes = closes }
+
 -- a step that changes nothing yet
 abbrev pub unchanged : Moment → Drafted
-unchanged m = record { base = m; now = m; closes = None }
+unchanged m = begun_of m None
 
 -- a step that has only answered a process whose UPDATE block is done
 abbrev pub closing_of : Moment → ℕ → ℕ → Drafted
-closing_of m p turns = record { base = m; now = answered p (Block m.store turns) m; closes = Some (p, turns) }
+closing_of m p turns = begun_of m (Some (p, turns))
 
 -- the answer, as the definitions see it
 abbrev pub reply_answer : Reply → Answered

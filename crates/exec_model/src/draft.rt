@@ -76,15 +76,20 @@ impl<P: Procs> Model for Draft<P> {
 #[tactic(auto, using(crate::proofs::Drafting::pushes))]
 impl<P: Procs> Draft<P> {
     ghost use Rattle.std.specs.Prelude.{◌≡◌, OnOk, IfOk};
-    ghost use Rattle.exec_model.specs.Drafts.{on, reply_answer, unchanged, closing_of};
+    ghost use Rattle.exec_model.specs.Drafts.{on, reply_answer, begun_of, unchanged, closing_of};
     ghost use Rattle.exec_model.specs.Moments.{moment_of, with_row, made_ready, answered, row_of, event_of, with_event, ended, stored, taken_from, printed, ticked};
     ghost use Rattle.exec_model.specs.Expressions.{truth};
     ghost use Rattle.exec_model.specs.Rows.{has_dependents};
     ghost use Rattle.exec_model.specs.Parts.{IsMadeOf};
 
-    /// The step that changes nothing.
-    pub(crate) fn of(alloc: Global, state: &State, procs: &P) -> Result<Draft<P>, AllocError>
-        ensures { IfOk result (λ draft. draft ≡ unchanged (moment_of state.now (P.answers procs.now))) }
+    /// The step that does no more than answer the process whose UPDATE block is done, if there is one.
+    fn over(
+        alloc: Global,
+        state: &State,
+        procs: &P,
+        closes: Option<(u8, u16)>,
+    ) -> Result<Draft<P>, AllocError>
+        ensures { IfOk result (λ draft. draft ≡ begun_of (moment_of state.now (P.answers procs.now)) closes) }
     {
         Ok(Draft {
             alloc,
@@ -94,13 +99,21 @@ impl<P: Procs> Draft<P> {
             rows: Vec::from_slice(alloc, state.rows.as_slice())?,
             events: Vec::from_slice(alloc, state.events.as_slice())?,
             stamp: state.stamp,
-            closes: None,
+            closes,
             told: Vec::new(alloc),
             ends: Vec::new(alloc),
             line: Vec::new(alloc),
             writes: Vec::new(alloc),
             taken: Vec::new(alloc),
         })
+    }
+
+    /// The step that changes nothing.
+    pub(crate) fn of(alloc: Global, state: &State, procs: &P) -> Result<Draft<P>, AllocError>
+        ensures { IfOk result (λ draft. draft ≡ unchanged (moment_of state.now (P.answers procs.now))) }
+    {
+        let draft = Draft::over(alloc, state, procs, None)?;
+        Ok(draft)
     }
 
     /// The step that answers a process whose UPDATE block is done.
@@ -113,21 +126,8 @@ impl<P: Procs> Draft<P> {
     ) -> Result<Draft<P>, AllocError>
         ensures { IfOk result (λ draft. draft ≡ closing_of (moment_of state.now (P.answers procs.now)) process turns) }
     {
-        Ok(Draft {
-            alloc,
-            state: Snapshot::of(state),
-            procs: Snapshot::of(procs),
-            clock: state.clock,
-            rows: Vec::from_slice(alloc, state.rows.as_slice())?,
-            events: Vec::from_slice(alloc, state.events.as_slice())?,
-            stamp: state.stamp,
-            closes: Some((process, turns)),
-            told: Vec::new(alloc),
-            ends: Vec::new(alloc),
-            line: Vec::new(alloc),
-            writes: Vec::new(alloc),
-            taken: Vec::new(alloc),
-        })
+        let draft = Draft::over(alloc, state, procs, Some((process, turns)))?;
+        Ok(draft)
     }
 
     /// The allocator of what the step is to add.

@@ -9,8 +9,7 @@ ghost use Rattle.exec_model.specs.Processes.{NotLower};
 ghost use Rattle.exec_model.specs.Steps.{block_groups, cell_group, touched_groups, IsHolder};
 
 use crate::procs::Procs;
-use crate::rows::row_at;
-use crate::settling::process_at;
+use crate::rows::{process_at, row_at};
 use crate::state::State;
 use hal_values::{Request, Spot, Tables};
 use std::alloc::AllocError;

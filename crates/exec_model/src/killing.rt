@@ -7,8 +7,7 @@ ghost use Rattle.exec_model.specs.Killing.{father_in, is_process, is_of_family, 
 use crate::draft::Draft;
 use crate::procs::Procs;
 use crate::row::Row;
-use crate::rows::row_at;
-use crate::settling::process_at;
+use crate::rows::{process_at, row_at};
 use crate::status::{How, Status};
 use crate::told::Reply;
 use std::alloc::{AllocError, Global};

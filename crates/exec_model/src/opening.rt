@@ -66,11 +66,11 @@ fn event_starts(alloc: Global, events: &[EventStart]) -> Result<Vec<bool>, Alloc
 }
 
 /// Adds copies of data.
-fn add_data(alloc: Global, data: &mut Vec<Datum>, given: &[Datum]) -> Result<(), AllocError>
-    ensures { OnOk result (data.new.items ≡ data.old.items ++ given.now) }
+fn add_data(alloc: Global, gathered: &mut Vec<Datum>, given: &[Datum]) -> Result<(), AllocError>
+    ensures { OnOk result (gathered.new.items ≡ gathered.old.items ++ given.now) }
 {
     for datum in given {
-        data.push(Listing::new(Vec::from_slice(alloc, datum.as_slice())?))?;
+        gathered.push(Listing::new(Vec::from_slice(alloc, datum.as_slice())?))?;
     }
     Ok(())
 }
@@ -78,15 +78,15 @@ fn add_data(alloc: Global, data: &mut Vec<Datum>, given: &[Datum]) -> Result<(),
 /// Adds the data that a line gives to this channel.
 fn add_line(
     alloc: Global,
-    data: &mut Vec<Datum>,
+    gathered: &mut Vec<Datum>,
     line: &ScriptLine,
     channel: u8,
 ) -> Result<(), AllocError>
-    ensures { OnOk result (data.new.items ≡ data.old.items ++ line_data channel line.now) }
+    ensures { OnOk result (gathered.new.items ≡ gathered.old.items ++ line_data channel line.now) }
 {
     match line {
         ScriptLine::Input(to, given) if *to == channel => {
-            add_data(alloc, data, given.as_slice())?;
+            add_data(alloc, gathered, given.as_slice())?;
             Ok(())
         }
         _ => Ok(()),
@@ -101,11 +101,11 @@ fn channel_data(
 ) -> Result<Listing<Datum>, AllocError>
     ensures { IfOk result (λ given. given ≡ channel_data script.now channel) }
 {
-    let mut data = Vec::new(alloc);
+    let mut gathered = Vec::new(alloc);
     for line in script {
-        add_line(alloc, &mut data, line, channel)?;
+        add_line(alloc, &mut gathered, line, channel)?;
     }
-    Ok(Listing::new(data))
+    Ok(Listing::new(gathered))
 }
 
 /// What is to be read from each channel below this.

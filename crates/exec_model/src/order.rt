@@ -5,8 +5,7 @@ ghost use Rattle.exec_model.specs.Order.{has_smaller_stamp, has_greater_priority
 ghost use Rattle.exec_model.specs.Rows.{is_ready, row_in};
 
 use crate::row::Row;
-use crate::rows::row_at;
-use crate::settling::process_at;
+use crate::rows::{process_at, row_at};
 use std::alloc::AllocError;
 
 /// A process with its row.

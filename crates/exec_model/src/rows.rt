@@ -1,11 +1,12 @@
 //! Rows as the executive reads and writes them.
 
-ghost use Rattle.std.specs.Prelude.{◌≡◌, slice_set};
+ghost use Rattle.std.specs.Prelude.{◌≡◌, IfOk, slice_set};
 ghost use Rattle.exec_model.specs.Rows.{idle_row, row_in, is_active, is_active_status, is_ready, is_ready_status, is_before_cycle, is_ending, is_father, is_dependent, has_dependents};
 
 use crate::row::Row;
 use crate::status::Status;
 use hal_values::{Cycle, Guard};
+use std::alloc::AllocError;
 
 impl Status {
     pub(crate) fn is_active(self) -> bool
@@ -112,4 +113,14 @@ pub(crate) fn any_dependent(rows: &[Row], process: u8) -> bool
     ensures { result ≡ has_dependents rows.now process }
 {
     rows.iter().any(|row| row.is_dependent_of(process))
+}
+
+/// The number of the process at a place; it gives up past 256 processes.
+pub(crate) fn process_at(place: usize) -> Result<u8, AllocError>
+    ensures { IfOk result (λ process. process ≡ place) }
+{
+    match u8::try_from(place) {
+        Ok(process) => Ok(process),
+        Err(_) => Err(AllocError),
+    }
 }

@@ -8,6 +8,7 @@ use crate::change::Change;
 use crate::draft::Draft;
 use crate::procs::Procs;
 use crate::row::Row;
+use crate::rows::process_at;
 use crate::status::{How, Status};
 use crate::times::time_from_zero;
 use crate::told::Reply;
@@ -154,16 +155,6 @@ fn make_change<P: Procs>(
             end_wait(draft, process, row)?;
             Ok(())
         }
-    }
-}
-
-/// The number of the process at a place; it gives up past 256 processes.
-pub(crate) fn process_at(place: usize) -> Result<u8, AllocError>
-    ensures { IfOk result (λ process. process ≡ place) }
-{
-    match u8::try_from(place) {
-        Ok(process) => Ok(process),
-        Err(_) => Err(AllocError),
     }
 }
 
