@@ -23,3 +23,4 @@ pub mod Few
 pub mod Tellings
 pub mod Drafted
 pub mod Runnings
+pub mod StampedRuns
