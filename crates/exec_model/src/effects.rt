@@ -1,9 +1,11 @@
 //! What requests do, and what they are answered.
 
 ghost use Rattle.std.specs.Prelude.{◌≡◌, ◌/◌, pos, IfOk, OnOk, slice_index_or, []};
+ghost use Rattle.hal_values.specs.Answers.{Told, Done};
+ghost use Rattle.hal_values.specs.declared.value.Value.TheVariants as value;
 ghost use Rattle.exec_model.specs.Drafts.{on, IsOver, reply_answer};
 ghost use Rattle.exec_model.specs.Effects.{bit_value, value_at, start_status, schedule_done, cancel_done, terminate_done, wait_status, wait_begun, signal_done, priority_done, channel_line, next_status, finished, finish_done, begin_done, stop_done, input_done, datum_answer, effect};
-ghost use Rattle.exec_model.specs.Moments.{row_of};
+ghost use Rattle.exec_model.specs.Moments.{row_of, answered, stored, printed, with_event};
 
 use crate::data::datum_of;
 use crate::draft::Draft;
@@ -372,6 +374,75 @@ fn seconds(clock: u64) -> Result<i32, AllocError>
     }
 }
 
+/// Tells the process what it reads.
+fn read<P: Procs>(
+    tables: &Tables,
+    state: &State,
+    draft: &mut Draft<P>,
+    process: u8,
+    spot: Spot,
+) -> Result<(), AllocError>
+    requires { IsOver state.now draft.old }
+    ensures { OnOk result (draft.new ≡ on (λ m. answered process (Told (value_at tables.now m spot)) m) draft.old) }
+{
+    let value = read_value(tables, state, draft, spot);
+    draft.tell(process, Reply::Value(value))?;
+    Ok(())
+}
+
+/// Has a shared cell hold a value.
+fn write<P: Procs>(
+    draft: &mut Draft<P>,
+    process: u8,
+    cell: u16,
+    value: Value,
+) -> Result<(), AllocError>
+    ensures { OnOk result (draft.new ≡ on (λ m. answered process Done (stored cell value m)) draft.old) }
+{
+    draft.put(cell, value)?;
+    draft.tell(process, Reply::Done)?;
+    Ok(())
+}
+
+/// Gives a declared event a value.
+fn change_event<P: Procs>(
+    tables: &Tables,
+    draft: &mut Draft<P>,
+    process: u8,
+    event: u16,
+    to: bool,
+) -> Result<(), AllocError>
+    ensures { OnOk result (draft.new ≡ on (λ m. answered process Done (with_event tables.now event to m)) draft.old) }
+{
+    draft.set_event(tables, event, to);
+    draft.tell(process, Reply::Done)?;
+    Ok(())
+}
+
+/// Adds a line of a channel to the output.
+fn print<P: Procs>(
+    draft: &mut Draft<P>,
+    process: u8,
+    channel: u8,
+    line: &Line,
+) -> Result<(), AllocError>
+    ensures { OnOk result (draft.new ≡ on (λ m. answered process Done (printed (channel_line channel line.now) m)) draft.old) }
+{
+    let bytes = line_of_channel(draft.alloc(), channel, line)?;
+    draft.print(bytes.as_slice())?;
+    draft.tell(process, Reply::Done)?;
+    Ok(())
+}
+
+/// Tells the process the clock.
+fn tell_time<P: Procs>(draft: &mut Draft<P>, process: u8) -> Result<(), AllocError>
+    ensures { OnOk result (draft.new ≡ on (λ m. answered process (Told (value.Int (pos (m.clock / 1000)))) m) draft.old) }
+{
+    let time = seconds(draft.clock())?;
+    draft.tell(process, Reply::Value(Value::Int(time)))?;
+    Ok(())
+}
+
 /// Does what a request asks for that an event Act answers.
 pub(crate) fn act<P: Procs>(
     tables: &Tables,
@@ -385,81 +456,23 @@ pub(crate) fn act<P: Procs>(
 {
     let row = draft.row(process);
     match request {
-        Request::Begin => {
-            begin(draft, process, row)?;
-            Ok(())
-        }
-        Request::Read(spot) => {
-            let value = read_value(tables, state, draft, spot);
-            draft.tell(process, Reply::Value(value))?;
-            Ok(())
-        }
-        Request::Write(cell, value) => {
-            draft.put(cell, value)?;
-            draft.tell(process, Reply::Done)?;
-            Ok(())
-        }
-        Request::Pass => {
-            draft.tell(process, Reply::Done)?;
-            Ok(())
-        }
-        Request::Schedule(plan) => {
-            schedule(draft, process, plan)?;
-            Ok(())
-        }
-        Request::Cancel(other) => {
-            cancel(draft, process, other)?;
-            Ok(())
-        }
-        Request::Terminate(other) => {
-            terminate(draft, process, other)?;
-            Ok(())
-        }
-        Request::Wait(pause) => {
-            wait(tables, draft, process, row, pause)?;
-            Ok(())
-        }
-        Request::Signal(event) => {
-            signal(tables, draft, process, event)?;
-            Ok(())
-        }
-        Request::Set(event) => {
-            draft.set_event(tables, event, true);
-            draft.tell(process, Reply::Done)?;
-            Ok(())
-        }
-        Request::Reset(event) => {
-            draft.set_event(tables, event, false);
-            draft.tell(process, Reply::Done)?;
-            Ok(())
-        }
-        Request::Priority(other, priority) => {
-            prioritize(draft, process, other, priority)?;
-            Ok(())
-        }
-        Request::Print(channel, line) => {
-            let bytes = line_of_channel(draft.alloc(), channel, &line)?;
-            draft.print(bytes.as_slice())?;
-            draft.tell(process, Reply::Done)?;
-            Ok(())
-        }
-        Request::Input(channel, kind) => {
-            input(state, draft, process, channel, kind)?;
-            Ok(())
-        }
-        Request::Now => {
-            let time = seconds(draft.clock())?;
-            draft.tell(process, Reply::Value(Value::Int(time)))?;
-            Ok(())
-        }
-        Request::Stop(error) => {
-            stop(draft, process, error)?;
-            Ok(())
-        }
-        Request::Finish => {
-            finish(draft, process, row)?;
-            Ok(())
-        }
+        Request::Begin => begin(draft, process, row),
+        Request::Read(spot) => read(tables, state, draft, process, spot),
+        Request::Write(cell, value) => write(draft, process, cell, value),
+        Request::Pass => draft.tell(process, Reply::Done),
+        Request::Schedule(plan) => schedule(draft, process, plan),
+        Request::Cancel(other) => cancel(draft, process, other),
+        Request::Terminate(other) => terminate(draft, process, other),
+        Request::Wait(pause) => wait(tables, draft, process, row, pause),
+        Request::Signal(event) => signal(tables, draft, process, event),
+        Request::Set(event) => change_event(tables, draft, process, event, true),
+        Request::Reset(event) => change_event(tables, draft, process, event, false),
+        Request::Priority(other, priority) => prioritize(draft, process, other, priority),
+        Request::Print(channel, line) => print(draft, process, channel, &line),
+        Request::Input(channel, kind) => input(state, draft, process, channel, kind),
+        Request::Now => tell_time(draft, process),
+        Request::Stop(error) => stop(draft, process, error),
+        Request::Finish => finish(draft, process, row),
         Request::Update(_) | Request::Look(_) | Request::Close(_) => Ok(()),
     }
 }
