@@ -2,14 +2,14 @@
 
 ghost use Rattle.std.specs.Prelude.{◌≤◌};
 
-use crate::loads::{Step, Unit, load};
+use crate::loads::{Step, bare, cells, cycle, push_body};
+use crate::scripted::{Ask, Scripted};
 use crate::scripted_procs::ScriptedProcs;
 use exec_model::{End, Event, How, Plain, Script};
 use hal_base::{LANE_LIMIT, TICK_SUM_LIMIT};
-use hal_values::{
-    Cycle, ErrNo, EventStart, Guard, Item, Pause, Plan, ReportBase, Spot, Value, When,
-};
+use hal_values::{Cycle, ErrNo, EventStart, Guard, Item, Listing, Pause, Plan, Spot, Value, When};
 use std::alloc::{AllocError, Global};
+use std::process::Abort;
 use std::test::Fail;
 
 /// A line of a script, or an event.
@@ -19,21 +19,6 @@ enum Line {
     Run(u32),
     /// This event, which may come.
     One(Event),
-}
-
-/// A load, a script, the number of lanes, and what comes of it.
-#[derive(Drop)]
-struct Row {
-    name: &'static str,
-    unit: Unit,
-    script: &'static [Line],
-    lanes: u8,
-    /// The events, each so many times.
-    journal: &'static [(Event, u32)],
-    output: &'static str,
-    ends: &'static [End],
-    /// What the shared cells hold at the end.
-    store: &'static [i32],
 }
 
 /// Process 1 starts now, for one cycle.
@@ -71,537 +56,247 @@ const T_CLOSED: End = End {
     ..P_CLOSED
 };
 
-const TWICE: Unit = Unit {
-    names: &["P", "P.T"],
-    cells: &[],
-    events: &[],
-    expressions: &[&[Item::Event(1), Item::Not]],
-    reports: &[],
-    bodies: &[
-        &[&[
-            Step::Schedule(LATER),
-            Step::Schedule(LATER),
-            Step::Wait(Pause::Event(0)),
-            Step::Says(" AGAIN"),
-            Step::Schedule(LATER),
-        ]],
-        &[&[Step::Says(" T")], &[Step::Says(" T")]],
-    ],
+const T_CANCELLED: End = End {
+    how: How::Cancelled,
+    ..T_CLOSED
 };
 
-const STOPPED: Unit = Unit {
-    names: &["P", "P.T"],
-    cells: &[],
-    events: &[],
-    expressions: &[&[Item::Event(1), Item::Not]],
-    reports: &[],
-    bodies: &[
-        &[&[
-            Step::Schedule(LATER),
-            Step::Schedule(LATER),
-            Step::Stop(2, 1),
-        ]],
-        &[&[Step::Says(" T")]],
-    ],
+const P_TERMINATED: End = End {
+    how: How::Terminated,
+    cycles: 0,
+    ..P_CLOSED
 };
 
-const COUNTING: Unit = Unit {
-    names: &["P", "P.T"],
-    cells: &[0],
-    events: &[],
-    expressions: &[],
-    reports: &[("P.N", ReportBase::Shared, 0)],
-    bodies: &[
-        &[&[Step::Schedule(Plan {
-            cycle: Cycle::Every(40),
-            ..LATER
-        })]],
-        &[
-            &[
-                Step::Read(Spot::Cell(0)),
-                Step::Write(0, 1),
-                Step::Read(Spot::Cell(0)),
-                Step::Now,
-                Step::Says(" 1 0"),
-            ],
-            &[
-                Step::Read(Spot::Cell(0)),
-                Step::Write(0, 2),
-                Step::Read(Spot::Cell(0)),
-                Step::Now,
-                Step::Says(" 2 0"),
-            ],
-            &[
-                Step::Read(Spot::Cell(0)),
-                Step::Write(0, 3),
-                Step::Read(Spot::Cell(0)),
-                Step::Now,
-                Step::Says(" 3 0"),
-            ],
-            &[
-                Step::Read(Spot::Cell(0)),
-                Step::Write(0, 4),
-                Step::Read(Spot::Cell(0)),
-                Step::Now,
-                Step::Says(" 4 0"),
-            ],
-            &[
-                Step::Read(Spot::Cell(0)),
-                Step::Write(0, 5),
-                Step::Read(Spot::Cell(0)),
-                Step::Now,
-                Step::Says(" 5 0"),
-            ],
-            &[
-                Step::Read(Spot::Cell(0)),
-                Step::Write(0, 6),
-                Step::Read(Spot::Cell(0)),
-                Step::Now,
-                Step::Says(" 6 0"),
-            ],
-        ],
-    ],
+const T_TERMINATED: End = End {
+    process: 1,
+    ..P_TERMINATED
 };
 
-const SIGNALLED: Unit = Unit {
-    names: &["P", "P.A", "P.B"],
-    cells: &[],
-    events: &[EventStart::Unlatched, EventStart::Latched(true)],
-    expressions: &[
-        &[Item::Event(3)],
-        &[Item::Event(3), Item::Event(4), Item::Not, Item::And],
-    ],
-    reports: &[("P.F", ReportBase::Event, 4)],
-    bodies: &[
-        &[&[
-            Step::Schedule(Plan {
-                priority: 60,
-                ..SOON
-            }),
-            Step::Schedule(Plan {
-                process: 2,
-                priority: 60,
-                ..SOON
-            }),
-            Step::Signal(3),
-            Step::Read(Spot::Event(3)),
-            Step::Read(Spot::Event(4)),
-            Step::Says(" 0 1"),
-        ]],
-        &[&[Step::Wait(Pause::Event(0)), Step::Says(" A")]],
-        &[&[Step::Wait(Pause::Event(1)), Step::Says(" B")]],
-    ],
-};
-
-const CANCELLED: Unit = Unit {
-    names: &["P", "P.A", "P.B", "P.C"],
-    cells: &[],
-    events: &[],
-    expressions: &[],
-    reports: &[],
-    bodies: &[
-        &[&[
-            Step::Schedule(EACH_SECOND),
-            Step::Schedule(Plan {
-                process: 2,
-                when: When::After(5_000),
-                ..EACH_SECOND
-            }),
-            Step::Schedule(Plan {
-                process: 3,
-                ..EACH_SECOND
-            }),
-            Step::Cancel(1),
-            Step::Cancel(2),
-            Step::Cancel(3),
-        ]],
-        &[],
-        &[],
-        &[&[Step::Wait(Pause::For(500)), Step::Says(" C")]],
-    ],
-};
-
-const TERMINATED: Unit = Unit {
-    names: &["P", "P.D"],
-    cells: &[1],
-    events: &[],
-    expressions: &[],
-    reports: &[("P.K", ReportBase::Shared, 0)],
-    bodies: &[
-        &[&[
-            Step::Schedule(Plan {
-                dependent: true,
-                ..SOON
-            }),
-            Step::Terminate(0),
-        ]],
-        &[&[Step::Update(2, 0, 1, 2), Step::Says(" NO")]],
-    ],
-};
-
-/// D is inside its UPDATE block as P reads K.
-const HELD: Unit = Unit {
-    names: &["P", "P.D"],
-    cells: &[1],
-    events: &[],
-    expressions: &[],
-    reports: &[],
-    bodies: &[
-        &[&[Step::Schedule(SOON), Step::Read(Spot::Cell(0))]],
-        &[&[Step::Update(2, 0, 1, 2)]],
-    ],
-};
-
-const PREEMPTED: Unit = Unit {
-    names: &["P", "P.A", "P.B"],
-    cells: &[],
-    events: &[],
-    expressions: &[],
-    reports: &[],
-    bodies: &[
-        &[&[
-            Step::Schedule(SOON),
-            Step::Schedule(Plan { process: 2, ..SOON }),
-        ]],
-        &[&[Step::Says(" A1"), Step::Says(" A2")]],
-        &[&[Step::Says(" B1")]],
-    ],
-};
-
-const GUARDED: Unit = Unit {
-    names: &["P", "P.T"],
-    cells: &[],
-    events: &[],
-    expressions: &[],
-    reports: &[],
-    bodies: &[
-        &[&[Step::Schedule(Plan {
-            guard: Guard::UntilTime(2_000),
-            ..EACH_SECOND
-        })]],
-        &[
-            &[Step::Now, Step::Says(" 0")],
-            &[Step::Now, Step::Says(" 1")],
-        ],
-    ],
-};
-
-const ROWS: [Row; 10] = [
-    Row {
-        name: "a failed SCHEDULE is ignored",
-        unit: TWICE,
-        script: &[Line::Run(50)],
-        lanes: 1,
-        journal: &[
-            (Event::Act(0), 4),
-            (Event::Act(1), 3),
-            (Event::Act(0), 3),
-            (Event::Act(1), 3),
-        ],
-        output: "6: T\n6: AGAIN\n6: T\n",
-        ends: &[T_CLOSED, P_CLOSED, T_CLOSED],
-        store: &[],
-    },
-    Row {
-        name: "a failed SCHEDULE ends its process",
-        unit: STOPPED,
-        script: &[Line::Run(50)],
-        lanes: 1,
-        journal: &[(Event::Act(0), 4), (Event::Act(1), 3)],
-        output: "6: T\n",
-        ends: &[
-            End {
-                how: How::Error(ErrNo {
-                    group: 2,
-                    number: 1,
-                }),
-                cycles: 0,
-                ..P_CLOSED
-            },
-            T_CLOSED,
-        ],
-        store: &[],
-    },
-    Row {
-        name: "two cycles whose time has come",
-        unit: COUNTING,
-        script: &[Line::Run(100), Line::One(Event::Tick(80)), Line::Run(100)],
-        lanes: 1,
-        journal: &[
-            (Event::Act(0), 3),
-            (Event::Act(1), 7),
-            (Event::Tick(80), 1),
-            (Event::Act(1), 14),
-        ],
-        output: "6: 1 0\n6: 2 0\n6: 3 0\n",
-        ends: &[P_CLOSED],
-        store: &[3],
-    },
-    Row {
-        name: "five cycles whose time has come",
-        unit: COUNTING,
-        script: &[Line::Run(100), Line::One(Event::Tick(200)), Line::Run(100)],
-        lanes: 1,
-        journal: &[
-            (Event::Act(0), 3),
-            (Event::Act(1), 7),
-            (Event::Tick(200), 1),
-            (Event::Act(1), 35),
-        ],
-        output: "6: 1 0\n6: 2 0\n6: 3 0\n6: 4 0\n6: 5 0\n6: 6 0\n",
-        ends: &[P_CLOSED],
-        store: &[6],
-    },
-    Row {
-        name: "a signal lasts for a moment",
-        unit: SIGNALLED,
-        script: &[Line::Run(50)],
-        lanes: 1,
-        journal: &[
-            (Event::Act(0), 2),
-            (Event::Act(1), 2),
-            (Event::Act(0), 1),
-            (Event::Act(2), 2),
-            (Event::Act(0), 1),
-            (Event::Act(1), 2),
-            (Event::Act(0), 4),
-        ],
-        output: "6: A\n6: 0 1\n",
-        ends: &[T_CLOSED, P_CLOSED],
-        store: &[],
-    },
-    Row {
-        name: "a CANCEL waits for the cycle",
-        unit: CANCELLED,
-        script: &[Line::Run(100), Line::One(Event::Tick(500)), Line::Run(100)],
-        lanes: 1,
-        journal: &[
-            (Event::Act(0), 2),
-            (Event::Act(1), 2),
-            (Event::Act(0), 2),
-            (Event::Act(3), 2),
-            (Event::Act(0), 4),
-            (Event::Tick(500), 1),
-            (Event::Act(3), 2),
-        ],
-        output: "6: C\n",
-        ends: &[
-            End {
-                how: How::Cancelled,
-                ..T_CLOSED
-            },
-            End {
-                process: 2,
-                how: How::Cancelled,
-                cycles: 0,
-                ..P_CLOSED
-            },
-            P_CLOSED,
-            End {
-                process: 3,
-                clock: 500,
-                how: How::Cancelled,
-                ..P_CLOSED
-            },
-        ],
-        store: &[],
-    },
-    Row {
-        name: "a process ends with its dependents",
-        unit: TERMINATED,
-        script: &[Line::Run(10)],
-        lanes: 1,
-        journal: &[(Event::Act(0), 3)],
-        output: "",
-        ends: &[
-            End {
-                how: How::Terminated,
-                cycles: 0,
-                ..T_CLOSED
-            },
-            End {
-                how: How::Terminated,
-                cycles: 0,
-                ..P_CLOSED
-            },
-        ],
-        store: &[0],
-    },
-    Row {
-        name: "a block is done before the end",
-        unit: TERMINATED,
-        script: &[
-            Line::One(Event::Act(0)),
-            Line::One(Event::Act(0)),
-            Line::One(Event::Act(1)),
-            Line::One(Event::Open(1)),
-            Line::One(Event::Act(0)),
-            Line::One(Event::Block(1, 0)),
-            Line::Run(10),
-        ],
-        lanes: 2,
-        journal: &[
-            (Event::Act(0), 2),
-            (Event::Act(1), 1),
-            (Event::Open(1), 1),
-            (Event::Act(0), 1),
-            (Event::Block(1, 0), 1),
-        ],
-        output: "",
-        ends: &[
-            End {
-                how: How::Terminated,
-                cycles: 0,
-                ..T_CLOSED
-            },
-            End {
-                how: How::Terminated,
-                cycles: 0,
-                ..P_CLOSED
-            },
-        ],
-        store: &[2],
-    },
-    Row {
-        name: "a preempted process gives way",
-        unit: PREEMPTED,
-        script: &[Line::Run(6), Line::One(Event::Preempt(1)), Line::Run(100)],
-        lanes: 1,
-        journal: &[
-            (Event::Act(0), 4),
-            (Event::Act(1), 2),
-            (Event::Preempt(1), 1),
-            (Event::Act(2), 3),
-            (Event::Act(1), 2),
-        ],
-        output: "6: A1\n6: B1\n6: A2\n",
-        ends: &[
-            P_CLOSED,
-            End {
-                process: 2,
-                ..P_CLOSED
-            },
-            T_CLOSED,
-        ],
-        store: &[],
-    },
-    Row {
-        name: "a guard ends the cycles",
-        unit: GUARDED,
-        script: &[
-            Line::Run(20),
-            Line::One(Event::Tick(1_000)),
-            Line::Run(20),
-            Line::One(Event::Tick(1_000)),
-            Line::Run(20),
-        ],
-        lanes: 1,
-        journal: &[
-            (Event::Act(0), 2),
-            (Event::Act(1), 4),
-            (Event::Act(0), 1),
-            (Event::Tick(1_000), 1),
-            (Event::Act(1), 4),
-            (Event::Tick(1_000), 1),
-        ],
-        output: "6: 0\n6: 1\n",
-        ends: &[
-            P_CLOSED,
-            End {
-                clock: 2_000,
-                how: How::Cancelled,
-                cycles: 2,
-                ..T_CLOSED
-            },
-        ],
-        store: &[],
-    },
-];
-
-/// A load, the number of lanes, events that come, and events that may not come after them.
-#[derive(Drop)]
-struct Refusal {
-    unit: Unit,
-    lanes: u8,
-    events: &'static [Event],
-    refused: &'static [Event],
+/// P schedules T twice, waits until T isn't active, writes, and schedules it once more.
+fn twice(alloc: Global) -> Result<Scripted, AllocError> {
+    let mut load = bare(alloc, &["P", "P.T"])?;
+    load.tables.expressions = not_t(alloc)?;
+    let main = [
+        Step::Schedule(LATER),
+        Step::Schedule(LATER),
+        Step::Wait(Pause::Event(0)),
+        Step::Says(" AGAIN"),
+        Step::Schedule(LATER),
+    ];
+    push_body(alloc, &mut load, &main, 1)?;
+    push_body(alloc, &mut load, &[Step::Says(" T")], 2)?;
+    Ok(load)
 }
 
-const REFUSALS: [Refusal; 6] = [
-    // P alone is Ready and asks Begin.
-    Refusal {
-        unit: TERMINATED,
-        lanes: 2,
-        events: &[],
-        refused: &[
-            Event::Act(200),
-            Event::Open(200),
-            Event::Block(200, 0),
-            Event::Preempt(200),
-            Event::Act(2),
-            Event::Preempt(2),
-            Event::Act(1),
-            Event::Open(1),
-            Event::Block(1, 0),
-            Event::Open(0),
-            Event::Block(0, 0),
-        ],
-    },
-    // D asks for its UPDATE block, and isn't inside it.
-    Refusal {
-        unit: TERMINATED,
-        lanes: 2,
-        events: &[Event::Act(0), Event::Act(0), Event::Act(1)],
-        refused: &[
-            Event::Act(1),
-            Event::Block(1, 0),
-            Event::Open(0),
-            Event::Block(0, 0),
-        ],
-    },
-    // D is inside its UPDATE block, which ends after no turn.
-    Refusal {
-        unit: TERMINATED,
-        lanes: 2,
-        events: &[Event::Act(0), Event::Act(0), Event::Act(1), Event::Open(1)],
-        refused: &[
-            Event::Block(1, 1),
-            Event::Block(1, 65_535),
-            Event::Act(1),
-            Event::Open(1),
-            Event::Block(0, 0),
-        ],
-    },
-    // P is before A and B, which are Ready too.
-    Refusal {
-        unit: PREEMPTED,
-        lanes: 1,
-        events: &[Event::Act(0), Event::Act(0), Event::Act(0)],
-        refused: &[Event::Act(1), Event::Act(2), Event::Open(1)],
-    },
-    // The same with two lanes: A may act and B may not.
-    Refusal {
-        unit: PREEMPTED,
-        lanes: 2,
-        events: &[Event::Act(0), Event::Act(0), Event::Act(0), Event::Act(1)],
-        refused: &[Event::Act(2), Event::Preempt(3)],
-    },
-    // P asks for K while D's UPDATE block has K's lock group.
-    Refusal {
-        unit: HELD,
-        lanes: 2,
-        events: &[Event::Act(0), Event::Act(0), Event::Act(1), Event::Open(1)],
-        refused: &[Event::Act(0)],
-    },
-];
+/// `NOT T`
+fn not_t(alloc: Global) -> Result<Listing<Listing<Item>>, AllocError> {
+    let mut expressions = Listing::empty(alloc);
+    let items = [Item::Event(1), Item::Not];
+    expressions.push(Listing::new(items.to_vec(alloc)?))?;
+    Ok(expressions)
+}
+
+/// P schedules T twice, and stops at the error of the second time.
+fn stopped(alloc: Global) -> Result<Scripted, AllocError> {
+    let mut load = bare(alloc, &["P", "P.T"])?;
+    let main = [
+        Step::Schedule(LATER),
+        Step::Schedule(LATER),
+        Step::Stop(2, 1),
+    ];
+    push_body(alloc, &mut load, &main, 1)?;
+    push_body(alloc, &mut load, &[Step::Says(" T")], 1)?;
+    Ok(load)
+}
+
+/// What T writes in its cycles.
+const COUNTED: [&str; 6] = [" 1 0", " 2 0", " 3 0", " 4 0", " 5 0", " 6 0"];
+
+/// The cycles of T, each of which adds 1 to N.
+fn counts(alloc: Global) -> Result<Listing<Listing<Ask>>, AllocError> {
+    let mut body = Listing::empty(alloc);
+    let mut number = 0i32;
+    for text in COUNTED {
+        number = number.saturating_add(1);
+        let read = Step::Read(Spot::Cell(0));
+        let steps = [
+            read,
+            Step::Write(0, number),
+            read,
+            Step::Now,
+            Step::Says(text),
+        ];
+        body.push(cycle(alloc, &steps)?)?;
+    }
+    Ok(body)
+}
+
+/// P schedules T for a cycle every 40 ms.
+fn counting(alloc: Global) -> Result<Scripted, AllocError> {
+    let mut load = bare(alloc, &["P", "P.T"])?;
+    load.tables.cells = cells(alloc, &[0])?;
+    let plan = Plan {
+        cycle: Cycle::Every(40),
+        ..LATER
+    };
+    push_body(alloc, &mut load, &[Step::Schedule(plan)], 1)?;
+    load.bodies.push(counts(alloc)?)?;
+    Ok(load)
+}
+
+/// `E`, and `E AND NOT F`
+fn e_and_not_f(alloc: Global) -> Result<Listing<Listing<Item>>, AllocError> {
+    let mut expressions = Listing::empty(alloc);
+    let e = [Item::Event(3)];
+    expressions.push(Listing::new(e.to_vec(alloc)?))?;
+    let e_and_not_f = [Item::Event(3), Item::Event(4), Item::Not, Item::And];
+    expressions.push(Listing::new(e_and_not_f.to_vec(alloc)?))?;
+    Ok(expressions)
+}
+
+/// P schedules A, which waits for E, and B, which waits for E AND NOT F, signals E, and writes E and F.
+fn signalled(alloc: Global) -> Result<Scripted, AllocError> {
+    let mut load = bare(alloc, &["P", "P.A", "P.B"])?;
+    load.tables.expressions = e_and_not_f(alloc)?;
+    load.tables.events = Listing::new([EventStart::Unlatched, EventStart::Latched(true)].to_vec(
+        alloc,
+    )?);
+    let a = Plan {
+        priority: 60,
+        ..SOON
+    };
+    let b = Plan { process: 2, ..a };
+    let main = [
+        Step::Schedule(a),
+        Step::Schedule(b),
+        Step::Signal(3),
+        Step::Read(Spot::Event(3)),
+        Step::Read(Spot::Event(4)),
+        Step::Says(" 0 1"),
+    ];
+    push_body(alloc, &mut load, &main, 1)?;
+    push_body(
+        alloc,
+        &mut load,
+        &[Step::Wait(Pause::Event(0)), Step::Says(" A")],
+        1,
+    )?;
+    push_body(
+        alloc,
+        &mut load,
+        &[Step::Wait(Pause::Event(1)), Step::Says(" B")],
+        1,
+    )?;
+    Ok(load)
+}
+
+/// P schedules A now, B in 5 s and C now, each with a cycle every second, and cancels them; C waits half
+/// a second.
+fn cancelled(alloc: Global) -> Result<Scripted, AllocError> {
+    let mut load = bare(alloc, &["P", "P.A", "P.B", "P.C"])?;
+    let b = Plan {
+        process: 2,
+        when: When::After(5_000),
+        ..EACH_SECOND
+    };
+    let c = Plan {
+        process: 3,
+        ..EACH_SECOND
+    };
+    let main = [
+        Step::Schedule(EACH_SECOND),
+        Step::Schedule(b),
+        Step::Schedule(c),
+        Step::Cancel(1),
+        Step::Cancel(2),
+        Step::Cancel(3),
+    ];
+    push_body(alloc, &mut load, &main, 1)?;
+    push_body(alloc, &mut load, &[], 0)?;
+    push_body(alloc, &mut load, &[], 0)?;
+    push_body(
+        alloc,
+        &mut load,
+        &[Step::Wait(Pause::For(500)), Step::Says(" C")],
+        1,
+    )?;
+    Ok(load)
+}
+
+/// P schedules D as its dependent and terminates itself; D sets K to 1 and 2 in an UPDATE block, and then
+/// would write.
+fn terminated(alloc: Global) -> Result<Scripted, AllocError> {
+    let mut load = bare(alloc, &["P", "P.D"])?;
+    load.tables.cells = cells(alloc, &[1])?;
+    let plan = Plan {
+        dependent: true,
+        ..SOON
+    };
+    push_body(
+        alloc,
+        &mut load,
+        &[Step::Schedule(plan), Step::Terminate(0)],
+        1,
+    )?;
+    push_body(
+        alloc,
+        &mut load,
+        &[Step::Update(2, 0, 1, 2), Step::Says(" NO")],
+        1,
+    )?;
+    Ok(load)
+}
+
+/// P schedules D, which has an UPDATE block over K, and reads K.
+fn held(alloc: Global) -> Result<Scripted, AllocError> {
+    let mut load = bare(alloc, &["P", "P.D"])?;
+    load.tables.cells = cells(alloc, &[1])?;
+    push_body(
+        alloc,
+        &mut load,
+        &[Step::Schedule(SOON), Step::Read(Spot::Cell(0))],
+        1,
+    )?;
+    push_body(alloc, &mut load, &[Step::Update(2, 0, 1, 2)], 1)?;
+    Ok(load)
+}
+
+/// P schedules A and B, of its own priority; A writes twice and B once.
+fn preempted(alloc: Global) -> Result<Scripted, AllocError> {
+    let mut load = bare(alloc, &["P", "P.A", "P.B"])?;
+    let b = Plan { process: 2, ..SOON };
+    push_body(
+        alloc,
+        &mut load,
+        &[Step::Schedule(SOON), Step::Schedule(b)],
+        1,
+    )?;
+    push_body(alloc, &mut load, &[Step::Says(" A1"), Step::Says(" A2")], 1)?;
+    push_body(alloc, &mut load, &[Step::Says(" B1")], 1)?;
+    Ok(load)
+}
+
+/// P schedules T for a cycle every second until 2 s, and each cycle writes the time.
+fn guarded(alloc: Global) -> Result<Scripted, AllocError> {
+    let mut load = bare(alloc, &["P", "P.T"])?;
+    let plan = Plan {
+        guard: Guard::UntilTime(2_000),
+        ..EACH_SECOND
+    };
+    push_body(alloc, &mut load, &[Step::Schedule(plan)], 1)?;
+    let mut body = Listing::empty(alloc);
+    body.push(cycle(alloc, &[Step::Now, Step::Says(" 0")])?)?;
+    body.push(cycle(alloc, &[Step::Now, Step::Says(" 1")])?)?;
+    load.bodies.push(body)?;
+    Ok(load)
+}
 
 /// The executive as a run of the load begins, if the load is right. The script has no data.
 fn started(
     alloc: Global,
-    unit: &Unit,
+    load: Scripted,
     lanes: u8,
 ) -> Result<Option<Plain<ScriptedProcs>>, AllocError> {
-    let load = load(alloc, unit)?;
     if !load.is_right() || lanes < 1 || lanes > LANE_LIMIT {
         return Ok(None);
     }
@@ -675,21 +370,315 @@ fn numbers(alloc: Global, numbers: &[i32]) -> Result<Vec<Value>, AllocError> {
     Ok(values)
 }
 
+/// A load is right, its run allows each event of the script, and this comes of it: the events, each so
+/// many times, the channel lines, the ends, and what the shared cells hold.
+fn shows(
+    rt: &impl Abort,
+    alloc: Global,
+    load: Scripted,
+    lanes: u8,
+    script: &[Line],
+    journal: &[(Event, u32)],
+    output: &str,
+    ends: &[End],
+    store: &[i32],
+) -> Result<(), Fail> {
+    let mut plain = started(alloc, load, lanes)?.ok_or("the load isn't right")?;
+    assert!(rt; play(&mut plain, script)?);
+    let journal = repeated(alloc, journal)?;
+    let store = numbers(alloc, store)?;
+    assert_eq!(rt; plain.journal().as_slice(), journal.as_slice());
+    let state = plain.state();
+    assert_eq!(rt; state.output.as_slice(), output.as_bytes());
+    assert_eq!(rt; state.ends.as_slice(), ends);
+    assert_eq!(rt; state.store.as_slice(), store.as_slice());
+    Ok(())
+}
+
+fn a_failed_schedule_is_ignored(rt: &impl Abort, alloc: Global) -> Result<(), Fail> {
+    let script = [Line::Run(50)];
+    let journal = [
+        (Event::Act(0), 4),
+        (Event::Act(1), 3),
+        (Event::Act(0), 3),
+        (Event::Act(1), 3),
+    ];
+    let ends = [T_CLOSED, P_CLOSED, T_CLOSED];
+    shows(
+        rt,
+        alloc,
+        twice(alloc)?,
+        1,
+        &script,
+        &journal,
+        "6: T\n6: AGAIN\n6: T\n",
+        &ends,
+        &[],
+    )
+}
+
+fn a_failed_schedule_stops(rt: &impl Abort, alloc: Global) -> Result<(), Fail> {
+    let script = [Line::Run(50)];
+    let journal = [(Event::Act(0), 4), (Event::Act(1), 3)];
+    let ends = [
+        End {
+            how: How::Error(ErrNo {
+                group: 2,
+                number: 1,
+            }),
+            cycles: 0,
+            ..P_CLOSED
+        },
+        T_CLOSED,
+    ];
+    shows(
+        rt,
+        alloc,
+        stopped(alloc)?,
+        1,
+        &script,
+        &journal,
+        "6: T\n",
+        &ends,
+        &[],
+    )
+}
+
+fn two_cycles_are_due(rt: &impl Abort, alloc: Global) -> Result<(), Fail> {
+    let script = [Line::Run(100), Line::One(Event::Tick(80)), Line::Run(100)];
+    let journal = [
+        (Event::Act(0), 3),
+        (Event::Act(1), 7),
+        (Event::Tick(80), 1),
+        (Event::Act(1), 14),
+    ];
+    let ends = [P_CLOSED];
+    shows(
+        rt,
+        alloc,
+        counting(alloc)?,
+        1,
+        &script,
+        &journal,
+        "6: 1 0\n6: 2 0\n6: 3 0\n",
+        &ends,
+        &[3],
+    )
+}
+
+fn five_cycles_are_due(rt: &impl Abort, alloc: Global) -> Result<(), Fail> {
+    let script = [Line::Run(100), Line::One(Event::Tick(200)), Line::Run(100)];
+    let journal = [
+        (Event::Act(0), 3),
+        (Event::Act(1), 7),
+        (Event::Tick(200), 1),
+        (Event::Act(1), 35),
+    ];
+    let ends = [P_CLOSED];
+    shows(
+        rt,
+        alloc,
+        counting(alloc)?,
+        1,
+        &script,
+        &journal,
+        "6: 1 0\n6: 2 0\n6: 3 0\n6: 4 0\n6: 5 0\n6: 6 0\n",
+        &ends,
+        &[6],
+    )
+}
+
+fn a_signal_is_short(rt: &impl Abort, alloc: Global) -> Result<(), Fail> {
+    let script = [Line::Run(50)];
+    let journal = [
+        (Event::Act(0), 2),
+        (Event::Act(1), 2),
+        (Event::Act(0), 1),
+        (Event::Act(2), 2),
+        (Event::Act(0), 1),
+        (Event::Act(1), 2),
+        (Event::Act(0), 4),
+    ];
+    let ends = [T_CLOSED, P_CLOSED];
+    shows(
+        rt,
+        alloc,
+        signalled(alloc)?,
+        1,
+        &script,
+        &journal,
+        "6: A\n6: 0 1\n",
+        &ends,
+        &[],
+    )
+}
+
+fn a_cancel_waits(rt: &impl Abort, alloc: Global) -> Result<(), Fail> {
+    let script = [Line::Run(100), Line::One(Event::Tick(500)), Line::Run(100)];
+    let journal = [
+        (Event::Act(0), 2),
+        (Event::Act(1), 2),
+        (Event::Act(0), 2),
+        (Event::Act(3), 2),
+        (Event::Act(0), 4),
+        (Event::Tick(500), 1),
+        (Event::Act(3), 2),
+    ];
+    let ends = [
+        T_CANCELLED,
+        End {
+            process: 2,
+            cycles: 0,
+            ..T_CANCELLED
+        },
+        P_CLOSED,
+        End {
+            process: 3,
+            clock: 500,
+            ..T_CANCELLED
+        },
+    ];
+    shows(
+        rt,
+        alloc,
+        cancelled(alloc)?,
+        1,
+        &script,
+        &journal,
+        "6: C\n",
+        &ends,
+        &[],
+    )
+}
+
+fn all_end_together(rt: &impl Abort, alloc: Global) -> Result<(), Fail> {
+    let script = [Line::Run(10)];
+    let journal = [(Event::Act(0), 3)];
+    let ends = [T_TERMINATED, P_TERMINATED];
+    shows(
+        rt,
+        alloc,
+        terminated(alloc)?,
+        1,
+        &script,
+        &journal,
+        "",
+        &ends,
+        &[0],
+    )
+}
+
+fn a_block_is_done(rt: &impl Abort, alloc: Global) -> Result<(), Fail> {
+    let script = [
+        Line::One(Event::Act(0)),
+        Line::One(Event::Act(0)),
+        Line::One(Event::Act(1)),
+        Line::One(Event::Open(1)),
+        Line::One(Event::Act(0)),
+        Line::One(Event::Block(1, 0)),
+        Line::Run(10),
+    ];
+    let journal = [
+        (Event::Act(0), 2),
+        (Event::Act(1), 1),
+        (Event::Open(1), 1),
+        (Event::Act(0), 1),
+        (Event::Block(1, 0), 1),
+    ];
+    let ends = [T_TERMINATED, P_TERMINATED];
+    shows(
+        rt,
+        alloc,
+        terminated(alloc)?,
+        2,
+        &script,
+        &journal,
+        "",
+        &ends,
+        &[2],
+    )
+}
+
+fn a_process_gives_way(rt: &impl Abort, alloc: Global) -> Result<(), Fail> {
+    let script = [Line::Run(6), Line::One(Event::Preempt(1)), Line::Run(100)];
+    let journal = [
+        (Event::Act(0), 4),
+        (Event::Act(1), 2),
+        (Event::Preempt(1), 1),
+        (Event::Act(2), 3),
+        (Event::Act(1), 2),
+    ];
+    let ends = [
+        P_CLOSED,
+        End {
+            process: 2,
+            ..P_CLOSED
+        },
+        T_CLOSED,
+    ];
+    shows(
+        rt,
+        alloc,
+        preempted(alloc)?,
+        1,
+        &script,
+        &journal,
+        "6: A1\n6: B1\n6: A2\n",
+        &ends,
+        &[],
+    )
+}
+
+fn a_guard_ends(rt: &impl Abort, alloc: Global) -> Result<(), Fail> {
+    let script = [
+        Line::Run(20),
+        Line::One(Event::Tick(1000)),
+        Line::Run(20),
+        Line::One(Event::Tick(1000)),
+        Line::Run(20),
+    ];
+    let journal = [
+        (Event::Act(0), 2),
+        (Event::Act(1), 4),
+        (Event::Act(0), 1),
+        (Event::Tick(1000), 1),
+        (Event::Act(1), 4),
+        (Event::Tick(1000), 1),
+    ];
+    let ends = [
+        P_CLOSED,
+        End {
+            clock: 2_000,
+            cycles: 2,
+            ..T_CANCELLED
+        },
+    ];
+    shows(
+        rt,
+        alloc,
+        guarded(alloc)?,
+        1,
+        &script,
+        &journal,
+        "6: 0\n6: 1\n",
+        &ends,
+        &[],
+    )
+}
+
 #[test]
 fn the_rows_run_as_they_are_defined(rt: HostRuntime) -> Result<(), Fail> {
     let alloc = rt.alloc();
-    for row in ROWS {
-        let name = row.name;
-        let mut plain = started(alloc, &row.unit, row.lanes)?.ok_or("the load isn't right")?;
-        assert!(rt; play(&mut plain, row.script)?, "{name}");
-        let journal = repeated(alloc, row.journal)?;
-        let store = numbers(alloc, row.store)?;
-        assert_eq!(rt; plain.journal().as_slice(), journal.as_slice(), "{name}");
-        let state = plain.state();
-        assert_eq!(rt; state.output.as_slice(), row.output.as_bytes(), "{name}");
-        assert_eq!(rt; state.ends.as_slice(), row.ends, "{name}");
-        assert_eq!(rt; state.store.as_slice(), store.as_slice(), "{name}");
-    }
+    a_failed_schedule_is_ignored(&rt, alloc)?;
+    a_failed_schedule_stops(&rt, alloc)?;
+    two_cycles_are_due(&rt, alloc)?;
+    five_cycles_are_due(&rt, alloc)?;
+    a_signal_is_short(&rt, alloc)?;
+    a_cancel_waits(&rt, alloc)?;
+    all_end_together(&rt, alloc)?;
+    a_block_is_done(&rt, alloc)?;
+    a_process_gives_way(&rt, alloc)?;
+    a_guard_ends(&rt, alloc)?;
     Ok(())
 }
 
@@ -701,19 +690,117 @@ fn picture(alloc: Global, plain: &mut Plain<ScriptedProcs>) -> Result<String, Al
     format!(in alloc; "{journal:?} {state:?} {next:?}")
 }
 
+/// After these events the executive refuses each of the others, and nothing changes.
+fn refuses(
+    rt: &impl Abort,
+    alloc: Global,
+    load: Scripted,
+    lanes: u8,
+    events: &[Event],
+    refused: &[Event],
+) -> Result<(), Fail> {
+    let mut plain = started(alloc, load, lanes)?.ok_or("the load isn't right")?;
+    for event in events {
+        assert!(rt; step(&mut plain, *event)?, "{event:?}");
+    }
+    let before = picture(alloc, &mut plain)?;
+    for event in refused {
+        assert!(rt; !step(&mut plain, *event)?, "{event:?}");
+    }
+    assert_eq!(rt; picture(alloc, &mut plain)?, before);
+    Ok(())
+}
+
+/// P has scheduled D, and D has begun and asks for its UPDATE block.
+const ASKED: [Event; 3] = [Event::Act(0), Event::Act(0), Event::Act(1)];
+
+/// D is inside the block.
+const OPENED: [Event; 4] = [Event::Act(0), Event::Act(0), Event::Act(1), Event::Open(1)];
+
+/// Process 200 and process 2 are unknown.
+fn no_process_has_the_number(rt: &impl Abort, alloc: Global) -> Result<(), Fail> {
+    let refused = [
+        Event::Act(200),
+        Event::Open(200),
+        Event::Block(200, 0),
+        Event::Preempt(200),
+        Event::Act(2),
+        Event::Preempt(2),
+    ];
+    refuses(rt, alloc, terminated(alloc)?, 2, &[], &refused)
+}
+
+/// D is idle, and P asks for no UPDATE block.
+fn the_row_is_not_ready(rt: &impl Abort, alloc: Global) -> Result<(), Fail> {
+    let refused = [
+        Event::Act(1),
+        Event::Open(1),
+        Event::Block(1, 0),
+        Event::Open(0),
+        Event::Block(0, 0),
+    ];
+    refuses(rt, alloc, terminated(alloc)?, 2, &[], &refused)
+}
+
+/// D asks for its UPDATE block, and is not inside it.
+fn a_block_is_asked_for(rt: &impl Abort, alloc: Global) -> Result<(), Fail> {
+    let refused = [Event::Act(1), Event::Block(1, 0), Event::Open(0)];
+    refuses(rt, alloc, terminated(alloc)?, 2, &ASKED, &refused)
+}
+
+/// D is inside its UPDATE block, which ends after no turn.
+fn the_turns_are_others(rt: &impl Abort, alloc: Global) -> Result<(), Fail> {
+    let refused = [
+        Event::Block(1, 1),
+        Event::Block(1, 65_535),
+        Event::Act(1),
+        Event::Open(1),
+        Event::Block(0, 0),
+    ];
+    refuses(rt, alloc, terminated(alloc)?, 2, &OPENED, &refused)
+}
+
+/// P goes before A and B, which are Ready too.
+fn one_lane_is_for_one(rt: &impl Abort, alloc: Global) -> Result<(), Fail> {
+    let refused = [Event::Act(1), Event::Act(2)];
+    refuses(
+        rt,
+        alloc,
+        preempted(alloc)?,
+        1,
+        &[Event::Act(0), Event::Act(0), Event::Act(0)],
+        &refused,
+    )
+}
+
+/// A may act beside P, and B may not.
+fn two_lanes_are_for_two(rt: &impl Abort, alloc: Global) -> Result<(), Fail> {
+    let refused = [Event::Act(2), Event::Preempt(3)];
+    refuses(
+        rt,
+        alloc,
+        preempted(alloc)?,
+        2,
+        &[Event::Act(0), Event::Act(0), Event::Act(0), Event::Act(1)],
+        &refused,
+    )
+}
+
+/// P asks for K, whose lock group the UPDATE block of D has.
+fn the_lock_is_held(rt: &impl Abort, alloc: Global) -> Result<(), Fail> {
+    let refused = [Event::Act(0)];
+    refuses(rt, alloc, held(alloc)?, 2, &OPENED, &refused)
+}
+
 #[test]
 fn what_may_not_come_changes_nothing(rt: HostRuntime) -> Result<(), Fail> {
     let alloc = rt.alloc();
-    for case in REFUSALS {
-        let mut plain = started(alloc, &case.unit, case.lanes)?.ok_or("the load isn't right")?;
-        for event in case.events {
-            assert!(rt; step(&mut plain, *event)?, "{event:?}");
-        }
-        let before = picture(alloc, &mut plain)?;
-        for event in case.refused {
-            assert!(rt; !step(&mut plain, *event)?, "{event:?}");
-        }
-        assert_eq!(rt; picture(alloc, &mut plain)?, before);
-    }
+    no_process_has_the_number(&rt, alloc)?;
+    the_row_is_not_ready(&rt, alloc)?;
+    a_block_is_asked_for(&rt, alloc)?;
+    the_turns_are_others(&rt, alloc)?;
+    one_lane_is_for_one(&rt, alloc)?;
+    two_lanes_are_for_two(&rt, alloc)?;
+    the_lock_is_held(&rt, alloc)?;
     Ok(())
 }
