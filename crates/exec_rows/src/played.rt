@@ -9,7 +9,6 @@ use exec_model::{End, Event, How, Plain, Script};
 use hal_base::{LANE_LIMIT, TICK_SUM_LIMIT};
 use hal_values::{Cycle, ErrNo, EventStart, Guard, Item, Listing, Pause, Plan, Spot, Value, When};
 use std::alloc::{AllocError, Global};
-use std::process::Abort;
 use std::test::Fail;
 
 /// A line of a script, or an event.
@@ -291,21 +290,6 @@ fn guarded(alloc: Global) -> Result<Scripted, AllocError> {
     Ok(load)
 }
 
-/// The executive as a run of the load begins, if the load is right. The script has no data.
-fn started(
-    alloc: Global,
-    load: Scripted,
-    lanes: u8,
-) -> Result<Option<Plain<ScriptedProcs>>, AllocError> {
-    if !load.is_right() || lanes < 1 || lanes > LANE_LIMIT {
-        return Ok(None);
-    }
-    let procs = ScriptedProcs::start(alloc, load)?;
-    let script = Script::new(Vec::new(alloc));
-    let plain = Plain::start(alloc, procs, &script, lanes)?;
-    Ok(Some(plain))
-}
-
 /// The clock goes on, if it stays within the sum that scripts may have.
 fn tick(plain: &mut Plain<ScriptedProcs>, time: u64) -> Result<bool, AllocError> {
     let clock = plain.state().clock;
@@ -370,32 +354,76 @@ fn numbers(alloc: Global, numbers: &[i32]) -> Result<Vec<Value>, AllocError> {
     Ok(values)
 }
 
-/// A load is right, its run allows each event of the script, and this comes of it: the events, each so
-/// many times, the channel lines, the ends, and what the shared cells hold.
+/// The events are these, each so many times.
+fn has_made(
+    alloc: Global,
+    plain: &Plain<ScriptedProcs>,
+    journal: &[(Event, u32)],
+) -> Result<bool, AllocError> {
+    let journal = repeated(alloc, journal)?;
+    Ok(plain.journal().as_slice() == journal.as_slice())
+}
+
+/// The channel lines and the ends are these.
+fn has_told(plain: &Plain<ScriptedProcs>, output: &str, ends: &[End]) -> bool {
+    let state = plain.state();
+    state.output.as_slice() == output.as_bytes() && state.ends.as_slice() == ends
+}
+
+/// The shared cells hold these numbers.
+fn has_stored(
+    alloc: Global,
+    plain: &Plain<ScriptedProcs>,
+    store: &[i32],
+) -> Result<bool, AllocError> {
+    let store = numbers(alloc, store)?;
+    Ok(plain.state().store.as_slice() == store.as_slice())
+}
+
+/// What is to come of a run.
+#[derive(Clone, Copy)]
+struct Outcome<'a> {
+    /// The events, each so many times.
+    journal: &'a [(Event, u32)],
+    /// The channel lines.
+    output: &'a str,
+    ends: &'a [End],
+    /// What the shared cells hold.
+    store: &'a [i32],
+}
+
+/// Each event of the script may come, and this comes of them.
+fn comes(
+    alloc: Global,
+    plain: &mut Plain<ScriptedProcs>,
+    script: &[Line],
+    outcome: Outcome,
+) -> Result<bool, AllocError> {
+    let allowed = play(plain, script)?;
+    let made = has_made(alloc, plain, outcome.journal)?;
+    let stored = has_stored(alloc, plain, outcome.store)?;
+    let told = has_told(plain, outcome.output, outcome.ends);
+    Ok(allowed && made && stored && told)
+}
+
+/// The load is right, each event of the script may come in its run, and this comes of them.
 fn shows(
-    rt: &impl Abort,
     alloc: Global,
     load: Scripted,
     lanes: u8,
     script: &[Line],
-    journal: &[(Event, u32)],
-    output: &str,
-    ends: &[End],
-    store: &[i32],
-) -> Result<(), Fail> {
-    let mut plain = started(alloc, load, lanes)?.ok_or("the load isn't right")?;
-    assert!(rt; play(&mut plain, script)?);
-    let journal = repeated(alloc, journal)?;
-    let store = numbers(alloc, store)?;
-    assert_eq!(rt; plain.journal().as_slice(), journal.as_slice());
-    let state = plain.state();
-    assert_eq!(rt; state.output.as_slice(), output.as_bytes());
-    assert_eq!(rt; state.ends.as_slice(), ends);
-    assert_eq!(rt; state.store.as_slice(), store.as_slice());
-    Ok(())
+    outcome: Outcome,
+) -> Result<bool, AllocError> {
+    if !load.is_right() || lanes < 1 || lanes > LANE_LIMIT {
+        return Ok(false);
+    }
+    let procs = ScriptedProcs::start(alloc, load)?;
+    let no_lines = Script::new(Vec::new(alloc));
+    let mut plain = Plain::start(alloc, procs, &no_lines, lanes)?;
+    comes(alloc, &mut plain, script, outcome)
 }
 
-fn a_failed_schedule_is_ignored(rt: &impl Abort, alloc: Global) -> Result<(), Fail> {
+fn a_failed_schedule_is_ignored(alloc: Global) -> Result<bool, AllocError> {
     let script = [Line::Run(50)];
     let journal = [
         (Event::Act(0), 4),
@@ -404,20 +432,16 @@ fn a_failed_schedule_is_ignored(rt: &impl Abort, alloc: Global) -> Result<(), Fa
         (Event::Act(1), 3),
     ];
     let ends = [T_CLOSED, P_CLOSED, T_CLOSED];
-    shows(
-        rt,
-        alloc,
-        twice(alloc)?,
-        1,
-        &script,
-        &journal,
-        "6: T\n6: AGAIN\n6: T\n",
-        &ends,
-        &[],
-    )
+    let outcome = Outcome {
+        journal: &journal,
+        output: "6: T\n6: AGAIN\n6: T\n",
+        ends: &ends,
+        store: &[],
+    };
+    shows(alloc, twice(alloc)?, 1, &script, outcome)
 }
 
-fn a_failed_schedule_stops(rt: &impl Abort, alloc: Global) -> Result<(), Fail> {
+fn a_failed_schedule_stops(alloc: Global) -> Result<bool, AllocError> {
     let script = [Line::Run(50)];
     let journal = [(Event::Act(0), 4), (Event::Act(1), 3)];
     let ends = [
@@ -431,20 +455,16 @@ fn a_failed_schedule_stops(rt: &impl Abort, alloc: Global) -> Result<(), Fail> {
         },
         T_CLOSED,
     ];
-    shows(
-        rt,
-        alloc,
-        stopped(alloc)?,
-        1,
-        &script,
-        &journal,
-        "6: T\n",
-        &ends,
-        &[],
-    )
+    let outcome = Outcome {
+        journal: &journal,
+        output: "6: T\n",
+        ends: &ends,
+        store: &[],
+    };
+    shows(alloc, stopped(alloc)?, 1, &script, outcome)
 }
 
-fn two_cycles_are_due(rt: &impl Abort, alloc: Global) -> Result<(), Fail> {
+fn two_cycles_are_due(alloc: Global) -> Result<bool, AllocError> {
     let script = [Line::Run(100), Line::One(Event::Tick(80)), Line::Run(100)];
     let journal = [
         (Event::Act(0), 3),
@@ -453,20 +473,16 @@ fn two_cycles_are_due(rt: &impl Abort, alloc: Global) -> Result<(), Fail> {
         (Event::Act(1), 14),
     ];
     let ends = [P_CLOSED];
-    shows(
-        rt,
-        alloc,
-        counting(alloc)?,
-        1,
-        &script,
-        &journal,
-        "6: 1 0\n6: 2 0\n6: 3 0\n",
-        &ends,
-        &[3],
-    )
+    let outcome = Outcome {
+        journal: &journal,
+        output: "6: 1 0\n6: 2 0\n6: 3 0\n",
+        ends: &ends,
+        store: &[3],
+    };
+    shows(alloc, counting(alloc)?, 1, &script, outcome)
 }
 
-fn five_cycles_are_due(rt: &impl Abort, alloc: Global) -> Result<(), Fail> {
+fn five_cycles_are_due(alloc: Global) -> Result<bool, AllocError> {
     let script = [Line::Run(100), Line::One(Event::Tick(200)), Line::Run(100)];
     let journal = [
         (Event::Act(0), 3),
@@ -475,20 +491,16 @@ fn five_cycles_are_due(rt: &impl Abort, alloc: Global) -> Result<(), Fail> {
         (Event::Act(1), 35),
     ];
     let ends = [P_CLOSED];
-    shows(
-        rt,
-        alloc,
-        counting(alloc)?,
-        1,
-        &script,
-        &journal,
-        "6: 1 0\n6: 2 0\n6: 3 0\n6: 4 0\n6: 5 0\n6: 6 0\n",
-        &ends,
-        &[6],
-    )
+    let outcome = Outcome {
+        journal: &journal,
+        output: "6: 1 0\n6: 2 0\n6: 3 0\n6: 4 0\n6: 5 0\n6: 6 0\n",
+        ends: &ends,
+        store: &[6],
+    };
+    shows(alloc, counting(alloc)?, 1, &script, outcome)
 }
 
-fn a_signal_is_short(rt: &impl Abort, alloc: Global) -> Result<(), Fail> {
+fn a_signal_is_short(alloc: Global) -> Result<bool, AllocError> {
     let script = [Line::Run(50)];
     let journal = [
         (Event::Act(0), 2),
@@ -500,20 +512,16 @@ fn a_signal_is_short(rt: &impl Abort, alloc: Global) -> Result<(), Fail> {
         (Event::Act(0), 4),
     ];
     let ends = [T_CLOSED, P_CLOSED];
-    shows(
-        rt,
-        alloc,
-        signalled(alloc)?,
-        1,
-        &script,
-        &journal,
-        "6: A\n6: 0 1\n",
-        &ends,
-        &[],
-    )
+    let outcome = Outcome {
+        journal: &journal,
+        output: "6: A\n6: 0 1\n",
+        ends: &ends,
+        store: &[],
+    };
+    shows(alloc, signalled(alloc)?, 1, &script, outcome)
 }
 
-fn a_cancel_waits(rt: &impl Abort, alloc: Global) -> Result<(), Fail> {
+fn a_cancel_waits(alloc: Global) -> Result<bool, AllocError> {
     let script = [Line::Run(100), Line::One(Event::Tick(500)), Line::Run(100)];
     let journal = [
         (Event::Act(0), 2),
@@ -538,37 +546,29 @@ fn a_cancel_waits(rt: &impl Abort, alloc: Global) -> Result<(), Fail> {
             ..T_CANCELLED
         },
     ];
-    shows(
-        rt,
-        alloc,
-        cancelled(alloc)?,
-        1,
-        &script,
-        &journal,
-        "6: C\n",
-        &ends,
-        &[],
-    )
+    let outcome = Outcome {
+        journal: &journal,
+        output: "6: C\n",
+        ends: &ends,
+        store: &[],
+    };
+    shows(alloc, cancelled(alloc)?, 1, &script, outcome)
 }
 
-fn all_end_together(rt: &impl Abort, alloc: Global) -> Result<(), Fail> {
+fn all_end_together(alloc: Global) -> Result<bool, AllocError> {
     let script = [Line::Run(10)];
     let journal = [(Event::Act(0), 3)];
     let ends = [T_TERMINATED, P_TERMINATED];
-    shows(
-        rt,
-        alloc,
-        terminated(alloc)?,
-        1,
-        &script,
-        &journal,
-        "",
-        &ends,
-        &[0],
-    )
+    let outcome = Outcome {
+        journal: &journal,
+        output: "",
+        ends: &ends,
+        store: &[0],
+    };
+    shows(alloc, terminated(alloc)?, 1, &script, outcome)
 }
 
-fn a_block_is_done(rt: &impl Abort, alloc: Global) -> Result<(), Fail> {
+fn a_block_is_done(alloc: Global) -> Result<bool, AllocError> {
     let script = [
         Line::One(Event::Act(0)),
         Line::One(Event::Act(0)),
@@ -586,20 +586,16 @@ fn a_block_is_done(rt: &impl Abort, alloc: Global) -> Result<(), Fail> {
         (Event::Block(1, 0), 1),
     ];
     let ends = [T_TERMINATED, P_TERMINATED];
-    shows(
-        rt,
-        alloc,
-        terminated(alloc)?,
-        2,
-        &script,
-        &journal,
-        "",
-        &ends,
-        &[2],
-    )
+    let outcome = Outcome {
+        journal: &journal,
+        output: "",
+        ends: &ends,
+        store: &[2],
+    };
+    shows(alloc, terminated(alloc)?, 2, &script, outcome)
 }
 
-fn a_process_gives_way(rt: &impl Abort, alloc: Global) -> Result<(), Fail> {
+fn a_process_gives_way(alloc: Global) -> Result<bool, AllocError> {
     let script = [Line::Run(6), Line::One(Event::Preempt(1)), Line::Run(100)];
     let journal = [
         (Event::Act(0), 4),
@@ -616,20 +612,16 @@ fn a_process_gives_way(rt: &impl Abort, alloc: Global) -> Result<(), Fail> {
         },
         T_CLOSED,
     ];
-    shows(
-        rt,
-        alloc,
-        preempted(alloc)?,
-        1,
-        &script,
-        &journal,
-        "6: A1\n6: B1\n6: A2\n",
-        &ends,
-        &[],
-    )
+    let outcome = Outcome {
+        journal: &journal,
+        output: "6: A1\n6: B1\n6: A2\n",
+        ends: &ends,
+        store: &[],
+    };
+    shows(alloc, preempted(alloc)?, 1, &script, outcome)
 }
 
-fn a_guard_ends(rt: &impl Abort, alloc: Global) -> Result<(), Fail> {
+fn a_guard_ends(alloc: Global) -> Result<bool, AllocError> {
     let script = [
         Line::Run(20),
         Line::One(Event::Tick(1000)),
@@ -653,32 +645,28 @@ fn a_guard_ends(rt: &impl Abort, alloc: Global) -> Result<(), Fail> {
             ..T_CANCELLED
         },
     ];
-    shows(
-        rt,
-        alloc,
-        guarded(alloc)?,
-        1,
-        &script,
-        &journal,
-        "6: 0\n6: 1\n",
-        &ends,
-        &[],
-    )
+    let outcome = Outcome {
+        journal: &journal,
+        output: "6: 0\n6: 1\n",
+        ends: &ends,
+        store: &[],
+    };
+    shows(alloc, guarded(alloc)?, 1, &script, outcome)
 }
 
 #[test]
 fn the_rows_run_as_they_are_defined(rt: HostRuntime) -> Result<(), Fail> {
     let alloc = rt.alloc();
-    a_failed_schedule_is_ignored(&rt, alloc)?;
-    a_failed_schedule_stops(&rt, alloc)?;
-    two_cycles_are_due(&rt, alloc)?;
-    five_cycles_are_due(&rt, alloc)?;
-    a_signal_is_short(&rt, alloc)?;
-    a_cancel_waits(&rt, alloc)?;
-    all_end_together(&rt, alloc)?;
-    a_block_is_done(&rt, alloc)?;
-    a_process_gives_way(&rt, alloc)?;
-    a_guard_ends(&rt, alloc)?;
+    assert!(rt; a_failed_schedule_is_ignored(alloc)?);
+    assert!(rt; a_failed_schedule_stops(alloc)?);
+    assert!(rt; two_cycles_are_due(alloc)?);
+    assert!(rt; five_cycles_are_due(alloc)?);
+    assert!(rt; a_signal_is_short(alloc)?);
+    assert!(rt; a_cancel_waits(alloc)?);
+    assert!(rt; all_end_together(alloc)?);
+    assert!(rt; a_block_is_done(alloc)?);
+    assert!(rt; a_process_gives_way(alloc)?);
+    assert!(rt; a_guard_ends(alloc)?);
     Ok(())
 }
 
@@ -690,35 +678,59 @@ fn picture(alloc: Global, plain: &mut Plain<ScriptedProcs>) -> Result<String, Al
     format!(in alloc; "{journal:?} {state:?} {next:?}")
 }
 
-/// After these events the executive refuses each of the others, and nothing changes.
+/// Whether none of these events is made.
+fn makes_none(plain: &mut Plain<ScriptedProcs>, refused: &[Event]) -> Result<bool, AllocError> {
+    for event in refused {
+        if step(plain, *event)? {
+            return Ok(false);
+        }
+    }
+    Ok(true)
+}
+
+/// After these lines the executive refuses each of the events, and nothing changes.
+fn stays(
+    alloc: Global,
+    plain: &mut Plain<ScriptedProcs>,
+    lines: &[Line],
+    refused: &[Event],
+) -> Result<bool, AllocError> {
+    let allowed = play(plain, lines)?;
+    let before = picture(alloc, plain)?;
+    let none = makes_none(plain, refused)?;
+    let after = picture(alloc, plain)?;
+    Ok(allowed && none && before.as_bytes() == after.as_bytes())
+}
+
+/// The same from the beginning of a run of the load.
 fn refuses(
-    rt: &impl Abort,
     alloc: Global,
     load: Scripted,
     lanes: u8,
-    events: &[Event],
+    lines: &[Line],
     refused: &[Event],
-) -> Result<(), Fail> {
-    let mut plain = started(alloc, load, lanes)?.ok_or("the load isn't right")?;
-    for event in events {
-        assert!(rt; step(&mut plain, *event)?, "{event:?}");
+) -> Result<bool, AllocError> {
+    if !load.is_right() || lanes < 1 || lanes > LANE_LIMIT {
+        return Ok(false);
     }
-    let before = picture(alloc, &mut plain)?;
-    for event in refused {
-        assert!(rt; !step(&mut plain, *event)?, "{event:?}");
-    }
-    assert_eq!(rt; picture(alloc, &mut plain)?, before);
-    Ok(())
+    let procs = ScriptedProcs::start(alloc, load)?;
+    let no_lines = Script::new(Vec::new(alloc));
+    let mut plain = Plain::start(alloc, procs, &no_lines, lanes)?;
+    stays(alloc, &mut plain, lines, refused)
 }
 
 /// P has scheduled D, and D has begun and asks for its UPDATE block.
-const ASKED: [Event; 3] = [Event::Act(0), Event::Act(0), Event::Act(1)];
+const ASKED: [Line; 2] = [Line::Run(2), Line::One(Event::Act(1))];
 
 /// D is inside the block.
-const OPENED: [Event; 4] = [Event::Act(0), Event::Act(0), Event::Act(1), Event::Open(1)];
+const OPENED: [Line; 3] = [
+    Line::Run(2),
+    Line::One(Event::Act(1)),
+    Line::One(Event::Open(1)),
+];
 
 /// Process 200 and process 2 are unknown.
-fn no_process_has_the_number(rt: &impl Abort, alloc: Global) -> Result<(), Fail> {
+fn no_process_has_the_number(alloc: Global) -> Result<bool, AllocError> {
     let refused = [
         Event::Act(200),
         Event::Open(200),
@@ -727,11 +739,11 @@ fn no_process_has_the_number(rt: &impl Abort, alloc: Global) -> Result<(), Fail>
         Event::Act(2),
         Event::Preempt(2),
     ];
-    refuses(rt, alloc, terminated(alloc)?, 2, &[], &refused)
+    refuses(alloc, terminated(alloc)?, 2, &[], &refused)
 }
 
 /// D is idle, and P asks for no UPDATE block.
-fn the_row_is_not_ready(rt: &impl Abort, alloc: Global) -> Result<(), Fail> {
+fn the_row_is_not_ready(alloc: Global) -> Result<bool, AllocError> {
     let refused = [
         Event::Act(1),
         Event::Open(1),
@@ -739,17 +751,17 @@ fn the_row_is_not_ready(rt: &impl Abort, alloc: Global) -> Result<(), Fail> {
         Event::Open(0),
         Event::Block(0, 0),
     ];
-    refuses(rt, alloc, terminated(alloc)?, 2, &[], &refused)
+    refuses(alloc, terminated(alloc)?, 2, &[], &refused)
 }
 
 /// D asks for its UPDATE block, and is not inside it.
-fn a_block_is_asked_for(rt: &impl Abort, alloc: Global) -> Result<(), Fail> {
+fn a_block_is_asked_for(alloc: Global) -> Result<bool, AllocError> {
     let refused = [Event::Act(1), Event::Block(1, 0), Event::Open(0)];
-    refuses(rt, alloc, terminated(alloc)?, 2, &ASKED, &refused)
+    refuses(alloc, terminated(alloc)?, 2, &ASKED, &refused)
 }
 
 /// D is inside its UPDATE block, which ends after no turn.
-fn the_turns_are_others(rt: &impl Abort, alloc: Global) -> Result<(), Fail> {
+fn the_turns_are_others(alloc: Global) -> Result<bool, AllocError> {
     let refused = [
         Event::Block(1, 1),
         Event::Block(1, 65_535),
@@ -757,50 +769,42 @@ fn the_turns_are_others(rt: &impl Abort, alloc: Global) -> Result<(), Fail> {
         Event::Open(1),
         Event::Block(0, 0),
     ];
-    refuses(rt, alloc, terminated(alloc)?, 2, &OPENED, &refused)
+    refuses(alloc, terminated(alloc)?, 2, &OPENED, &refused)
 }
 
 /// P goes before A and B, which are Ready too.
-fn one_lane_is_for_one(rt: &impl Abort, alloc: Global) -> Result<(), Fail> {
+fn one_lane_is_for_one(alloc: Global) -> Result<bool, AllocError> {
     let refused = [Event::Act(1), Event::Act(2)];
-    refuses(
-        rt,
-        alloc,
-        preempted(alloc)?,
-        1,
-        &[Event::Act(0), Event::Act(0), Event::Act(0)],
-        &refused,
-    )
+    refuses(alloc, preempted(alloc)?, 1, &[Line::Run(3)], &refused)
 }
 
 /// A may act beside P, and B may not.
-fn two_lanes_are_for_two(rt: &impl Abort, alloc: Global) -> Result<(), Fail> {
+fn two_lanes_are_for_two(alloc: Global) -> Result<bool, AllocError> {
     let refused = [Event::Act(2), Event::Preempt(3)];
     refuses(
-        rt,
         alloc,
         preempted(alloc)?,
         2,
-        &[Event::Act(0), Event::Act(0), Event::Act(0), Event::Act(1)],
+        &[Line::Run(3), Line::One(Event::Act(1))],
         &refused,
     )
 }
 
 /// P asks for K, whose lock group the UPDATE block of D has.
-fn the_lock_is_held(rt: &impl Abort, alloc: Global) -> Result<(), Fail> {
+fn the_lock_is_held(alloc: Global) -> Result<bool, AllocError> {
     let refused = [Event::Act(0)];
-    refuses(rt, alloc, held(alloc)?, 2, &OPENED, &refused)
+    refuses(alloc, held(alloc)?, 2, &OPENED, &refused)
 }
 
 #[test]
 fn what_may_not_come_changes_nothing(rt: HostRuntime) -> Result<(), Fail> {
     let alloc = rt.alloc();
-    no_process_has_the_number(&rt, alloc)?;
-    the_row_is_not_ready(&rt, alloc)?;
-    a_block_is_asked_for(&rt, alloc)?;
-    the_turns_are_others(&rt, alloc)?;
-    one_lane_is_for_one(&rt, alloc)?;
-    two_lanes_are_for_two(&rt, alloc)?;
-    the_lock_is_held(&rt, alloc)?;
+    assert!(rt; no_process_has_the_number(alloc)?);
+    assert!(rt; the_row_is_not_ready(alloc)?);
+    assert!(rt; a_block_is_asked_for(alloc)?);
+    assert!(rt; the_turns_are_others(alloc)?);
+    assert!(rt; one_lane_is_for_one(alloc)?);
+    assert!(rt; two_lanes_are_for_two(alloc)?);
+    assert!(rt; the_lock_is_held(alloc)?);
     Ok(())
 }
