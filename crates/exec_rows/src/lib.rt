@@ -11,6 +11,8 @@ mod kept;
 #[cfg(test)]
 mod loads;
 mod place;
+#[cfg(test)]
+mod played;
 mod rows;
 mod scripted;
 mod scripted_procs;
