@@ -8,6 +8,7 @@ use Rattle.hal_values.specs.declared.tables.ReportName.{ReportName}
 use Rattle.hal_values.specs.declared.tables.Tables.{Tables}
 use Rattle.hal_values.specs.declared.value.Value.{Value}
 use Rattle.hal_values.specs.declared.value.Value.TheVariants as value
+use Rattle.hal_values.specs.BitTexts.{bits_text}
 use Rattle.hal_values.specs.Loads.{Meaning}
 use Rattle.hal_values.specs.Tables.{process_count}
 use Rattle.exec_model.specs.declared.status.End.{End}
@@ -35,11 +36,6 @@ end_line tables ended =
 -- `live NAME` where the process is active
 abbrev pub live_line : Tables → Moment → ℕ → List ℕ
 live_line tables m p = if is_active (row_of m p) then codes "live " ++ (process_name tables p ++ codes "\n") else []
-
--- the bits of a word, the leftmost first
-abbrev pub bits_text : ℕ → ℕ → List ℕ
-bits_text zero word = []
-bits_text (suc len) word = (48 + (word / 2 ^ len) % 2) ∷ bits_text len word
 
 -- a quote is doubled
 abbrev pub quoted : List ℕ → List ℕ

@@ -13,6 +13,12 @@ mod loads;
 mod place;
 #[cfg(test)]
 mod played;
+#[cfg(test)]
+mod plays;
+#[cfg(test)]
+mod refused;
+#[cfg(test)]
+mod row_loads;
 mod rows;
 mod scripted;
 mod scripted_procs;

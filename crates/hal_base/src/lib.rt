@@ -1,5 +1,5 @@
 //! The ground of `hal`: where a phrase stands, which rule it breaks, how large things may be, how a
-//! text falls into lines and words, and what the outside gives and takes.
+//! text falls into lines, and what the outside gives and takes.
 #![tactic(auto)]
 
 mod disk_shelf;
@@ -14,7 +14,6 @@ mod shelf;
 mod sink;
 mod sure_shelf;
 mod sure_sink;
-mod word;
 
 pub use disk_shelf::DiskShelf;
 pub use limits::{
@@ -31,4 +30,3 @@ pub use shelf::{Found, Shelf, ShelfFault};
 pub use sink::{Sink, SinkFault};
 pub use sure_shelf::SureShelf;
 pub use sure_sink::SureSink;
-pub use word::first_word;

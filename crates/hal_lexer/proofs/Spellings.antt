@@ -1,5 +1,5 @@
 -- Which texts spell a word, and where the word that a text begins with ends.
-use Rattle.std.proofs.Common.{◌≡◌, ℕ, ◌<◌, List, [], ◌∷◌, ◌++◌, All, Contains, get_or, if◌then◌else◌, ◌==◌, refl, sym, ap, ◌∙◌, subst, arith, rules, lit<}
+use Rattle.std.proofs.Common.{◌≡◌, ℕ, ◌<◌, List, [], ◌∷◌, ◌++◌, length, All, Contains, get_or, if◌then◌else◌, ◌==◌, refl, sym, ap, ◌∙◌, subst, arith, rules, lit<}
 use Rattle.std.proofs.lemmas.List.Elements.{All-from_recursion}
 use Rattle.hal_tree.specs.declared.word.Keyword.{Keyword}
 use Rattle.hal_tree.specs.declared.word.Keyword.TheVariants as keyword
@@ -14,21 +14,34 @@ use Rattle.hal_tree.specs.Cutting.{Begins}
 use Rattle.hal_lexer.specs.Front.{IsOnlySpelling}
 use Rattle.hal_lexer.proofs.Fronts.{append-one, BeginsWith-append}
 
+-- the keyword of this first byte, at this length, and with this fourth byte
+keyword_from : ℕ → ℕ → ℕ → Keyword
+keyword_from first long fourth =
+    if first == 80 then keyword.Program else (if first == 67 then keyword.Close else (if first == 84 then keyword.Then else (
+    if first == 68 then (if long == 2 then keyword.Do else keyword.Declare) else (
+    if first == 69 then (if long == 3 then keyword.End else keyword.Else) else (
+    if first == 87 then (if fourth == 84 then keyword.Write else keyword.While) else (
+    if long == 2 then keyword.If else (if fourth == 84 then keyword.Initial else keyword.Integer)))))))
+
 -- the keyword that has this text
 keyword_of : List ℕ → Keyword
-keyword_of text =
-    let first = get_or text 0 0 in
-    if first == 80 then keyword.Program else (if first == 68 then keyword.Declare else (if first == 67 then keyword.Close else (if first == 87 then keyword.Write else (if get_or text 2 0 == 84 then keyword.Integer else keyword.Initial))))
+keyword_of text = keyword_from (get_or text 0 0) (length text) (get_or text 3 0)
 
 -- so two keywords have two texts
 keyword_of-text : (k : Keyword) → keyword_of (keyword_text k) ≡ k
-unfolding keyword_of
+unfolding keyword_of keyword_from
 keyword_of-text keyword.Program = refl
 keyword_of-text keyword.Declare = refl
 keyword_of-text keyword.Integer = refl
 keyword_of-text keyword.Initial = refl
 keyword_of-text keyword.Close = refl
 keyword_of-text keyword.Write = refl
+keyword_of-text keyword.If = refl
+keyword_of-text keyword.Then = refl
+keyword_of-text keyword.Else = refl
+keyword_of-text keyword.Do = refl
+keyword_of-text keyword.While = refl
+keyword_of-text keyword.End = refl
 
 -- a keyword is written as a name is
 keyword_text-bytes : (k : Keyword) → All IsNameByte (keyword_text k)
@@ -38,6 +51,12 @@ keyword_text-bytes keyword.Integer = All-from_recursion IsNameByte (keyword_text
 keyword_text-bytes keyword.Initial = All-from_recursion IsNameByte (keyword_text keyword.Initial) (search rules)
 keyword_text-bytes keyword.Close = All-from_recursion IsNameByte (keyword_text keyword.Close) (search rules)
 keyword_text-bytes keyword.Write = All-from_recursion IsNameByte (keyword_text keyword.Write) (search rules)
+keyword_text-bytes keyword.If = All-from_recursion IsNameByte (keyword_text keyword.If) (search rules)
+keyword_text-bytes keyword.Then = All-from_recursion IsNameByte (keyword_text keyword.Then) (search rules)
+keyword_text-bytes keyword.Else = All-from_recursion IsNameByte (keyword_text keyword.Else) (search rules)
+keyword_text-bytes keyword.Do = All-from_recursion IsNameByte (keyword_text keyword.Do) (search rules)
+keyword_text-bytes keyword.While = All-from_recursion IsNameByte (keyword_text keyword.While) (search rules)
+keyword_text-bytes keyword.End = All-from_recursion IsNameByte (keyword_text keyword.End) (search rules)
 
 -- and begins with a letter
 keyword_text-begins : (k : Keyword) → BeginsWith IsLetter (keyword_text k)
@@ -47,6 +66,12 @@ keyword_text-begins keyword.Integer = search rules
 keyword_text-begins keyword.Initial = search rules
 keyword_text-begins keyword.Close = search rules
 keyword_text-begins keyword.Write = search rules
+keyword_text-begins keyword.If = search rules
+keyword_text-begins keyword.Then = search rules
+keyword_text-begins keyword.Else = search rules
+keyword_text-begins keyword.Do = search rules
+keyword_text-begins keyword.While = search rules
+keyword_text-begins keyword.End = search rules
 
 -- but is none, since it is reserved
 keyword_text-reserved : (k : Keyword) → Contains grammar_words (keyword_text k)
@@ -57,6 +82,12 @@ keyword_text-reserved keyword.Integer = (42, lit< tt, refl)
 keyword_text-reserved keyword.Initial = (41, lit< tt, refl)
 keyword_text-reserved keyword.Close = (16, lit< tt, refl)
 keyword_text-reserved keyword.Write = (77, lit< tt, refl)
+keyword_text-reserved keyword.If = (37, lit< tt, refl)
+keyword_text-reserved keyword.Then = (70, lit< tt, refl)
+keyword_text-reserved keyword.Else = (25, lit< tt, refl)
+keyword_text-reserved keyword.Do = (23, lit< tt, refl)
+keyword_text-reserved keyword.While = (76, lit< tt, refl)
+keyword_text-reserved keyword.End = (26, lit< tt, refl)
 
 -- a symbol is none of the other classes' bytes
 symbol_byte-apart : (s : Symbol) (b : ℕ) → b ≡ symbol_byte s → (32 < b) × ((IsLetter b) → ⊥) × ((IsDigit b) → ⊥)
@@ -64,6 +95,8 @@ symbol_byte-apart symbol.Colon b e = (omega arith, λ l. omega arith, λ d. omeg
 symbol_byte-apart symbol.Semicolon b e = (omega arith, λ l. omega arith, λ d. omega arith)
 symbol_byte-apart symbol.Comma b e = (omega arith, λ l. omega arith, λ d. omega arith)
 symbol_byte-apart symbol.Equals b e = (omega arith, λ l. omega arith, λ d. omega arith)
+symbol_byte-apart symbol.Less b e = (omega arith, λ l. omega arith, λ d. omega arith)
+symbol_byte-apart symbol.Greater b e = (omega arith, λ l. omega arith, λ d. omega arith)
 symbol_byte-apart symbol.Plus b e = (omega arith, λ l. omega arith, λ d. omega arith)
 symbol_byte-apart symbol.Minus b e = (omega arith, λ l. omega arith, λ d. omega arith)
 symbol_byte-apart symbol.LeftParenthesis b e = (omega arith, λ l. omega arith, λ d. omega arith)

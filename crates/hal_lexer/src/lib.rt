@@ -1,4 +1,4 @@
-//! The lexer: the words of a unit of the first form, from its bytes.
+//! The lexer: the words of a unit of the second form, from its bytes.
 #![tactic(auto)]
 
 mod class;

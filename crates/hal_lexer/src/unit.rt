@@ -8,7 +8,7 @@ use hal_base::{TOKEN_LIMIT, first_line};
 use hal_tree::{Token, Tokens};
 use std::alloc::{AllocError, Global};
 
-/// The words of unit number `unit`, or None where the text isn't cut into words of the first form.
+/// The words of unit number `unit`, or None where the text isn't cut into words of the second form.
 pub fn tokens(alloc: Global, text: &[u8], unit: u32) -> Result<Option<Tokens>, AllocError>
     ensures { IfOk result (CutsTo unit text.now) }
 {
@@ -21,7 +21,7 @@ pub fn tokens(alloc: Global, text: &[u8], unit: u32) -> Result<Option<Tokens>, A
     }
 }
 
-/// Whether each byte is one of the first form.
+/// Whether each byte is one of the second form.
 fn is_plain(text: &[u8]) -> bool
     ensures { IsTrue result ↔ All IsPlainByte text.now }
 {

@@ -81,6 +81,12 @@ fn keyword(text: &[u8]) -> Option<Keyword>
         b"INITIAL" => Some(Keyword::Initial),
         b"CLOSE" => Some(Keyword::Close),
         b"WRITE" => Some(Keyword::Write),
+        b"IF" => Some(Keyword::If),
+        b"THEN" => Some(Keyword::Then),
+        b"ELSE" => Some(Keyword::Else),
+        b"DO" => Some(Keyword::Do),
+        b"WHILE" => Some(Keyword::While),
+        b"END" => Some(Keyword::End),
         _ => None,
     }
 }
@@ -95,6 +101,8 @@ fn symbol(byte: u8) -> Option<Symbol>
         b';' => Some(Symbol::Semicolon),
         b',' => Some(Symbol::Comma),
         b'=' => Some(Symbol::Equals),
+        b'<' => Some(Symbol::Less),
+        b'>' => Some(Symbol::Greater),
         b'+' => Some(Symbol::Plus),
         b'-' => Some(Symbol::Minus),
         b'(' => Some(Symbol::LeftParenthesis),

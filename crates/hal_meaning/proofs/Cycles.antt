@@ -1,78 +1,78 @@
--- The loop over cycles does what the levels of the definition say.
+-- The loop over cycles does what the tasks of the definition say.
 use Rattle.std.proofs.Common.{◌≡◌, ℕ, ◌<◌, ◌≤◌, ◌⊎◌, inl, inr, List, [], ◌∷◌, ◌++◌, length, take, drop, ℤ, Bor, refl, sym, ◌∙◌, ap, subst, arith}
 use Rattle.std.proofs.Math.Seq.{take-append_seam}
 use Rattle.hal_tree.specs.Tree.{UnitTree}
-use Rattle.hal_meaning.specs.declared.request.Request.{Request}
-use Rattle.hal_meaning.specs.declared.request.Request.TheVariants.{Finish}
+use Rattle.hal_tree.specs.Naming.{declared_names}
+use Rattle.hal_values.specs.declared.request.Request.{Request}
+use Rattle.hal_values.specs.declared.request.Request.TheVariants.{Finish}
 use Rattle.hal_meaning.specs.declared.course.Course.{Course}
 use Rattle.hal_meaning.specs.declared.course.Course.TheVariants as course
-use Rattle.hal_meaning.specs.declared.request.Answer.{Answer}
-use Rattle.hal_meaning.specs.declared.request.Answer.TheVariants.{Begun, Done, Killed}
-use Rattle.hal_meaning.specs.Meaning.{State, Result, Gives, Asks, Restarts, Lost, Flow, Normal, Meaning, asks, asks_from, bind, restarted, cycle, cycles}
-use Rattle.hal_meaning.specs.Course.{IsShorter, result_of, state_of, passage}
+use Rattle.hal_meaning.specs.declared.heard.Heard.{Heard}
+use Rattle.hal_meaning.specs.declared.heard.Heard.TheVariants.{GoesOn, Killed}
+use Rattle.hal_meaning.specs.Meaning.{State, Result, Gives, Asks, Restarts, Lost, Flow, Normal, Cycle, Meaning, asks, asks_from, bind, restarted, task, tasks}
+use Rattle.hal_meaning.specs.Course.{ComesTo, IsShorter, result_of, state_of, passage}
 
 -- the next cycle, after one that came to this
 abbrev pub go_on : Meaning → Result Flow → Result Flow
-go_on again (Gives flow state) = again state
-go_on again (Asks request own) = Asks request own
-go_on again (Restarts own left) = again (state_of own left)
-go_on again Lost = Lost
+go_on rec (Gives flow state) = rec Cycle state
+go_on rec (Asks request own) = Asks request own
+go_on rec (Restarts own left) = rec Cycle (state_of own left)
+go_on rec Lost = Lost
 
--- it comes to no Restarts
+-- its cycles come to no Restarts
 abbrev pub IsSettled : Meaning → Type 0
-IsSettled again = (go : Meaning) (state : State) → restarted go (again state) ≡ again state
+IsSettled rec = (go : Meaning) (state : State) → restarted go (rec Cycle state) ≡ rec Cycle state
 
-restarted-restarted : (again go : Meaning) → IsSettled again → (result : Result Flow) → restarted go (restarted again result) ≡ restarted again result
-restarted-restarted again go settled (Gives flow state) = refl
-restarted-restarted again go settled (Asks request own) = refl
-restarted-restarted again go settled (Restarts own left) = settled go (state_of own left)
-restarted-restarted again go settled Lost = refl
+restarted-restarted : (rec go : Meaning) → IsSettled rec → (result : Result Flow) → restarted go (restarted rec result) ≡ restarted rec result
+restarted-restarted rec go settled (Gives flow state) = refl
+restarted-restarted rec go settled (Asks request own) = refl
+restarted-restarted rec go settled (Restarts own left) = settled go (state_of own left)
+restarted-restarted rec go settled Lost = refl
 
-restarted-cycles : (unit : UnitTree) (more : List Answer) → IsSettled (cycles unit more)
-restarted-cycles unit [] go state = refl
-restarted-cycles unit (answer ∷ more) go state = restarted-restarted (cycles unit more) go (restarted-cycles unit more) _
+restarted-tasks : (unit : UnitTree) (more : List Heard) → IsSettled (tasks unit more)
+restarted-tasks unit [] go state = refl
+restarted-tasks unit (answer ∷ more) go state = restarted-restarted (tasks unit more) go (restarted-tasks unit more) _
 
-restarted-asks : (again : Meaning) → IsSettled again → (own : List ℤ) (left : List Answer)
-    → restarted again (asks_from Finish own left again) ≡ go_on again (asks_from Finish own left (Gives Normal))
-restarted-asks again settled own [] = refl
-restarted-asks again settled own (Begun ∷ left) = settled again (state_of own left)
-restarted-asks again settled own (Done ∷ left) = settled again (state_of own left)
-restarted-asks again settled own (Killed ∷ left) = refl
+restarted-asks : (rec : Meaning) → IsSettled rec → (own : List ℤ) (left : List Heard)
+    → restarted rec (asks_from Finish own left (rec Cycle)) ≡ go_on rec (asks_from Finish own left (Gives Normal))
+restarted-asks rec settled own [] = refl
+restarted-asks rec settled own (GoesOn ∷ left) = settled rec (state_of own left)
+restarted-asks rec settled own (Killed ∷ left) = refl
 
-restarted-bind : (again : Meaning) → IsSettled again → (result : Result Flow)
-    → restarted again (bind result (λ flow done. asks Finish done again)) ≡ go_on again (bind result (λ flow done. asks Finish done (Gives Normal)))
-restarted-bind again settled (Gives flow state) = restarted-asks again settled state.own state.left
-restarted-bind again settled (Asks request own) = refl
-restarted-bind again settled (Restarts own left) = refl
-restarted-bind again settled Lost = refl
+restarted-bind : (rec : Meaning) → IsSettled rec → (result : Result Flow)
+    → restarted rec (bind result (λ flow done. asks Finish done (rec Cycle))) ≡ go_on rec (bind result (λ flow done. asks Finish done (Gives Normal)))
+restarted-bind rec settled (Gives flow state) = restarted-asks rec settled state.own state.left
+restarted-bind rec settled (Asks request own) = refl
+restarted-bind rec settled (Restarts own left) = refl
+restarted-bind rec settled Lost = refl
 
-cycle-passage : (unit : UnitTree) (again : Meaning) → IsSettled again → (own : List ℤ) (left : List Answer)
-    → cycle unit again (state_of own left) ≡ go_on again (passage unit (state_of own left))
-cycle-passage unit again settled own [] = refl
-cycle-passage unit again settled own (Begun ∷ left) = restarted-bind again settled _
-cycle-passage unit again settled own (Done ∷ left) = restarted-bind again settled _
-cycle-passage unit again settled own (Killed ∷ left) = refl
+cycle-passage : (unit : UnitTree) (rec : Meaning) → IsSettled rec → (own : List ℤ) (left : List Heard)
+    → task unit rec Cycle (state_of own left) ≡ go_on rec (passage unit (state_of own left) rec)
+cycle-passage unit rec settled own [] = refl
+cycle-passage unit rec settled own (GoesOn ∷ left) = restarted-bind rec settled _
+cycle-passage unit rec settled own (Killed ∷ left) = refl
 
--- the cycle that begins here comes to the whole, at a level that has enough answers
-pub record ComesTo (unit : UnitTree) (own : List ℤ) (left : List Answer) (whole : Result Flow) : Type 0 where
-  pub more : List Answer
+-- the cycle that begins here comes to the whole, with enough answers for further tasks
+pub record Begun (unit : UnitTree) (own : List ℤ) (left : List Heard) (whole : Result Flow) : Type 0 where
+  pub more : List Heard
   pub enough : length left ≤ length more
-  pub same : cycle unit (cycles unit more) (state_of own left) ≡ whole
+  pub same : task unit (tasks unit more) Cycle (state_of own left) ≡ whole
 
-pub ComesTo-start : (unit : UnitTree) (own : List ℤ) (answers : List Answer) → ComesTo unit own answers (cycle unit (cycles unit answers) (state_of own answers))
-ComesTo-start unit own answers = record { more = answers; enough = omega arith; same = refl }
+pub Begun-start : (unit : UnitTree) (own : List ℤ) (heards : List Heard) → Begun unit own heards (task unit (tasks unit heards) Cycle (state_of own heards))
+Begun-start unit own heards = record { more = heards; enough = omega arith; same = refl }
 
-after_cycle : (unit : UnitTree) (more left rest : List Answer) (own : List ℤ) (whole : Result Flow)
-    → length left ≤ length more → length rest < length left → cycles unit more (state_of own rest) ≡ whole → ComesTo unit own rest whole
+after_cycle : (unit : UnitTree) (more left rest : List Heard) (own : List ℤ) (whole : Result Flow)
+    → length left ≤ length more → length rest < length left → tasks unit more Cycle (state_of own rest) ≡ whole → Begun unit own rest whole
 after_cycle unit [] left rest own whole enough shorter same = absurd (omega arith)
 after_cycle unit (answer ∷ more) left rest own whole enough shorter same = record { more = more; enough = omega arith; same = same }
 
-next_level : (unit : UnitTree) (own after : List ℤ) (left rest : List Answer) (whole : Result Flow) → ComesTo unit own left whole
-    → length rest < length left → ((again : Meaning) → go_on again (passage unit (state_of own left)) ≡ again (state_of after rest)) → ComesTo unit after rest whole
-next_level unit own after left rest whole comes shorter gone =
-    let again = cycles unit comes.more in
-    let step = cycle-passage unit again (restarted-cycles unit comes.more) own left ∙ gone again in
-    after_cycle unit comes.more left rest after whole comes.enough shorter (sym step ∙ comes.same)
+next_cycle : (unit : UnitTree) (names : List (List ℕ)) (own after : List ℤ) (left rest : List Heard) (result whole : Result Flow) → Begun unit own left whole
+    → names ≡ declared_names unit → ComesTo names left (passage unit (state_of own left)) result
+    → length rest < length left → ((rec : Meaning) → go_on rec result ≡ rec Cycle (state_of after rest)) → Begun unit after rest whole
+next_cycle unit names own after left rest result whole begun named comes shorter gone =
+    let rec = tasks unit begun.more in
+    let step = cycle-passage unit rec (restarted-tasks unit begun.more) own left ∙ ap (go_on rec) (comes.always unit begun.more (sym named) begun.enough) ∙ gone rec in
+    after_cycle unit begun.more left rest after whole begun.enough shorter (sym step ∙ begun.same)
 
 -- what a callee left in the slice of a vector's items is the vector's list
 abbrev pub written_back : List ℤ → List ℤ → ℕ → List ℤ
@@ -89,23 +89,25 @@ take-written_back new slice items len is =
     ap (λ n. take n (new ++ drop (length new) items)) (is.whole ∙ sym (ap length is.same) ∙ sym is.long) ∙ take-append_seam new _
 
 -- a cycle that is done or restarts
-pub ComesTo-next : (unit : UnitTree) (items slice new : List ℤ) (len : ℕ) (left : List Answer) (rest : Bor (List Answer)) (whole : Result Flow) (at : Course)
-    → IsSlice new slice items len → ComesTo unit items left whole → passage unit (state_of slice left) ≡ result_of at new → IsShorter left at
-    → (at ≡ course.Done rest) ⊎ (at ≡ course.Restarts rest) → ComesTo unit (written_back new items len) rest.now whole
-ComesTo-next unit items slice new len left rest whole at is comes passes shorter ends =
-    let begins = subst (λ own. ComesTo unit own left whole) (sym is.same) comes in
+pub Begun-next : (unit : UnitTree) (names : List (List ℕ)) (items slice new : List ℤ) (len : ℕ) (left : List Heard) (rest : Bor (List Heard)) (whole : Result Flow) (at : Course)
+    → IsSlice new slice items len → names ≡ declared_names unit → Begun unit items left whole → ComesTo names left (passage unit (state_of slice left)) (result_of at new) → IsShorter left at
+    → (at ≡ course.Done rest) ⊎ (at ≡ course.Restarts rest) → Begun unit (written_back new items len) rest.now whole
+Begun-next unit names items slice new len left rest whole at is named begun passes shorter ends =
+    let begins = subst (λ own. Begun unit own left whole) (sym is.same) begun in
     rw (take-written_back new slice items len is) (by ends begins)
   where
-    by : (at ≡ course.Done rest) ⊎ (at ≡ course.Restarts rest) → ComesTo unit slice left whole → ComesTo unit new rest.now whole
-    by (inl done) begins = next_level unit slice new left rest.now whole begins (subst (IsShorter left) done shorter) (λ again. ap (go_on again) passes ∙ ap (λ x. go_on again (result_of x new)) done)
-    by (inr restarts) begins = next_level unit slice new left rest.now whole begins (subst (IsShorter left) restarts shorter) (λ again. ap (go_on again) passes ∙ ap (λ x. go_on again (result_of x new)) restarts)
+    by : (at ≡ course.Done rest) ⊎ (at ≡ course.Restarts rest) → Begun unit slice left whole → Begun unit new rest.now whole
+    by (inl done) begins =
+        next_cycle unit names slice new left rest.now (result_of at new) whole begins named passes (subst (IsShorter left) done shorter) (λ rec. ap (λ x. go_on rec (result_of x new)) done)
+    by (inr restarts) begins =
+        next_cycle unit names slice new left rest.now (result_of at new) whole begins named passes (subst (IsShorter left) restarts shorter) (λ rec. ap (λ x. go_on rec (result_of x new)) restarts)
 
 -- a cycle that asks
-pub ComesTo-asks : (unit : UnitTree) (items slice new : List ℤ) (len : ℕ) (left : List Answer) (request : Request) (whole : Result Flow) (at : Course)
-    → IsSlice new slice items len → ComesTo unit items left whole → passage unit (state_of slice left) ≡ result_of at new
+pub Begun-asks : (unit : UnitTree) (names : List (List ℕ)) (items slice new : List ℤ) (len : ℕ) (left : List Heard) (request : Request) (whole : Result Flow) (at : Course)
+    → IsSlice new slice items len → names ≡ declared_names unit → Begun unit items left whole → ComesTo names left (passage unit (state_of slice left)) (result_of at new)
     → at ≡ course.Asks request → whole ≡ Asks request (written_back new items len)
-ComesTo-asks unit items slice new len left request whole at is comes passes asks =
-    let begins = subst (λ own. ComesTo unit own left whole) (sym is.same) comes in
-    let again = cycles unit begins.more in
-    sym begins.same ∙ cycle-passage unit again (restarted-cycles unit begins.more) slice left ∙ ap (go_on again) passes
-    ∙ ap (λ x. go_on again (result_of x new)) asks ∙ ap (Asks request) (sym (take-written_back new slice items len is))
+Begun-asks unit names items slice new len left request whole at is named begun passes asks =
+    let begins = subst (λ own. Begun unit own left whole) (sym is.same) begun in
+    let rec = tasks unit begins.more in
+    sym begins.same ∙ cycle-passage unit rec (restarted-tasks unit begins.more) slice left ∙ ap (go_on rec) (passes.always unit begins.more (sym named) begins.enough)
+    ∙ ap (λ x. go_on rec (result_of x new)) asks ∙ ap (Asks request) (sym (take-written_back new slice items len is))

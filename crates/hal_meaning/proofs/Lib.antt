@@ -1,4 +1,6 @@
 pub mod Cycles
 pub mod Entries
 pub mod NameEquality
+pub mod Seen
+pub mod Turns
 pub mod Uses

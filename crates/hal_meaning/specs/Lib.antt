@@ -2,3 +2,8 @@ pub mod Values
 pub mod Meaning
 pub mod Course
 pub mod NameTable
+pub mod Adequate
+pub mod Following
+pub mod TreeLoad
+pub mod Small
+pub mod Answering

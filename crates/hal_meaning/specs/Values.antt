@@ -1,13 +1,16 @@
 -- The values of sums, and where they are errors.
 use Rattle.std.specs.Prelude.{ℕ, List, [], ◌∷◌, Bool, true, false, Option, ℤ, pos, negsuc, ◌+ℤ◌, ◌-ℤ◌, int_lt, nat_eq, position, slice_get, unwrap_or, if◌then◌else◌}
 use Rattle.std.specs.Option.{option_and_then}
+use Rattle.std.specs.Ordering.{int_eq}
 use Rattle.std.specs.Cmp.Lexicographic.{pointwise}
 use Rattle.hal_tree.specs.declared.tree.OperandKind.{OperandKind}
 use Rattle.hal_tree.specs.declared.tree.OperandKind.TheVariants.{Variable, Number}
+use Rattle.hal_tree.specs.declared.tree.Relation.{Relation}
+use Rattle.hal_tree.specs.declared.tree.Relation.TheVariants.{Equal, Less, Greater}
 use Rattle.hal_tree.specs.declared.tree.Sign.{Sign}
 use Rattle.hal_tree.specs.declared.tree.Sign.TheVariants.{Plus, Minus}
 use Rattle.hal_tree.specs.declared.tree.Term.{Term}
-use Rattle.hal_tree.specs.Tree.{SumTree}
+use Rattle.hal_tree.specs.Tree.{SumTree, ComparisonTree}
 use Rattle.hal_values.specs.declared.environment.ErrNo.{ErrNo}
 
 -- a value, or the error that arises in its place
@@ -48,6 +51,7 @@ abbrev pub operand_value : List (List ℕ) → List ℤ → OperandKind → ℤ
 operand_value names own (Variable name) = unwrap_or (option_and_then (slice_get own) (cell_of names name)) (pos 0)
 operand_value names own (Number number) = pos number
 
+-- the operand is added or taken away, as its sign says
 abbrev pub signed_sum : Sign → ℤ → ℤ → ℤ
 signed_sum Plus value operand = value +ℤ operand
 signed_sum Minus value operand = value -ℤ operand
@@ -60,3 +64,15 @@ terms_value names own value (term ∷ terms) =
 
 abbrev pub sum_value : List (List ℕ) → List ℤ → SumTree → Checked ℤ
 sum_value names own sum = terms_value names own (operand_value names own sum.first.kind) sum.others
+
+-- whether the relation holds between two values
+abbrev pub relation_holds : Relation → ℤ → ℤ → Bool
+relation_holds Equal left right = int_eq left right
+relation_holds Less left right = int_lt left right
+relation_holds Greater left right = int_lt right left
+
+-- the left sum is evaluated before the right one
+abbrev pub comparison_value : List (List ℕ) → List ℤ → ComparisonTree → Checked Bool
+comparison_value names own comparison =
+    checked_then (sum_value names own comparison.left)
+    (λ left. checked_then (sum_value names own comparison.right) (λ right. Good (relation_holds comparison.relation left right)))

@@ -1,15 +1,16 @@
 ghost use Rattle.std.specs.Prelude.{◌≡◌, IfOk};
 ghost use Rattle.hal_tree.specs.View.{unit_tree};
 ghost use Rattle.hal_tree.specs.Naming.{declared_names};
-ghost use Rattle.hal_meaning.specs.Meaning.{Asks, first_values, meaning, next_request, own_values};
-ghost use Rattle.hal_meaning.specs.Course.{IsShorter, body_then_finish, passage, result_of, state_of};
+ghost use Rattle.hal_meaning.specs.Meaning.{Asks, first_values, meaning, next_heard, own_heard};
+ghost use Rattle.hal_meaning.specs.Course.{ComesTo, IsShorter, body_then_finish, passage, result_of, state_of};
 
 use crate::course::{Course, asks};
+use crate::heard::Heard;
 use crate::names::Names;
 use crate::own::Own;
-use crate::request::{Answer, Request};
 use crate::statements::statements;
 use hal_tree::Unit;
+use hal_values::Request;
 use std::alloc::{AllocError, Global};
 
 /// What a unit asks for, and its own values as they are then.
@@ -36,13 +37,13 @@ fn body_then_finish<'a>(
     unit: &Unit,
     names: &Names,
     own: &mut [i32],
-    left: &'a [Answer],
+    left: &'a [Heard],
 ) -> Result<Course<'a>, AllocError>
     requires { names.now ≡ declared_names (unit_tree unit.now) }
-    ensures meaning { IfOk result (λ course. body_then_finish (unit_tree unit.now) (state_of own.old left.now) ≡ result_of course own.new) }
+    ensures meaning { IfOk result (λ course. ComesTo names.now left.now (body_then_finish (unit_tree unit.now) (state_of own.old left.now)) (result_of course own.new)) }
     ensures shorter { IfOk result (IsShorter left.now) }
 {
-    match statements(alloc, names, unit.body.as_slice(), own, left)? {
+    match statements(unit.body.as_slice(), alloc, names, own, left)? {
         Course::Done(done) => Ok(asks(Request::Finish, done)),
         Course::Asks(request) => Ok(Course::Asks(request)),
         Course::Restarts(rest) => Ok(Course::Restarts(rest)),
@@ -55,10 +56,10 @@ fn passage<'a>(
     unit: &Unit,
     names: &Names,
     own: &mut [i32],
-    left: &'a [Answer],
+    left: &'a [Heard],
 ) -> Result<Course<'a>, AllocError>
     requires { names.now ≡ declared_names (unit_tree unit.now) }
-    ensures meaning { IfOk result (λ course. passage (unit_tree unit.now) (state_of own.old left.now) ≡ result_of course own.new) }
+    ensures meaning { IfOk result (λ course. ComesTo names.now left.now (passage (unit_tree unit.now) (state_of own.old left.now)) (result_of course own.new)) }
     ensures shorter { IfOk result (IsShorter left.now) }
 {
     match asks(Request::Begin, left) {
@@ -68,18 +69,18 @@ fn passage<'a>(
     }
 }
 
-/// What a unit asks for after these answers, evaluated from the tree and from the first answer on.
+/// What a unit asks for after it heard this, evaluated from the tree and from the first answer on.
 pub fn oracle(
     alloc: Global,
     unit: &Unit,
     names: &Names,
-    answers: &[Answer],
+    heards: &[Heard],
 ) -> Result<Asked, AllocError>
     requires { names.now ≡ declared_names (unit_tree unit.now) }
-    ensures { IfOk result (λ asked. meaning (unit_tree unit.now) answers.now ≡ Asks asked.request asked.own) }
+    ensures { IfOk result (λ asked. meaning (unit_tree unit.now) heards.now ≡ Asks asked.request asked.own) }
 {
     let mut own = first_values(alloc, unit)?;
-    let mut left = answers;
+    let mut left = heards;
     loop {
         match passage(alloc, unit, names, &mut own, left)? {
             Course::Done(rest) | Course::Restarts(rest) => left = rest,
@@ -93,17 +94,17 @@ pub fn oracle(
     }
 }
 
-/// The next request after these answers.
+/// The next request after what was heard.
 pub fn oracle_next(
     alloc: Global,
     unit: &Unit,
     names: &Names,
-    answers: &[Answer],
+    heards: &[Heard],
 ) -> Result<Request, AllocError>
     requires { names.now ≡ declared_names (unit_tree unit.now) }
-    ensures { IfOk result (λ request. request ≡ next_request (unit_tree unit.now) answers.now) }
+    ensures { IfOk result (λ request. request ≡ next_heard (unit_tree unit.now) heards.now) }
 {
-    let asked = oracle(alloc, unit, names, answers)?;
+    let asked = oracle(alloc, unit, names, heards)?;
     Ok(asked.request)
 }
 
@@ -112,11 +113,11 @@ pub fn oracle_own(
     alloc: Global,
     unit: &Unit,
     names: &Names,
-    answers: &[Answer],
+    heards: &[Heard],
 ) -> Result<Own, AllocError>
     requires { names.now ≡ declared_names (unit_tree unit.now) }
-    ensures { IfOk result (λ own. own ≡ own_values (unit_tree unit.now) answers.now) }
+    ensures { IfOk result (λ own. own ≡ own_heard (unit_tree unit.now) heards.now) }
 {
-    let asked = oracle(alloc, unit, names, answers)?;
+    let asked = oracle(alloc, unit, names, heards)?;
     Ok(asked.own)
 }

@@ -1,11 +1,10 @@
 ghost use Rattle.std.specs.Prelude.{◌≡◌, All, IfNone, IfOk, IfSome, flat_map, map};
 ghost use Rattle.std.specs.Bool.{Decides};
-ghost use Rattle.hal_tree.specs.View.{statement_tree, sum_tree, unit_tree};
-ghost use Rattle.hal_tree.specs.Tree.{StatementTree};
-ghost use Rattle.hal_tree.specs.Naming.{IsNamed, IsOnce, declared_names, kind_names, statement_names, sum_names};
+ghost use Rattle.hal_tree.specs.View.{alternative_tree, body_tree, comparison_tree, statement_tree, sum_tree, unit_tree};
+ghost use Rattle.hal_tree.specs.Naming.{IsNamed, IsOnce, alternative_names, body_names, comparison_names, declared_names, kind_names, statement_names, sum_names};
 
 use crate::names::Names;
-use hal_tree::{OperandKind, Statement, StatementKind, Sum, Unit};
+use hal_tree::{Comparison, OperandKind, Statement, StatementKind, Sum, Unit};
 use std::alloc::{AllocError, Global};
 
 /// Whether the name of an operand, if it has one, is declared once.
@@ -45,24 +44,61 @@ fn names_items(names: &Names, items: &[Sum]) -> bool
     true
 }
 
+/// Whether the names of a comparison are declared once.
+fn names_comparison(names: &Names, comparison: &Comparison) -> bool
+    ensures { Decides result (All (IsOnce names.now) (comparison_names (comparison_tree comparison.now))) }
+{
+    if !names_sum(names, &comparison.left) {
+        return false;
+    }
+    names_sum(names, &comparison.right)
+}
+
 /// Whether the names of a statement are declared once.
-fn names_statement(names: &Names, one: &Statement) -> bool
+#[cycle(naming)]
+fn names_statement(one: &Statement, names: &Names) -> bool
     ensures { Decides result (All (IsOnce names.now) (statement_names (statement_tree one.now))) }
 {
     match &one.kind {
         StatementKind::Assign { target, value } => {
-            names.declares_once(target) && names_sum(names, value)
+            if !names.declares_once(target) {
+                return false;
+            }
+            names_sum(names, value)
         }
         StatementKind::Write { items, .. } => names_items(names, items.as_slice()),
+        StatementKind::If {
+            condition,
+            consequence,
+            alternative,
+        } => {
+            if !names_comparison(names, condition) {
+                return false;
+            }
+            if !names_statement(consequence, names) {
+                return false;
+            }
+            match alternative {
+                Some(alternative) => names_statement(alternative, names),
+                None => true,
+            }
+        }
+        StatementKind::While { condition, body } => {
+            if !names_comparison(names, condition) {
+                return false;
+            }
+            names_body(body.as_slice(), names)
+        }
     }
 }
 
 /// Whether the names of a body are declared once.
-fn names_body(names: &Names, body: &[Statement]) -> bool
-    ensures { Decides result (All (λ (one : StatementTree). All (IsOnce names.now) (statement_names one)) (map statement_tree body.now)) }
+#[cycle(naming)]
+fn names_body(body: &[Statement], names: &Names) -> bool
+    ensures { Decides result (All (IsOnce names.now) (body_names (body_tree body.now))) }
 {
     for one in body {
-        if !names_statement(names, one) {
+        if !names_statement(one, names) {
             return false;
         }
     }
@@ -74,7 +110,7 @@ fn is_named(names: &Names, unit: &Unit) -> bool
     requires { names.now ≡ declared_names (unit_tree unit.now) }
     ensures { Decides result (IsNamed (unit_tree unit.now)) }
 {
-    !names.declares(&unit.name) && names_body(names, unit.body.as_slice())
+    !names.declares(&unit.name) && names_body(unit.body.as_slice(), names)
 }
 
 /// The names of a unit. There are none where a name that a statement uses isn't declared once, or where the unit's own name is declared.

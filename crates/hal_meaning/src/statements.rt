@@ -1,15 +1,16 @@
 ghost use Rattle.std.specs.Prelude.{◌≡◌, IfOk, map};
-ghost use Rattle.hal_tree.specs.View.{statement_tree};
+ghost use Rattle.hal_tree.specs.View.{body_tree, comparison_tree, statement_tree, sum_tree};
 ghost use Rattle.hal_meaning.specs.Values.{cell_of};
-ghost use Rattle.hal_meaning.specs.Meaning.{statement, statements, stored_at};
-ghost use Rattle.hal_meaning.specs.Course.{IsWithin, result_of, state_of};
+ghost use Rattle.hal_meaning.specs.Meaning.{assignment, statement, statements, stored_at, write};
+ghost use Rattle.hal_meaning.specs.Course.{ComesTo, IsShorter, IsWithin, group, result_of, state_of, turn};
 
 use crate::course::{Course, asks, fails};
+use crate::heard::Heard;
 use crate::lines::written;
 use crate::names::Names;
-use crate::request::{Answer, Request};
-use crate::sums::single_value;
-use hal_tree::{Name, Statement, StatementKind};
+use crate::sums::{comparison_value, single_value};
+use hal_tree::{Channel, Comparison, Name, Statement, StatementKind, Sum};
+use hal_values::Request;
 use std::alloc::{AllocError, Global};
 
 /// Gives the variable of this name a value. Where there is none, nothing is stored.
@@ -23,46 +24,140 @@ fn store(names: &Names, own: &mut [i32], target: &Name, value: i32)
     }
 }
 
-/// The course of a statement.
-fn statement<'a>(
+/// The course of an assignment.
+fn assign<'a>(
+    names: &Names,
+    target: &Name,
+    value: &Sum,
+    own: &mut [i32],
+    left: &'a [Heard],
+) -> Course<'a>
+    ensures meaning { assignment names.now target.now (sum_tree value.now) (state_of own.old left.now) ≡ result_of result own.new }
+    ensures within { IsWithin left.now result }
+{
+    match single_value(names, own, value) {
+        Ok(value) => {
+            store(names, own, target, value);
+            Course::Done(left)
+        }
+        Err(error) => fails(error, left),
+    }
+}
+
+/// The course of a WRITE.
+fn write<'a>(
     alloc: Global,
     names: &Names,
-    one: &Statement,
-    own: &mut [i32],
-    left: &'a [Answer],
+    channel: &Channel,
+    items: &[Sum],
+    own: &[i32],
+    left: &'a [Heard],
 ) -> Result<Course<'a>, AllocError>
-    ensures meaning { IfOk result (λ course. statement names.now (statement_tree one.now) (state_of own.old left.now) ≡ result_of course own.new) }
+    ensures meaning { IfOk result (λ course. write names.now channel.now.number (map sum_tree items.now) (state_of own.now left.now) ≡ result_of course own.now) }
+    ensures within { IfOk result (IsWithin left.now) }
+{
+    match written(alloc, names, own, items)? {
+        Ok(line) => Ok(asks(Request::Print(channel.number, line), left)),
+        Err(error) => Ok(fails(error, left)),
+    }
+}
+
+/// The course of a statement.
+#[cycle(statements)]
+fn statement<'a>(
+    one: &Statement,
+    alloc: Global,
+    names: &Names,
+    own: &mut [i32],
+    left: &'a [Heard],
+) -> Result<Course<'a>, AllocError>
+    ensures meaning { IfOk result (λ course. ComesTo names.now left.now (λ rec. statement rec names.now (statement_tree one.now) (state_of own.old left.now)) (result_of course own.new)) }
     ensures within { IfOk result (IsWithin left.now) }
 {
     match &one.kind {
-        StatementKind::Assign { target, value } => match single_value(names, own, value) {
-            Ok(value) => {
-                store(names, own, target, value);
-                Ok(Course::Done(left))
-            }
+        StatementKind::Assign { target, value } => Ok(assign(names, target, value, own, left)),
+        StatementKind::Write { channel, items } => {
+            write(alloc, names, channel, items.as_slice(), own, left)
+        }
+        StatementKind::If {
+            condition,
+            consequence,
+            alternative,
+        } => match comparison_value(names, own, condition) {
+            Ok(true) => statement(consequence, alloc, names, own, left),
+            Ok(false) => match alternative {
+                Some(alternative) => statement(alternative, alloc, names, own, left),
+                None => Ok(Course::Done(left)),
+            },
             Err(error) => Ok(fails(error, left)),
         },
-        StatementKind::Write { channel, items } => match written(alloc, names, own, items)? {
-            Ok(line) => Ok(asks(Request::Print(channel.number, line), left)),
-            Err(error) => Ok(fails(error, left)),
-        },
+        StatementKind::While { condition, body } => {
+            group(body.as_slice(), condition, alloc, names, own, left)
+        }
+    }
+}
+
+/// The course of a group from its test on.
+#[cycle(statements)]
+fn group<'a>(
+    body: &[Statement],
+    condition: &Comparison,
+    alloc: Global,
+    names: &Names,
+    own: &mut [i32],
+    left: &'a [Heard],
+) -> Result<Course<'a>, AllocError>
+    ensures meaning { IfOk result (λ course. ComesTo names.now left.now (group names.now (comparison_tree condition.now) (body_tree body.now) (state_of own.old left.now)) (result_of course own.new)) }
+    ensures within { IfOk result (IsWithin left.now) }
+{
+    let mut rest = left;
+    loop {
+        match comparison_value(names, own, condition) {
+            Ok(true) => match turn(body, alloc, names, own, rest)? {
+                Course::Done(after) => rest = after,
+                Course::Asks(request) => return Ok(Course::Asks(request)),
+                Course::Restarts(after) => return Ok(Course::Restarts(after)),
+            },
+            Ok(false) => return Ok(Course::Done(rest)),
+            Err(error) => return Ok(fails(error, rest)),
+        }
+    }
+}
+
+/// The course of a group's turn: Pass, and the body.
+#[cycle(statements)]
+fn turn<'a>(
+    body: &[Statement],
+    alloc: Global,
+    names: &Names,
+    own: &mut [i32],
+    left: &'a [Heard],
+) -> Result<Course<'a>, AllocError>
+    ensures meaning { IfOk result (λ course. ComesTo names.now left.now (turn names.now (body_tree body.now) (state_of own.old left.now)) (result_of course own.new)) }
+    ensures shorter { IfOk result (IsShorter left.now) }
+{
+    match asks(Request::Pass, left) {
+        Course::Done(begun) => statements(body, alloc, names, own, begun),
+        Course::Asks(request) => Ok(Course::Asks(request)),
+        Course::Restarts(after) => Ok(Course::Restarts(after)),
     }
 }
 
 /// The course of statements, one after the other.
+#[cycle(statements)]
 pub(crate) fn statements<'a>(
+    body: &[Statement],
     alloc: Global,
     names: &Names,
-    body: &[Statement],
     own: &mut [i32],
-    left: &'a [Answer],
+    left: &'a [Heard],
 ) -> Result<Course<'a>, AllocError>
-    ensures meaning { IfOk result (λ course. statements names.now (map statement_tree body.now) (state_of own.old left.now) ≡ result_of course own.new) }
+    ensures meaning { IfOk result (λ course. ComesTo names.now left.now (λ rec. statements rec names.now (body_tree body.now) (state_of own.old left.now)) (result_of course own.new)) }
     ensures within { IfOk result (IsWithin left.now) }
 {
     let mut rest = left;
     for one in body {
-        match statement(alloc, names, one, own, rest)? {
+        match statement(one, alloc, names, own, rest)? {
             Course::Done(after) => rest = after,
             Course::Asks(request) => return Ok(Course::Asks(request)),
             Course::Restarts(after) => return Ok(Course::Restarts(after)),

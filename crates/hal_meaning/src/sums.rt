@@ -1,10 +1,10 @@
 ghost use Rattle.std.specs.Prelude.{◌≡◌, ℤ};
-ghost use Rattle.hal_tree.specs.View.{sum_tree};
-ghost use Rattle.hal_meaning.specs.Values.{checked_then, in_double, in_single, operand_value, signed_sum, sum_value};
+ghost use Rattle.hal_tree.specs.View.{comparison_tree, sum_tree};
+ghost use Rattle.hal_meaning.specs.Values.{checked_then, comparison_value, in_double, in_single, operand_value, relation_holds, signed_sum, sum_value};
 ghost use Rattle.hal_meaning.specs.Course.{checked};
 
 use crate::names::Names;
-use hal_tree::{OperandKind, Sign, Sum};
+use hal_tree::{Comparison, OperandKind, Relation, Sign, Sum};
 use hal_values::ErrNo;
 
 /// An integer outside its range.
@@ -61,4 +61,28 @@ pub(crate) fn single_value(names: &Names, own: &[i32], sum: &Sum) -> Result<i32,
         return Err(RANGE_ERROR);
     }
     Ok(value as i32)
+}
+
+/// Whether the relation holds.
+fn relation_holds(relation: Relation, left: i64, right: i64) -> bool
+    ensures { result ≡ relation_holds relation left right }
+{
+    match relation {
+        Relation::Equal => left == right,
+        Relation::Less => left < right,
+        Relation::Greater => left > right,
+    }
+}
+
+/// Whether a comparison holds, or the error that arises in its place.
+pub(crate) fn comparison_value(
+    names: &Names,
+    own: &[i32],
+    comparison: &Comparison,
+) -> Result<bool, ErrNo>
+    ensures { checked result ≡ comparison_value names.now own.now (comparison_tree comparison.now) }
+{
+    let left = sum_value(names, own, &comparison.left)?;
+    let right = sum_value(names, own, &comparison.right)?;
+    Ok(relation_holds(comparison.relation, left, right))
 }

@@ -8,8 +8,8 @@ use Rattle.hal_tree.specs.declared.tree.Declaration.{Declaration}
 use Rattle.hal_tree.specs.declared.tree.Sign.{Sign}
 use Rattle.hal_tree.specs.declared.tree.Sign.TheVariants as sign
 use Rattle.hal_tree.specs.declared.tree.Term.{Term}
-use Rattle.hal_tree.specs.Tree.{SumTree, StatementTree, Assigned, Written}
-use Rattle.hal_tree.specs.Spells.{Words, symbol_then, sign_symbol, BeginsWithSign, BeginsWithWord, BeginsStatement, SpellsTerm, SpellsTerms, SpellsMoreItems, SpellsStatement, SpellsStatements, SpellsDeclaration, SpellsDeclarations}
+use Rattle.hal_tree.specs.Tree.{SumTree, StatementTree, Assigned, Written, Chosen, Looped}
+use Rattle.hal_tree.specs.Spells.{Words, symbol_then, sign_symbol, BeginsWithSign, BeginsWithWord, BeginsStatement, SpellsTerm, SpellsTerms, SpellsMoreItems, SpellsStatement, SpellsDeclaration, SpellsDeclarations}
 use Rattle.hal_parse.specs.Phrases.{SpellsSign, SpellsNextItem}
 use Rattle.hal_parse.specs.Reading.{HasNone}
 use Rattle.hal_parse.proofs.Lists.{IsListOf}
@@ -25,8 +25,10 @@ pub BeginsWithWord-item : (item : SumTree) (before after : Words) → SpellsNext
 BeginsWithWord-item item before after s = (s.0, s.1, s.2)
 
 pub BeginsStatement-statement : (statement : StatementTree) (before after : Words) → SpellsStatement statement before after → BeginsStatement before
-BeginsStatement-statement (Assigned place target value) before after s = inr (target, (place, symbol_then symbol.Equals s.2.equals s.0, s.2.words))
+BeginsStatement-statement (Assigned place target value) before after s = inr (inl (target, (place, symbol_then symbol.Equals s.2.equals s.0, s.2.words)))
 BeginsStatement-statement (Written place channel items) before after s = inl (place, _, s.2.words)
+BeginsStatement-statement (Chosen place condition consequence alternative) before after s = inr (inr (inl (place, s.2.0, s.2.2)))
+BeginsStatement-statement (Looped place condition body) before after s = inr (inr (inr (place, _, s.2.3)))
 
 pub BeginsWithWord-declaration : (declaration : Declaration) (before after : Words) → SpellsDeclaration declaration before after → BeginsWithWord (word.Keyword keyword.Declare) before
 BeginsWithWord-declaration declaration before after s = (declaration.place, _, s.2.words)
@@ -41,9 +43,6 @@ items_list = record {
   put = λ x xs b m a s t. (s.0, s.1, m, s.2, s.3, t);
   taken = λ x xs b a s. (s.2, (s.0, s.1, s.3, s.4), s.5);
 }
-
-pub statements_list : IsListOf SpellsStatement (λ w. ¬ BeginsStatement w) SpellsStatements
-statements_list = record { end = λ w s. (refl, s); ended = λ b a s. s; put = λ x xs b m a s t. (m, s, t); taken = λ x xs b a s. s }
 
 pub declarations_list : IsListOf SpellsDeclaration (λ w. ¬ BeginsWithWord (word.Keyword keyword.Declare) w) SpellsDeclarations
 declarations_list = record { end = λ w s. (refl, s); ended = λ b a s. s; put = λ x xs b m a s t. (m, s, t); taken = λ x xs b a s. s }

@@ -1,10 +1,12 @@
 pub mod Alternatives
 pub mod Answered
 pub mod Begins
+pub mod Bodies
 pub mod Choices
 pub mod Exact
 pub mod Lengths
 pub mod Lists
+pub mod Nested
 pub mod OneTree
 pub mod Pairs
 pub mod Sequences

@@ -1,13 +1,16 @@
-//! The parser of the first form of HAL/S units: from the words of a unit to the tree that spells
-//! them. It is a descent through the grammar; every list is a loop, and no word is looked at more
-//! than a few times.
+//! The parser of the second form of HAL/S units: from the words of a unit to the tree that spells
+//! them. It is a descent through the grammar, at most as deep as statements may be nested; every
+//! list is a loop, and no word is looked at more than a few times.
 #![tactic(auto)]
 
 mod assignment;
 mod close;
+mod comparison;
+mod condition;
 mod declaration;
 mod head;
 mod initial;
+mod keyword;
 mod named;
 mod statement;
 mod sum;

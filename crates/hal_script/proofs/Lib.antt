@@ -1,4 +1,4 @@
-pub mod Digits
-pub mod Reading
-pub mod Fronts
-pub mod FirstFaults
+pub mod FirstWord
+pub mod Limits
+pub mod OneReading
+pub mod Progress

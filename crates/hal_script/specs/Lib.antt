@@ -1,1 +1,6 @@
-pub mod Lines
+pub mod Words
+pub mod Numbers
+pub mod Readings
+pub mod Fits
+pub mod ScriptTexts
+pub mod Journals

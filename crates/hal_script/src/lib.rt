@@ -1,10 +1,19 @@
-//! Scripts: which lines they have, which line is the first faulty one, and how they are read.
+//! Scripts and journals as texts: what each line of a script is, which line is the first faulty one, and
+//! how a script is read; and how a journal is written, one line per event.
 #![tactic(auto)]
 
 mod fault;
+mod journal;
+mod law;
+mod number;
 mod read;
-mod script;
+mod reading;
+mod word;
 
 pub use fault::{ScriptError, ScriptFault};
+pub use journal::write_journal;
+pub use law::{
+    a_faulty_text_is_no_script, a_text_has_one_first_fault, a_text_is_one_script,
+    every_text_is_a_script_or_faulty,
+};
 pub use read::read_script;
-pub use script::{Script, ScriptLine};

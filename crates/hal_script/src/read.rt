@@ -1,105 +1,66 @@
-ghost use Rattle.std.specs.Prelude.{◌≡◌, ◌∷◌, [], ℕ, List, Option, Some, None, IfOk, IfErr, IfSome, IfNone, IsTrue, ◌↔◌, ◌++◌, codes};
+ghost use Rattle.std.specs.Prelude.{◌≡◌, ◌++◌, IfOk, IfErr};
 ghost use Rattle.std.specs.Option.{option_to_list};
 ghost use Rattle.std.specs.Str.Lines.{lines};
-ghost use Rattle.hal_script.specs.Lines.{IsScript, IsFaultOf, SpellsLine, SpellsCount, Takes, asked_count};
-ghost use Rattle.hal_script.specs.declared.script.ScriptLine.{ScriptLine};
+ghost use Rattle.hal_script.specs.Readings.{past};
+ghost use Rattle.hal_script.specs.ScriptTexts.{IsScriptOf, IsFaultTold};
+ghost use Rattle.hal_script.specs.Fits.{Fits};
 
 use crate::fault::{ScriptError, ScriptFault};
-use crate::script::{Script, ScriptLine};
-use hal_base::{RUN_LIMIT, RUN_SUM_LIMIT, SCRIPT_LINE_LIMIT, first_line, first_word};
+use crate::reading::{Reading, SoFar, read_line};
+use exec_model::{Script, ScriptLine};
+use hal_base::first_line;
 use std::alloc::{AllocError, Global};
-use std::str::from_utf8;
 
-/// The number that digits without a leading zero write, 1 to the limit of a RUN.
-fn count(digits: &[u8]) -> Option<u32>
-    ensures found { IfSome result (SpellsCount digits.now) }
-    ensures none { IfNone result ((count : ℕ) → SpellsCount digits.now count → ⊥) }
+/// Adds what a good line asks for, and tells how far the script has come after it.
+fn add(
+    script: &mut Vec<ScriptLine>,
+    so_far: SoFar,
+    asked: Option<ScriptLine>,
+) -> Result<SoFar, AllocError>
+    requires { Fits so_far asked }
+    ensures { IfOk result (λ next. (script.new.items ≡ script.old.items ++ option_to_list asked) × (next ≡ past so_far asked)) }
 {
-    let [b'1'..=b'9', ..] = digits else {
-        return None;
-    };
-    let text = match from_utf8(digits) {
-        Ok(text) => text,
-        Err(_) => return None,
-    };
-    let number = text.parse::<u32>().ok()?;
-    if number > RUN_LIMIT {
-        return None;
-    }
-    Some(number)
-}
-
-fn is_run(word: &[u8]) -> bool
-    ensures { IsTrue result ↔ (word.now ≡ codes "RUN") }
-{
-    word == b"RUN".as_slice()
-}
-
-/// What a line asks for, if it is in its form.
-fn read_line(line: &[u8]) -> Option<Option<ScriptLine>>
-    ensures found { IfSome result (SpellsLine line.now) }
-    ensures none { IfNone result ((asked : Option ScriptLine) → SpellsLine line.now asked → ⊥) }
-{
-    let Some((first, rest)) = first_word(line) else {
-        return Some(None);
-    };
-    let (digits, rest) = first_word(rest)?;
-    if !is_run(first) || first_word(rest).is_some() {
-        return None;
-    }
-    let count = count(digits)?;
-    Some(Some(ScriptLine::Run(count)))
-}
-
-/// What a line asks for, where it may follow `number` lines that ask for `sum` events.
-fn taken_line(line: &[u8], number: u32, sum: u32) -> Option<Option<ScriptLine>>
-    ensures found { IfSome result (Takes line.now number sum) }
-    ensures none { IfNone result ((asked : Option ScriptLine) → Takes line.now number sum asked → ⊥) }
-{
-    if number >= SCRIPT_LINE_LIMIT {
-        return None;
-    }
-    match read_line(line)? {
-        None if sum <= RUN_SUM_LIMIT => Some(None),
-        Some(ScriptLine::Run(count)) if sum <= RUN_SUM_LIMIT && count <= RUN_SUM_LIMIT - sum => {
-            Some(Some(ScriptLine::Run(count)))
-        }
-        _ => None,
-    }
-}
-
-/// Adds what a line asks for, and tells how many events that is.
-fn add(script: &mut Vec<ScriptLine>, asked: Option<ScriptLine>) -> Result<u32, AllocError>
-    ensures { IfOk result (λ count. (script.new.items ≡ script.old.items ++ option_to_list asked) × (count ≡ asked_count asked)) }
-{
+    let mut next = so_far;
+    next.line_count += 1;
     match asked {
-        None => Ok(0),
-        Some(ScriptLine::Run(count)) => {
-            script.push(ScriptLine::Run(count))?;
-            Ok(count)
+        None => Ok(next),
+        Some(line) => {
+            match line {
+                ScriptLine::Run(count) => next.events += count,
+                ScriptLine::Tick(time) => next.time += time,
+                _ => {}
+            }
+            script.push(line)?;
+            Ok(next)
         }
     }
 }
 
-/// Reads a script: lines that are blank or `RUN n`, within the limits. A fault is the first line with
-/// which the lines so far are no script, for reason 1.
+/// Reads a script of RUN, TICK and PREEMPT lines. A fault is the first faulty line, with its first reason:
+/// 6 too many lines or a sum above its limit, 1 unknown first word, 2 operand missing, malformed or
+/// followed by more, 3 number out of range, 5 a byte outside 32 to 126.
 pub fn read_script(alloc: Global, bytes: &[u8]) -> Result<Script, ScriptError>
-    ensures found { IfOk result (IsScript (lines bytes.now)) }
-    ensures faulty { IfErr result (IsFaultOf (lines bytes.now)) }
+    ensures found { IfOk result (λ script. IsScriptOf (lines bytes.now) script) }
+    ensures faulty { IfErr result (λ error. IsFaultTold (lines bytes.now) error) }
 {
     let mut script = Vec::new(alloc);
     let mut rest = bytes;
-    let mut number = 0;
-    let mut sum = 0;
+    let mut so_far = SoFar {
+        line_count: 0,
+        events: 0,
+        time: 0,
+    };
     'lines: while let Some((line, after)) = first_line(rest) {
-        let Some(asked) = taken_line(line, number, sum) else {
-            return Err(ScriptError::Faulty(ScriptFault {
-                line: number + 1,
-                reason: 1,
-            }));
+        let asked = match read_line(alloc, so_far, line)? {
+            Reading::Good(asked) => asked,
+            Reading::Faults(reason) => {
+                return Err(ScriptError::Faulty(ScriptFault {
+                    line: so_far.line_count + 1,
+                    reason,
+                }));
+            }
         };
-        sum += add(&mut script, asked)?;
-        number += 1;
+        so_far = add(&mut script, so_far, asked)?;
         rest = after;
     }
     Ok(Script::new(script))

@@ -2,12 +2,12 @@
 use Rattle.std.proofs.Common.{◌≡◌, ℕ, zero, suc, List, [], ◌∷◌, refl, ap, ◌∙◌, sym, subst, arith, length}
 use Rattle.std.specs.Str.Lines.{lines}
 use Rattle.hal_base.specs.Files.{File}
-use Rattle.hal_script.specs.declared.script.ScriptLine.{ScriptLine}
+use Rattle.exec_model.specs.declared.script.ScriptLine.{ScriptLine}
 use Rattle.hal_script.specs.declared.fault.ScriptFault.{ScriptFault}
-use Rattle.hal_script.specs.Lines.{IsScript, IsFirstFault}
-use Rattle.hal_script.proofs.FirstFaults.{IsFirstFault-excludes, IsFirstFault-unique}
+use Rattle.hal_script.specs.ScriptTexts.{IsScriptOf, IsFault}
+use Rattle.hal_script.proofs.OneReading.{IsFault-unique, IsScriptOf-excludes}
 use Rattle.hal_tree.specs.Tree.{UnitTree}
-use Rattle.hal_tree.specs.FirstForm.{IsFirstForm}
+use Rattle.hal_tree.specs.SecondForm.{IsSecondForm}
 use Rattle.hal_base.specs.declared.refusal.Refusal.{Refusal}
 use Rattle.hal_top.specs.CommandLine.{IsRunLine}
 use Rattle.hal_top.specs.Causes.{IsPresent, IsAbsent, IsTooLong, FirstWrong, IsFirstWrong, Fetched, IsFaulty, IsBroken, IsWork}
@@ -91,18 +91,16 @@ Excludes-long = record { absurd_where = present_not_long }
 pub faulty-unique : (files : List File) (words : List (List ℕ)) (f g : ScriptFault) → IsFaulty files words f → IsFaulty files words g → f ≡ g
 faulty-unique files words f g x y =
     let same : x.script ≡ y.script = fetched-script files words x.script x.unit y.script y.unit x.fetched y.fetched in
-    let number : f.line ≡ g.line = IsFirstFault-unique (lines x.script) f.line g.line x.first (subst (λ (s : List ℕ). IsFirstFault (lines s) g.line) (sym same) y.first) in
-    let reason : f.reason ≡ g.reason = x.reason ∙ sym y.reason in
-    ap (λ n. let made : ScriptFault = record { line = n; reason = f.reason } in made) number ∙ ap (λ r. let made : ScriptFault = record { line = g.line; reason = r } in made) reason
+    IsFault-unique (lines x.script) f g x.first (subst (λ (t : List ℕ). IsFault (lines t) g) (sym same) y.first)
 
 pub faulty-no_script : (files : List File) (words : List (List ℕ)) (f : ScriptFault) (s u : List ℕ) (orders : List ScriptLine)
-    → IsFaulty files words f → Fetched files words s u → IsScript (lines s) orders → ⊥
+    → IsFaulty files words f → Fetched files words s u → IsScriptOf (lines s) orders → ⊥
 faulty-no_script files words f s u orders x fetched read =
     let same : x.script ≡ s = fetched-script files words x.script x.unit s u x.fetched fetched in
-    IsFirstFault-excludes (lines x.script) f.line orders x.first (subst (λ (t : List ℕ). IsScript (lines t) orders) (sym same) read)
+    IsScriptOf-excludes (lines x.script) orders f (subst (λ (t : List ℕ). IsScriptOf (lines t) orders) (sym same) read) x.first
 
 -- a unit that breaks the form has no tree
 pub broken-no_work : (files : List File) (words : List (List ℕ)) (refusal : Refusal) (script : List ScriptLine) (tree : UnitTree) → IsBroken files words refusal → IsWork files words script tree → ⊥
 broken-no_work files words refusal script tree x y =
     let same : y.unit_text ≡ x.unit = fetched-unit files words y.script_text y.unit_text x.script x.unit y.fetched x.fetched in
-    x.broken.formless tree (subst (λ (t : List ℕ). IsFirstForm 0 t tree) same y.form)
+    x.broken.formless tree (subst (λ (t : List ℕ). IsSecondForm 0 t tree) same y.form)

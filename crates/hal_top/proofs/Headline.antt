@@ -3,9 +3,9 @@ use Rattle.std.proofs.Common.{◌≡◌, ℕ, ◌⊎◌, inl, inr, List, Option,
 use Rattle.hal_base.specs.Files.{File}
 use Rattle.hal_base.specs.declared.refusal.Refusal.{Refusal}
 use Rattle.hal_tree.specs.Tree.{UnitTree}
-use Rattle.hal_script.specs.declared.script.ScriptLine.{ScriptLine}
+use Rattle.exec_model.specs.declared.script.ScriptLine.{ScriptLine}
 use Rattle.hal_script.specs.declared.fault.ScriptFault.{ScriptFault}
-use Rattle.hal_top.specs.declared.journal.Event.{Event}
+use Rattle.exec_model.specs.declared.event.Event.{Event}
 use Rattle.hal_top.specs.declared.outcome.Outcome.{Outcome}
 use Rattle.hal_top.specs.declared.refused.Refused.{Refused}
 use Rattle.hal_top.specs.declared.refused.Refused.TheVariants.{Usage, Absent, TooLong, Script, Rule, Shelf, Memory}

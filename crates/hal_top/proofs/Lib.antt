@@ -1,8 +1,12 @@
-pub mod Lists
 pub mod Drained
-pub mod Forms
-pub mod Events
-pub mod Reports
-pub mod Prepared
 pub mod Exclusions
+pub mod Forms
 pub mod Headline
+pub mod Joined
+pub mod LeftNames
+pub mod Lists
+pub mod Prepared
+pub mod Ranges
+pub mod Reports
+pub mod Running
+pub mod Telling

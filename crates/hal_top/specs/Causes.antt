@@ -7,10 +7,10 @@ use Rattle.hal_base.specs.declared.refusal.Refusal.{Refusal}
 use Rattle.hal_base.specs.Files.{File, file_named}
 use Rattle.hal_tree.specs.Cutting.{place_at}
 use Rattle.hal_tree.specs.Tree.{UnitTree}
-use Rattle.hal_tree.specs.FirstForm.{IsFirstForm}
-use Rattle.hal_script.specs.declared.script.ScriptLine.{ScriptLine}
+use Rattle.hal_tree.specs.SecondForm.{IsSecondForm}
+use Rattle.exec_model.specs.declared.script.ScriptLine.{ScriptLine}
 use Rattle.hal_script.specs.declared.fault.ScriptFault.{ScriptFault}
-use Rattle.hal_script.specs.Lines.{IsScript, IsFirstFault}
+use Rattle.hal_script.specs.ScriptTexts.{IsScriptOf, IsFault}
 use Rattle.hal_top.specs.CommandLine.{IsRunLine}
 
 -- the file is there with these bytes, and they are not too many
@@ -44,26 +44,25 @@ pub record Fetched (files : List File) (words : List (List ℕ)) (script unit : 
   pub script_file : IsPresent files script_name script
   pub unit_file : IsPresent files unit_name unit
 
--- a script whose first faulty line is this one, for reason 1
+-- a script whose first faulty line is this one, for this reason
 pub record IsFaulty (files : List File) (words : List (List ℕ)) (fault : ScriptFault) : Type 0 where
   pub script : List ℕ
   pub unit : List ℕ
   pub fetched : Fetched files words script unit
-  pub first : IsFirstFault (lines script) fault.line
-  pub reason : fault.reason ≡ 1
+  pub first : IsFault (lines script) fault
 
--- a unit that is not in the first form breaks rule 400 at line 1, column 1
+-- a unit that is not in the second form breaks rule 400 at line 1, column 1
 pub record Breaks (number : ℕ) (text : List ℕ) (refusal : Refusal) : Type 0 where
   pub rule : refusal.rule.0 ≡ 400
   pub place : refusal.place ≡ place_at number 1 1
-  pub formless : (tree : UnitTree) → IsFirstForm number text tree → ⊥
+  pub formless : (tree : UnitTree) → IsSecondForm number text tree → ⊥
 
 pub record IsBroken (files : List File) (words : List (List ℕ)) (refusal : Refusal) : Type 0 where
   pub script : List ℕ
   pub unit : List ℕ
   pub script_lines : List ScriptLine
   pub fetched : Fetched files words script unit
-  pub read : IsScript (lines script) script_lines
+  pub read : IsScriptOf (lines script) script_lines
   pub broken : Breaks 0 unit refusal
 
 -- nothing is wrong: this is the script, and this the unit's tree
@@ -71,5 +70,5 @@ pub record IsWork (files : List File) (words : List (List ℕ)) (script : List S
   pub script_text : List ℕ
   pub unit_text : List ℕ
   pub fetched : Fetched files words script_text unit_text
-  pub read : IsScript (lines script_text) script
-  pub form : IsFirstForm 0 unit_text tree
+  pub read : IsScriptOf (lines script_text) script
+  pub form : IsSecondForm 0 unit_text tree

@@ -1,6 +1,3 @@
-pub mod State
-pub mod Runs
-pub mod Report
 pub mod CommandLine
 pub mod Causes
 pub mod Outcomes
@@ -10,3 +7,4 @@ pub mod Programs
 pub mod Running
 pub mod Works
 pub mod Performed
+pub mod Asking

@@ -6,9 +6,9 @@ use Rattle.hal_base.specs.Faults.{Rose}
 use Rattle.hal_base.specs.Files.{File}
 use Rattle.hal_base.specs.Sink.{Takes}
 use Rattle.hal_tree.specs.Tree.{UnitTree}
-use Rattle.hal_script.specs.declared.script.ScriptLine.{ScriptLine}
+use Rattle.exec_model.specs.declared.script.ScriptLine.{ScriptLine}
 use Rattle.hal_script.specs.declared.fault.ScriptFault.{ScriptFault}
-use Rattle.hal_top.specs.declared.journal.Event.{Event}
+use Rattle.exec_model.specs.declared.event.Event.{Event}
 use Rattle.hal_top.specs.declared.outcome.Outcome.{Outcome}
 use Rattle.hal_top.specs.CommandLine.{usage_line}
 use Rattle.hal_top.specs.Performed.{HasReport}
@@ -59,7 +59,7 @@ Prints None now piece faults_before faults_now = Unit {0}
 Prints (Some before) now piece faults_before faults_now =
     (count : ℕ) × (now ≡ Some (before ++ take count piece)) × ((length piece ≤ count) ⊎ Rose faults_before faults_now)
 
--- the work that the words name, a run of it with this journal, and the report of the state after it
+-- the work that the words name, a run of it with this journal, and the report of the moment after it
 pub record Ran (files : List File) (words : List (List ℕ)) (journal : List Event) (bytes : List ℕ) : Type 0 where
   pub script : List ScriptLine
   pub tree : UnitTree

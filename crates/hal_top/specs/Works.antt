@@ -3,9 +3,9 @@ use Rattle.std.specs.Prelude.{◌≡◌, ℕ, List, Result, Ok, Err}
 use Rattle.std.specs.Str.Lines.{lines}
 use Rattle.hal_base.specs.Files.{File}
 use Rattle.hal_tree.specs.View.{unit_tree}
-use Rattle.hal_tree.specs.FirstForm.{IsFirstForm}
-use Rattle.hal_script.specs.declared.script.ScriptLine.{ScriptLine}
-use Rattle.hal_script.specs.Lines.{IsScript, IsFirstFault}
+use Rattle.hal_tree.specs.SecondForm.{IsSecondForm}
+use Rattle.exec_model.specs.declared.script.ScriptLine.{ScriptLine}
+use Rattle.hal_script.specs.ScriptTexts.{IsScriptOf, IsFault}
 use Rattle.hal_top.specs.declared.fetch.NoFile.{NoFile}
 use Rattle.hal_top.specs.declared.fetch.NoFile.TheVariants as file
 use Rattle.hal_top.specs.declared.prepare.Work.{Work}
@@ -23,9 +23,9 @@ IsCauseOfFile file.Memory number refused = refused ≡ Memory
 
 -- the work of a script's and a unit's bytes, or which of them is wrong
 abbrev pub IsWorkOf : List ℕ → List ℕ → Result Work Refused → Type 0
-IsWorkOf script unit (Ok work) = IsScript (lines script) work.script × IsFirstForm 0 unit (unit_tree work.program.unit)
-IsWorkOf script unit (Err (Script fault)) = IsFirstFault (lines script) fault.line × (fault.reason ≡ 1)
-IsWorkOf script unit (Err (Rule refusal)) = ((orders : List ScriptLine) × IsScript (lines script) orders) × Breaks 0 unit refusal
+IsWorkOf script unit (Ok work) = IsScriptOf (lines script) work.script × IsSecondForm 0 unit (unit_tree work.program.unit)
+IsWorkOf script unit (Err (Script fault)) = IsFault (lines script) fault
+IsWorkOf script unit (Err (Rule refusal)) = ((orders : List ScriptLine) × IsScriptOf (lines script) orders) × Breaks 0 unit refusal
 IsWorkOf script unit (Err Memory) = Unit {0}
 IsWorkOf script unit (Err Usage) = ⊥
 IsWorkOf script unit (Err (Absent number)) = ⊥

@@ -2,10 +2,10 @@
 #![tactic(auto)]
 
 mod drain;
+mod elements;
 mod fetch;
-mod journal;
-mod machine;
 mod outcome;
+mod owners;
 mod perform;
 mod prepare;
 mod program;
@@ -14,9 +14,9 @@ mod refused;
 mod report;
 mod run;
 mod top;
+mod tree_procs;
+mod values;
 mod words;
 
-pub use journal::{Event, Journal};
-pub use machine::{End, How, Machine, Status};
 pub use outcome::Outcome;
 pub use top::hal;

@@ -1,4 +1,4 @@
-use crate::journal::Journal;
+use exec_model::Journal;
 use hal_base::Refusal;
 use hal_script::ScriptFault;
 

@@ -1,15 +1,16 @@
 ghost use Rattle.std.specs.Prelude.{◌≡◌, ◌≤◌, ◌↔◌, IfOk, IfSome, IsErrOf};
 ghost use Rattle.hal_base.specs.Faults.{Rose};
 ghost use Rattle.hal_top.specs.CommandLine.{texts, HasNoForm};
-ghost use Rattle.hal_top.specs.Programs.{IsNamedFor};
+ghost use Rattle.hal_top.specs.Programs.{IsRunnable};
 ghost use Rattle.hal_top.specs.Works.{IsCauseOfFile, IsWorkOf, Told};
 
 use crate::fetch::{NoFile, fetched};
 use crate::program::{Program, program_of};
 use crate::refused::Refused;
 use crate::words::run_line;
+use exec_model::Script;
 use hal_base::{Place, Refusal, Rule, Shelf};
-use hal_script::{Script, ScriptError, read_script};
+use hal_script::{ScriptError, read_script};
 use std::alloc::Global;
 
 /// What is to be run.
@@ -44,7 +45,7 @@ fn refused_file(fault: NoFile, number: u32) -> Refused
 /// The work that a script and a unit give.
 fn work_of(alloc: Global, script: &[u8], unit: &[u8]) -> Result<Work, Refused>
     ensures work { IsWorkOf script.now unit.now result }
-    ensures named { IfOk result (λ work. IsNamedFor work.program) }
+    ensures runnable { IfOk result (λ work. IsRunnable work.program) }
 {
     let script = match read_script(alloc, script) {
         Ok(script) => script,
@@ -62,7 +63,7 @@ fn work_of(alloc: Global, script: &[u8], unit: &[u8]) -> Result<Work, Refused>
 /// are named, in the script, in the unit.
 pub fn prepare<S: Shelf>(alloc: Global, words: &[String], shelf: &mut S) -> Result<Work, Refused>
     ensures told { IfSome (S.files shelf.old) (λ files. Told files (texts words.now) result) }
-    ensures named { IfOk result (λ work. IsNamedFor work.program) }
+    ensures runnable { IfOk result (λ work. IsRunnable work.program) }
     ensures usage { IsErrOf result Refused.Usage ↔ HasNoForm (texts words.now) }
     ensures failed { IsErrOf result Refused.Shelf → Rose (S.faults shelf.old) (S.faults shelf.new) }
     ensures same { S.files shelf.new ≡ S.files shelf.old }

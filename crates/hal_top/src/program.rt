@@ -14,7 +14,7 @@ pub struct Program {
     pub names: Names,
 }
 
-/// The program of a unit's text, or None where the text isn't in the first form.
+/// The program of a unit's text, or None where the text isn't in the second form.
 pub fn program_of(alloc: Global, text: &[u8]) -> Result<Option<Program>, AllocError>
     ensures { IfOk result (IsProgramOf text.now) }
 {

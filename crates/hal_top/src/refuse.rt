@@ -6,10 +6,10 @@ ghost use Rattle.hal_top.specs.Told.{outcome_of};
 ghost use Rattle.hal_top.specs.declared.refused.Refused.TheVariants.{Memory, Usage};
 
 use crate::drain::drain;
-use crate::journal::Journal;
 use crate::outcome::Outcome;
 use crate::refused::Refused;
 use hal_base::Sink;
+use hal_values::Listing;
 use std::alloc::{AllocError, Global};
 
 /// What is printed where the words have no form.
@@ -31,7 +31,7 @@ fn outcome(alloc: Global, refused: Refused) -> Outcome
     };
     Outcome {
         status,
-        journal: Journal::new(Vec::new(alloc)),
+        journal: Listing::empty(alloc),
         file,
         refused: rule,
         script_fault,

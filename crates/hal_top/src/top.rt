@@ -2,7 +2,7 @@ ghost use Rattle.std.specs.Prelude.{◌≡◌, ◌≢◌, ◌≤◌, ◌↔◌, 
 ghost use Rattle.hal_base.specs.Faults.{Rose};
 ghost use Rattle.hal_base.specs.declared.refusal.Refusal.{Refusal};
 ghost use Rattle.hal_script.specs.declared.fault.ScriptFault.{ScriptFault};
-ghost use Rattle.hal_script.specs.declared.script.ScriptLine.{ScriptLine};
+ghost use Rattle.exec_model.specs.declared.script.ScriptLine.{ScriptLine};
 ghost use Rattle.hal_tree.specs.Tree.{UnitTree};
 ghost use Rattle.hal_top.specs.CommandLine.{texts, HasNoForm};
 ghost use Rattle.hal_top.specs.Causes.{IsAbsent, IsTooLong, IsFirstWrong, IsFaulty, IsBroken, IsWork};
@@ -52,7 +52,7 @@ pub fn hal<S: Shelf, O: Sink>(
         Ok(work) => work,
         Err(refused) => return refuse(alloc, words, refused, out),
     };
-    match perform(alloc, &work) {
+    match perform(alloc, work) {
         Ok(performed) => print(performed, out),
         Err(_) => refuse(alloc, words, Refused::Memory, out),
     }

@@ -44,7 +44,7 @@ CutsLines unit number [] tokens = tokens ≡ []
 CutsLines unit number (line ∷ more) tokens =
     (here later : List Token) × (tokens ≡ here ++ later) × IsMainLine line × CutsText unit number 1 line here × CutsLines unit (number + 1) more later
 
--- a byte of the first form: a printing one, the blank or the end of a line
+-- a byte of the second form: a printing one, the blank or the end of a line
 abbrev pub IsPlainByte : ℕ → Type 0
 IsPlainByte b = (b ≡ 10) ⊎ ((32 ≤ b) × (b ≤ 126))
 

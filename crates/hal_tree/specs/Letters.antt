@@ -4,7 +4,7 @@ use Rattle.std.specs.Prelude.{◌≡◌, ℕ, ◌≤◌, ◌⊎◌, List, [], �
 abbrev pub IsBlank : ℕ → Type 0
 IsBlank b = b ≡ 32
 
--- a capital letter: the first form has no small ones
+-- a capital letter: the second form has no small ones
 abbrev pub IsLetter : ℕ → Type 0
 IsLetter b = (65 ≤ b) × (b ≤ 90)
 

@@ -7,4 +7,4 @@ pub mod Tree
 pub mod View
 pub mod Spells
 pub mod Naming
-pub mod FirstForm
+pub mod SecondForm

@@ -16,12 +16,20 @@ keyword_text keyword.Integer = codes "INTEGER"
 keyword_text keyword.Initial = codes "INITIAL"
 keyword_text keyword.Close = codes "CLOSE"
 keyword_text keyword.Write = codes "WRITE"
+keyword_text keyword.If = codes "IF"
+keyword_text keyword.Then = codes "THEN"
+keyword_text keyword.Else = codes "ELSE"
+keyword_text keyword.Do = codes "DO"
+keyword_text keyword.While = codes "WHILE"
+keyword_text keyword.End = codes "END"
 
 abbrev pub symbol_byte : Symbol → ℕ
 symbol_byte symbol.Colon = 58
 symbol_byte symbol.Semicolon = 59
 symbol_byte symbol.Comma = 44
 symbol_byte symbol.Equals = 61
+symbol_byte symbol.Less = 60
+symbol_byte symbol.Greater = 62
 symbol_byte symbol.Plus = 43
 symbol_byte symbol.Minus = 45
 symbol_byte symbol.LeftParenthesis = 40

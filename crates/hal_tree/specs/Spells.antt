@@ -17,8 +17,10 @@ use Rattle.hal_tree.specs.declared.tree.OperandKind.{OperandKind}
 use Rattle.hal_tree.specs.declared.tree.OperandKind.TheVariants as operand
 use Rattle.hal_tree.specs.declared.tree.Sign.{Sign}
 use Rattle.hal_tree.specs.declared.tree.Sign.TheVariants as sign
+use Rattle.hal_tree.specs.declared.tree.Relation.{Relation}
+use Rattle.hal_tree.specs.declared.tree.Relation.TheVariants as relation
 use Rattle.hal_tree.specs.declared.tree.Term.{Term}
-use Rattle.hal_tree.specs.Tree.{SumTree, StatementTree, Assigned, Written, UnitTree}
+use Rattle.hal_tree.specs.Tree.{SumTree, ComparisonTree, StatementTree, Assigned, Written, Chosen, Looped, AlternativeTree, NoElse, Else, BodyTree, Ended, Then, UnitTree}
 
 abbrev pub Words : Type 0
 Words = List Token
@@ -84,20 +86,61 @@ pub record SpellsAssignHead (place : Place) (target : List ℕ) (before after : 
   pub equals : Place
   pub words : before ≡ token (word.Name target) place ∷ symbol_then symbol.Equals equals after
 
--- a statement begins with a name or with WRITE, and ends with a semicolon
-abbrev pub SpellsStatement : StatementTree → Words → Words → Type 0
-SpellsStatement (Assigned place target value) before after =
-    (middle : Words) × (end : Place) × SpellsAssignHead place target before middle × SpellsSum value middle (symbol_then symbol.Semicolon end after)
-SpellsStatement (Written place channel items) before after =
-    (middle : Words) × (end : Place) × SpellsWriteHead place channel before middle × SpellsItems items middle (symbol_then symbol.Semicolon end after)
+-- the symbol that a relation is written with
+abbrev pub relation_symbol : Relation → Symbol
+relation_symbol relation.Equal = symbol.Equals
+relation_symbol relation.Less = symbol.Less
+relation_symbol relation.Greater = symbol.Greater
+
+-- `left relation right`
+abbrev pub SpellsComparison : ComparisonTree → Words → Words → Type 0
+SpellsComparison comparison before after =
+    (middle rest : Words) × (p : Place) × SpellsSum comparison.left before middle × (middle ≡ symbol_then (relation_symbol comparison.relation) p rest)
+    × SpellsSum comparison.right rest after
+
+-- `IF condition THEN`
+abbrev pub SpellsIfHead : Place → ComparisonTree → Words → Words → Type 0
+SpellsIfHead place condition before after =
+    (middle : Words) × (then : Place) × (before ≡ token (word.Keyword keyword.If) place ∷ middle) × SpellsComparison condition middle (token (word.Keyword keyword.Then) then ∷ after)
+
+-- `DO WHILE condition;`
+abbrev pub SpellsWhileHead : Place → ComparisonTree → Words → Words → Type 0
+SpellsWhileHead place condition before after =
+    (middle : Words) × (while end : Place) × (before ≡ token (word.Keyword keyword.Do) place ∷ token (word.Keyword keyword.While) while ∷ middle)
+    × SpellsComparison condition middle (symbol_then symbol.Semicolon end after)
+
+-- `END;`
+abbrev pub SpellsGroupEnd : Words → Words → Type 0
+SpellsGroupEnd before after = (p end : Place) × (before ≡ token (word.Keyword keyword.End) p ∷ symbol_then symbol.Semicolon end after)
 
 -- the words go on with a further statement
 abbrev pub BeginsStatement : Words → Type 0
-BeginsStatement words = BeginsWithWord (word.Keyword keyword.Write) words ⊎ ((name : List ℕ) × BeginsWithWord (word.Name name) words)
+BeginsStatement words =
+    BeginsWithWord (word.Keyword keyword.Write) words ⊎ ((name : List ℕ) × BeginsWithWord (word.Name name) words)
+    ⊎ BeginsWithWord (word.Keyword keyword.If) words ⊎ BeginsWithWord (word.Keyword keyword.Do) words
 
-abbrev pub SpellsStatements : List StatementTree → Words → Words → Type 0
-SpellsStatements [] before after = (before ≡ after) × ¬ BeginsStatement after
-SpellsStatements (statement ∷ statements) before after = (middle : Words) × SpellsStatement statement before middle × SpellsStatements statements middle after
+-- an assignment or a WRITE ends with a semicolon, a group with END and a semicolon, and an IF with its last statement
+abbrev mutual
+  pub SpellsStatement : StatementTree → Words → Words → Type 0
+  SpellsStatement (Assigned place target value) before after =
+      (middle : Words) × (end : Place) × SpellsAssignHead place target before middle × SpellsSum value middle (symbol_then symbol.Semicolon end after)
+  SpellsStatement (Written place channel items) before after =
+      (middle : Words) × (end : Place) × SpellsWriteHead place channel before middle × SpellsItems items middle (symbol_then symbol.Semicolon end after)
+  SpellsStatement (Chosen place condition consequence alternative) before after =
+      (middle rest : Words) × SpellsIfHead place condition before middle × SpellsStatement consequence middle rest × SpellsAlternative alternative rest after
+  SpellsStatement (Looped place condition body) before after =
+      (middle rest : Words) × SpellsWhileHead place condition before middle × SpellsBody body middle rest × SpellsGroupEnd rest after
+
+  -- an IF has no alternative only where no ELSE follows: so an ELSE belongs to the nearest IF
+  pub SpellsAlternative : AlternativeTree → Words → Words → Type 0
+  SpellsAlternative NoElse before after = (before ≡ after) × ¬ BeginsWithWord (word.Keyword keyword.Else) after
+  SpellsAlternative (Else statement) before after =
+      (middle : Words) × (p : Place) × (before ≡ token (word.Keyword keyword.Else) p ∷ middle) × SpellsStatement statement middle after
+
+  -- all statements that follow
+  pub SpellsBody : BodyTree → Words → Words → Type 0
+  SpellsBody Ended before after = (before ≡ after) × ¬ BeginsStatement after
+  SpellsBody (Then statement body) before after = (middle : Words) × SpellsStatement statement before middle × SpellsBody body middle after
 
 -- a number, or a minus and a number, within 16 bits
 pub record SpellsInitial (initial : Initial) (before after : Words) : Type 0 where
@@ -142,4 +185,4 @@ SpellsClose name before after =
 abbrev pub SpellsUnit : UnitTree → Words → Words → Type 0
 SpellsUnit unit before after =
     (first second third : Words) × SpellsHead unit.place unit.name before first × SpellsDeclarations unit.declarations first second
-    × SpellsStatements unit.body second third × SpellsClose unit.name third after
+    × SpellsBody unit.body second third × SpellsClose unit.name third after

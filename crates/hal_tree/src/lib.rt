@@ -10,7 +10,7 @@ mod word;
 pub use name::Name;
 pub use tokens::Tokens;
 pub use tree::{
-    Channel, Declaration, Initial, Operand, OperandKind, Sign, Statement, StatementKind, Sum, Term,
-    Unit,
+    Channel, Comparison, Declaration, Initial, Operand, OperandKind, Relation, Sign, Statement,
+    StatementKind, Sum, Term, Unit,
 };
 pub use word::{Keyword, Symbol, Token, Word};

@@ -29,17 +29,51 @@ pub struct Initial {
 
 /// A statement of a body.
 #[derive(Debug, Drop)]
+#[cycle(tree)]
 pub struct Statement {
     pub place: Place,
     pub kind: StatementKind,
 }
 
 #[derive(Debug, Drop)]
+#[cycle(tree)]
 pub enum StatementKind {
     /// `target = value;`
-    Assign { target: Name, value: Sum },
+    Assign {
+        target: Name,
+        value: Sum,
+    },
     /// `WRITE(channel) item, item;`
-    Write { channel: Channel, items: Vec<Sum> },
+    Write {
+        channel: Channel,
+        items: Vec<Sum>,
+    },
+    /// `IF condition THEN consequence ELSE alternative`
+    If {
+        condition: Comparison,
+        consequence: Box<Statement>,
+        alternative: Option<Box<Statement>>,
+    },
+    /// `DO WHILE condition; body END;`
+    While {
+        condition: Comparison,
+        body: Vec<Statement>,
+    },
+}
+
+/// `left relation right`
+#[derive(Debug, Drop)]
+pub struct Comparison {
+    pub left: Sum,
+    pub relation: Relation,
+    pub right: Sum,
+}
+
+#[derive(Clone, Copy, Debug, PartialEq, Eq)]
+pub enum Relation {
+    Equal,
+    Less,
+    Greater,
 }
 
 /// The channel of a WRITE, 0 to 31.

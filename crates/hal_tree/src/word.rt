@@ -10,6 +10,12 @@ pub enum Keyword {
     Initial,
     Close,
     Write,
+    If,
+    Then,
+    Else,
+    Do,
+    While,
+    End,
 }
 
 /// A symbol that the grammar has so far.
@@ -19,6 +25,8 @@ pub enum Symbol {
     Semicolon,
     Comma,
     Equals,
+    Less,
+    Greater,
     Plus,
     Minus,
     LeftParenthesis,

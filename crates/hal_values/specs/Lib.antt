@@ -1,4 +1,5 @@
 pub mod Kinds
+pub mod BitTexts
 pub mod Tables
 pub mod Requests
 pub mod Answers

@@ -8,7 +8,6 @@ mod environment;
 mod line;
 mod listing;
 mod load;
-mod operation;
 mod plan;
 mod request;
 mod smallest_load;
@@ -23,7 +22,6 @@ pub use listing::Listing;
 pub use load::{
     Load, a_load_keeps_its_laws, an_answer_killed_fits, loads_that_agree_take_the_same_answers,
 };
-pub use operation::{Op1, Op2};
 pub use plan::{Cycle, Guard, Pause, Plan, When};
 pub use request::{Request, Spot};
 pub use smallest_load::{SmallestLoad, the_smallest_load_takes_its_answers};

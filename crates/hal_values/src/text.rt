@@ -16,7 +16,7 @@ impl Model for Text {
 }
 
 impl Text {
-    ghost use Rattle.std.specs.Prelude.{◌≡◌, ◌<◌, ◌≤◌, [], ◌∷◌, ◌++◌, length};
+    ghost use Rattle.std.specs.Prelude.{◌≡◌, ◌<◌, ◌≤◌, ◌+◌, [], ◌∷◌, ◌++◌, length};
     ghost use Rattle.std.specs.Option.{SomeIff};
 
     /// The empty text.
@@ -53,6 +53,14 @@ impl Text {
         ensures { self.new ≡ self.old ++ byte ∷ [] }
     {
         self.bytes.push(byte);
+    }
+
+    /// Adds these bytes at the end.
+    pub fn extend(&mut self, bytes: &[u8])
+        requires { length self.old + length bytes.now ≤ 255 }
+        ensures { self.new ≡ self.old ++ bytes.now }
+    {
+        let _all_fit = self.bytes.try_extend_from_slice(bytes).is_ok();
     }
 
     /// The same text once more.

@@ -1,9 +1,8 @@
 -- The tree of HELLO spells its words, and its names are declared.
-use Rattle.std.proofs.Common.{inl, inr, [], ◌∷◌, All, codes, refl, arith, lit<, lit≤}
+use Rattle.std.proofs.Common.{inl, inr, [], ◌∷◌, codes, refl, arith, lit<, lit≤}
 use Rattle.std.proofs.lemmas.List.Elements.{All-from_recursion}
-use Rattle.hal_tree.specs.Tree.{StatementTree}
 use Rattle.hal_tree.specs.Spells.{SpellsUnit}
-use Rattle.hal_tree.specs.Naming.{IsOnce, IsNamed, statement_names}
+use Rattle.hal_tree.specs.Naming.{IsOnce, IsNamed}
 use Rattle.worked_rows.specs.Trees.{column, hello_tree}
 use Rattle.worked_rows.specs.HelloWords.{hello_tokens}
 use Rattle.worked_rows.proofs.Texts.{not_among}
@@ -43,17 +42,11 @@ SpellsUnit-hello = (
 )
 
 -- the one name is declared once
-once : IsOnce (codes "N" ∷ []) (codes "N")
+pub once : IsOnce (codes "N" ∷ []) (codes "N")
 once = record { before = []; after = []; here = refl; first = λ h. omega (arith, h.1); last = λ h. omega (arith, h.1) }
-
-assigned : All (IsOnce (codes "N" ∷ [])) (codes "N" ∷ codes "N" ∷ [])
-assigned = All-from_recursion (IsOnce (codes "N" ∷ [])) (codes "N" ∷ codes "N" ∷ []) (once, (once, tt))
-
-written : All (IsOnce (codes "N" ∷ [])) (codes "N" ∷ [])
-written = All-from_recursion (IsOnce (codes "N" ∷ [])) (codes "N" ∷ []) (once, tt)
 
 pub IsNamed-hello : IsNamed hello_tree
 IsNamed-hello = record {
-  used = All-from_recursion (λ (statement : StatementTree). All (IsOnce (codes "N" ∷ [])) (statement_names statement)) hello_tree.body (assigned, (written, tt));
+  used = All-from_recursion (IsOnce (codes "N" ∷ [])) (codes "N" ∷ codes "N" ∷ codes "N" ∷ []) (once, (once, (once, tt)));
   own = not_among (codes "N" ∷ []) (codes "HELLO") refl;
 }

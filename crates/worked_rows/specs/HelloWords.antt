@@ -9,22 +9,27 @@ use Rattle.hal_tree.specs.declared.word.Token.{Token}
 use Rattle.hal_tree.specs.Spells.{token}
 use Rattle.worked_rows.specs.Trees.{column}
 
+-- the text of HELLO
 abbrev pub hello_text : List ℕ
 hello_text = codes " HELLO: PROGRAM; DECLARE N INTEGER INITIAL(40); N = N + 2; WRITE(6) N; CLOSE HELLO;"
 
--- a word in a column
+-- a reserved word in a column
 abbrev pub reserved : Keyword → ℕ → Token
 reserved k number = token (word.Keyword k) (column number)
 
+-- a name in a column
 abbrev pub named : List ℕ → ℕ → Token
 named name number = token (word.Name name) (column number)
 
+-- a number in a column
 abbrev pub written : ℕ → ℕ → Token
 written value number = token (word.Number value) (column number)
 
+-- a symbol in a column
 abbrev pub mark : Symbol → ℕ → Token
 mark s number = token (word.Symbol s) (column number)
 
+-- the words of HELLO
 abbrev pub hello_tokens : List Token
 hello_tokens =
     named (codes "HELLO") 2 ∷ mark symbol.Colon 7 ∷ reserved keyword.Program 9 ∷ mark symbol.Semicolon 16

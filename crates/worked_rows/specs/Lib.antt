@@ -1,3 +1,4 @@
 pub mod Trees
-pub mod Ends
+pub mod Runs
 pub mod HelloWords
+pub mod CountWords

@@ -9,6 +9,8 @@ mod adapters;
 mod answer;
 mod laws;
 #[cfg(test)]
+mod loops;
+#[cfg(test)]
 mod outside;
 #[cfg(test)]
 mod runs;
@@ -18,6 +20,7 @@ mod scripts;
 mod units;
 
 pub use laws::{
-    hello_is_begun, hello_is_closed, hello_is_cut, hello_is_named, hello_is_of_first_form,
-    hello_is_spelled, hello_is_untouched, overflow_fails, run_10_is_a_script,
+    count_is_closed, count_is_of_second_form, hello_is_begun, hello_is_closed, hello_is_cut,
+    hello_is_named, hello_is_of_second_form, hello_is_spelled, hello_is_untouched, overflow_fails,
+    run_10_is_a_script, ticks_are_a_script,
 };

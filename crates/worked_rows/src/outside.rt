@@ -89,7 +89,7 @@ const FILES: [(&str, &str, &str, &str, u8, &str, Option<u32>); 7] = [
         "p.hal",
         "",
         6,
-        "s.txt:1: reason 1\n",
+        "s.txt:1: reason 3\n",
         Some(0),
     ),
 ];

@@ -1,5 +1,5 @@
 use crate::answer::{HELLO, HELLO_REPORT, run};
-use hal_top::Event;
+use exec_model::Event;
 use std::test::Fail;
 
 /// Units and scripts, the number of events, and the report.

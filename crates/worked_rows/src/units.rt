@@ -2,8 +2,8 @@ use crate::answer::run;
 use hal_base::{Place, Refusal, Rule};
 use std::test::Fail;
 
-/// Units that aren't in the first form.
-const UNITS: [&str; 46] = [
+/// Units that aren't in the second form.
+const UNITS: [&str; 76] = [
     // No words, or not all of them.
     "",
     "\n",
@@ -55,6 +55,38 @@ const UNITS: [&str; 46] = [
     " P: PROGRAM; WRITE(6) -1; CLOSE P;",
     " P: PROGRAM; WRITE(6) 2147483648; CLOSE P;",
     " P: PROGRAM; WRITE(6) 1 CLOSE P;",
+    " P: PROGRAM; ; CLOSE P;",
+    // Choices.
+    " P: PROGRAM; IF 1 = 1 WRITE(6) 1; CLOSE P;",
+    " P: PROGRAM; IF 1 THEN WRITE(6) 1; CLOSE P;",
+    " P: PROGRAM; IF = 1 THEN WRITE(6) 1; CLOSE P;",
+    " P: PROGRAM; IF 1 = THEN WRITE(6) 1; CLOSE P;",
+    " P: PROGRAM; IF 1 = 1 = 1 THEN WRITE(6) 1; CLOSE P;",
+    " P: PROGRAM; IF 1 <= 1 THEN WRITE(6) 1; CLOSE P;",
+    " P: PROGRAM; IF (1 = 1) THEN WRITE(6) 1; CLOSE P;",
+    " P: PROGRAM; IF 1 = 1 THEN ; CLOSE P;",
+    " P: PROGRAM; IF 1 = 1 THEN ELSE WRITE(6) 1; CLOSE P;",
+    " P: PROGRAM; ELSE WRITE(6) 1; CLOSE P;",
+    " P: PROGRAM; IF 1 = 1 THEN WRITE(6) 1; ELSE CLOSE P;",
+    " P: PROGRAM; IF 1 = 1 THEN WRITE(6) 1; WRITE(6) 2; ELSE WRITE(6) 3; CLOSE P;",
+    " P: PROGRAM; IF 1 = 1 THEN WRITE(6) 1; ELSE WRITE(6) 2; ELSE WRITE(6) 3; CLOSE P;",
+    " P: PROGRAM; IF N = 1 THEN WRITE(6) 1; CLOSE P;",
+    " P: PROGRAM; IF 1 = 1 THEN N = 1; CLOSE P;",
+    " P: PROGRAM; IF 1 = 1 THEN WRITE(6) 1; ELSE WRITE(6) N; CLOSE P;",
+    " P: PROGRAM; IF 1 = P THEN WRITE(6) 1; CLOSE P;",
+    " P: PROGRAM; DECLARE N INTEGER; DECLARE N INTEGER; IF N = 1 THEN WRITE(6) 1; CLOSE P;",
+    // Groups.
+    " P: PROGRAM; DO; WRITE(6) 1; END; CLOSE P;",
+    " P: PROGRAM; DO UNTIL 1 = 1; END; CLOSE P;",
+    " P: PROGRAM; DO WHILE TRUE; END; CLOSE P;",
+    " P: PROGRAM; DO WHILE 1 = 1 WRITE(6) 1; END; CLOSE P;",
+    " P: PROGRAM; DO WHILE 1 = 1; WRITE(6) 1; CLOSE P;",
+    " P: PROGRAM; DO WHILE 1 = 1; END CLOSE P;",
+    " P: PROGRAM; DO WHILE 1 = 1; END; END; CLOSE P;",
+    " P: PROGRAM; DO WHILE 1 = 1; CLOSE P; END;",
+    " P: PROGRAM; DO WHILE 1 = 1; DECLARE N INTEGER; END; CLOSE P;",
+    " P: PROGRAM; DO WHILE N > 1; END; CLOSE P;",
+    " P: PROGRAM; DO WHILE 1 = 1; WRITE(6) N; END; CLOSE P;",
 ];
 
 #[test]

@@ -1,11 +1,11 @@
 use Rattle.std.proofs.Common.{length}
 use Rattle.hal_tree.specs.View.{unit_tree}
 use Rattle.hal_meaning.specs.Meaning.{meaning}
-use Rattle.hal_meaning.proofs.Cycles.{ComesTo}
+use Rattle.hal_meaning.proofs.Cycles.{Begun}
 use Rattle.hal_meaning.proofs.asked.oracle.Given as goal
 
 abbrev pub invariant-loop-own : goal.invariant-loop-own
-invariant-loop-own l = ComesTo (unit_tree l.unit) l.own.items l.left (meaning (unit_tree l.unit) l.answers)
+invariant-loop-own l = Begun (unit_tree l.unit) l.own.items l.left (meaning (unit_tree l.unit) l.heards)
 
 abbrev pub decreases-loop-own : goal.decreases-loop-own
 decreases-loop-own l = length l.left

@@ -1,3 +1,4 @@
+use Rattle.hal_tree.specs.View.{kind_tree}
 use Rattle.hal_parse.proofs.Pairs.{no_first, no_second, both}
 use Rattle.hal_parse.proofs.Sequences.{assignment_pair}
 use Rattle.hal_parse.proofs.assignment.assignment.Goals as goal
@@ -9,4 +10,5 @@ pub returns-in_default-2 : goal.returns-in_default-2
 returns-in_default-2 c = no_second assignment_pair c.in-Some.ensures (rw c.in_default-2.is at c.in_ok-value.ensures)
 
 pub returns : goal.returns
+unfolding kind_tree
 returns c = both assignment_pair c.in-Some.ensures (rw c.in-Some-2.is at c.in_ok-value.ensures)

@@ -1,4 +1,3 @@
-use Rattle.std.proofs.Common.{rules}
 use Rattle.hal_top.proofs.refuse.refuse.Goals as goal
 
 pub returns-in-Usage-clause-line : goal.returns-in-Usage-clause-line

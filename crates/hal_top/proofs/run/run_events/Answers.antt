@@ -1,13 +1,16 @@
-use Rattle.std.proofs.Common.{refl, ap, ◌∙◌}
-use Rattle.hal_tree.specs.View.{unit_tree}
-use Rattle.hal_meaning.specs.Meaning.{next_request}
-use Rattle.hal_top.specs.State.{effect}
-use Rattle.hal_top.proofs.Events.{IsRunning-step}
+use Rattle.std.proofs.Common.{◌∙◌}
+use Rattle.std.proofs.lemmas.Bool.{OnTrue_at}
+use Rattle.hal_values.specs.Loads.{meaning_of}
+use Rattle.hal_top.proofs.Running.{IsMaking-seen, same_moment}
 use Rattle.hal_top.proofs.run.run_events.Goals as goal
 
 pub events-preserved : goal.events-preserved
-events-preserved c =
-    IsRunning-step (unit_tree c.args.program.now.unit) c.args.machine.now c.events.machine c.act.new.self c.args.journal.now.items c.events.journal.items c.push.new.self.items c.events.counter _
-    c.events.invariant
-    (refl, c.is_ready.ensures.0 c.if-not-is_ready.false, (c.in_ok-act.ensures ∙ ap (λ r. effect r c.events.machine) (c.in_ok-request.ensures ∙ ap (next_request (unit_tree c.args.program.now.unit)) c.answers.ensures)))
-    c.in_ok-push.ensures.items
+events-preserved g c =
+    let same = c.in_ok-event.ensures.same in (
+      IsMaking-seen (meaning_of g.P.Of.Load.tables g.P.Of.Load.next g.P.Of.Load.block g.P.Of.Load.own) _ (g.P.Procs.load c.events.plain.procs) _ _ c.events.plain.lanes _ _ _ _ _ c.events.plain.journal _ _ c.events.counter c.in-Some.event
+          c.events.invariant.1 c.in_ok-event.ensures.load c.events.invariant.2 (same_moment _ _ _ _ same.same_state same.same_answers) same.same_journal
+          c.events.invariant.0 (rw c.in-Some.is at c.in_ok-event.ensures.of_process) (rw c.in-Some.is at c.in_ok-event.ensures.found)
+          (OnTrue_at c.if-not-branch.false c.in_ok-step.ensures.made) (OnTrue_at c.if-not-branch.false c.in_ok-step.ensures.written),
+      c.in_ok-step.ensures.load ∙ (c.in_ok-event.ensures.load ∙ c.events.invariant.1),
+      c.in_ok-step.ensures.lanes ∙ (c.in_ok-event.ensures.lanes ∙ c.events.invariant.2),
+    )

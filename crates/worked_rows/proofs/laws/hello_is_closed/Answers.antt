@@ -1,12 +1,13 @@
 use Rattle.std.specs.Fmt.{digits}
-use Rattle.std.proofs.Common.{inr, [], ◌∷◌, refl, lit<}
-use Rattle.hal_top.specs.declared.journal.Event.TheVariants.{Act}
-use Rattle.worked_rows.specs.Ends.{hello_closed}
+use Rattle.std.proofs.Common.{◌∷◌, [], codes, refl}
+use Rattle.hal_meaning.specs.TreeLoad.{load_of}
+use Rattle.exec_rows.proofs.Deciding.{runs_to-run}
+use Rattle.worked_rows.specs.Trees.{hello_tree}
+use Rattle.worked_rows.specs.Runs.{acts, run_script}
 use Rattle.worked_rows.proofs.laws.hello_is_closed.Goals as goal
 
 pub returns : goal.returns
 unfolding digits
-returns c = record {
-  run = (Act 0 ∷ Act 0 ∷ Act 0 ∷ [], [], hello_closed, refl, ((_, (refl, refl, refl), (_, (refl, refl, refl), (_, (refl, refl, refl), refl))), inr (lit< tt, refl)), (refl, refl));
-  told = refl;
-}
+returns c =
+    let found = runs_to-run (load_of hello_tree) (run_script 10) 1 (acts 3 ∷ []) [] (acts 3) (codes "6: 42\nend HELLO 0 closed 1\nHELLO.N = 42\n") refl refl in
+    record { run = found.0; told = found.1; journal = refl }

@@ -1,7 +1,12 @@
 use Rattle.std.specs.Fmt.{digits}
-use Rattle.std.proofs.Common.{refl}
+use Rattle.std.proofs.Common.{[], codes, refl}
+use Rattle.hal_meaning.specs.TreeLoad.{load_of}
+use Rattle.exec_rows.proofs.Deciding.{runs_to-run}
+use Rattle.worked_rows.specs.Trees.{hello_tree}
 use Rattle.worked_rows.proofs.laws.hello_is_untouched.Goals as goal
 
 pub returns : goal.returns
 unfolding digits
-returns c = record { run = (refl, refl); told = refl }
+returns c =
+    let found = runs_to-run (load_of hello_tree) [] 1 [] [] [] (codes "live HELLO\nHELLO.N = 40\n") refl refl in
+    record { run = found.0; told = found.1 }

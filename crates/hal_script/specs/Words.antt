@@ -1,0 +1,15 @@
+-- The words of a line, parted by blanks.
+use Rattle.std.specs.Prelude.{ℕ, Bool, List, not, filter, length, nat_le, ◌==◌, ◌||◌, ◌&&◌}
+use Rattle.std.specs.List.{slice_split, list_all}
+
+-- a space or a tab
+abbrev pub is_blank : ℕ → Bool
+is_blank byte = byte == 32 || byte == 9
+
+-- what stands between blanks, but for the empty parts
+abbrev pub words : List ℕ → List (List ℕ)
+words line = filter (λ part. not (length part == 0)) (slice_split is_blank line)
+
+-- each byte is one from the space to the tilde, 32 to 126
+abbrev pub is_printable : List ℕ → Bool
+is_printable line = list_all (λ byte. nat_le 32 byte && nat_le byte 126) line
