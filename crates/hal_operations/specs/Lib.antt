@@ -1,0 +1,10 @@
+pub mod Errors
+pub mod Integers
+pub mod Strings
+pub mod Texts
+pub mod Operands
+pub mod Values
+pub mod Mended
+pub mod Stores
+pub mod Parts
+pub mod Laws
