@@ -1,11 +1,12 @@
 #!/usr/bin/env python3
-"""How the cost of a run grows with the unit. Run it by hand, from anywhere: bench/reading.py
+"""How the cost of a run grows with the unit and the script. Run it by hand, from anywhere: bench/reading.py
 
 Units of four shapes double up to the limits of a unit, 65,536 words and 1,048,576 bytes, under a
-script of few events. A row is a unit: its words and bytes, the processor time (the least of three
-runs), the peak of memory, and the time's ratio to the row above. Reading, checking and one request
-are to be linear in the unit, so a ratio stays below 2.5. The peak is never less than Python's own,
-in which the program is started.
+script of few events. Then scripts of two shapes double up to the limit of 4,096 lines, over the
+smallest unit. A row is a run: the words or lines and the bytes that double, the processor time (the
+least of three runs), the peak of memory, and the time's ratio to the row above. Reading, checking and
+one request are to be linear in the unit, and reading and playing in the script's lines, so a ratio
+stays below 2.5. The peak is never less than Python's own, in which the program is started.
 """
 import os
 import pathlib
@@ -15,7 +16,7 @@ import tempfile
 
 ROOT = pathlib.Path(__file__).resolve().parent.parent
 PROGRAM = ROOT / 'crates/hal_cli/out/hal_cli'
-WORD_LIMIT, BYTE_LIMIT = 65_536, 1_048_576
+WORD_LIMIT, BYTE_LIMIT, LINE_LIMIT = 65_536, 1_048_576, 4_096
 DOUBLINGS = 6
 RATIO_LIMIT = 2.5
 # Below this many seconds a time says little.
@@ -59,19 +60,44 @@ def cost(words):
     return child.returncode, usage.ru_utime + usage.ru_stime, usage.ru_maxrss / 1024
 
 
-def measure(shape, folder):
-    """Prints a table of the shape; True where each ratio that tells something stays below its limit."""
-    print(f'{shape.__name__}: {shape.__doc__}\n{"words":>8}{"bytes":>10}{"ms":>9}{"MB":>8}{"ratio":>8}')
-    last, is_fine = None, True
+def ticks(lines):
+    """A script that lets time pass on every line."""
+    return b'TICK 1\n' * lines
+
+
+def preemptions(lines):
+    """A script of long lines that preempt a process which isn't there."""
+    return (b'PREEMPT ' + b'N' * 240 + b'\n') * lines
+
+
+def unit_files(shape):
+    """The runs of a unit's shape: its words, its bytes, and the files."""
     for doubling in reversed(range(DOUBLINGS)):
         words, size = WORD_LIMIT >> doubling, BYTE_LIMIT >> doubling
-        (folder / 'unit.hal').write_bytes(text_of(shape(words), size))
+        yield words, size, b'RUN 3\n', text_of(shape(words), size)
+
+
+def script_files(shape):
+    """The runs of a script's shape: its lines, its bytes, and the files."""
+    for doubling in reversed(range(DOUBLINGS)):
+        lines = LINE_LIMIT >> doubling
+        script = shape(lines)
+        yield lines, len(script), script, b' P: PROGRAM; CLOSE P;\n'
+
+
+def measure(shape, what, files, folder):
+    """Prints a table of the shape; True where each ratio that tells something stays below its limit."""
+    print(f'{shape.__name__}: {shape.__doc__}\n{what:>8}{"bytes":>10}{"ms":>9}{"MB":>8}{"ratio":>8}')
+    last, is_fine = None, True
+    for count, size, script, unit in files(shape):
+        (folder / 'script.txt').write_bytes(script)
+        (folder / 'unit.hal').write_bytes(unit)
         runs = [cost(['run', '1', str(folder / 'script.txt'), str(folder / 'unit.hal')]) for _ in range(3)]
         if any(status != 0 for status, _, _ in runs):
-            sys.exit(f'{shape.__name__} of {words} words: the program ended with status {runs[0][0]}')
+            sys.exit(f'{shape.__name__} of {count} {what}: the program ended with status {runs[0][0]}')
         seconds, peak = min(run[1] for run in runs), max(run[2] for run in runs)
         ratio = seconds / last if last else 1
-        print(f'{words:8}{size:10}{seconds * 1000:9.1f}{peak:8.1f}{ratio:8.2f}')
+        print(f'{count:8}{size:10}{seconds * 1000:9.1f}{peak:8.1f}{ratio:8.2f}')
         is_fine = is_fine and (ratio < RATIO_LIMIT or seconds < LEAST)
         last = seconds
     return is_fine
@@ -83,8 +109,8 @@ def main():
         return 1
     with tempfile.TemporaryDirectory() as folder:
         folder = pathlib.Path(folder)
-        (folder / 'script.txt').write_text('RUN 3\n')
-        results = [measure(shape, folder) for shape in (sum_of, assignments, names, items)]
+        results = [measure(shape, 'words', unit_files, folder) for shape in (sum_of, assignments, names, items)]
+        results += [measure(shape, 'lines', script_files, folder) for shape in (ticks, preemptions)]
     return 0 if all(results) else 1
 
 

@@ -10,3 +10,4 @@ pub mod Ranges
 pub mod Reports
 pub mod Running
 pub mod Telling
+pub mod PassedRests

@@ -8,3 +8,4 @@ pub mod Running
 pub mod Works
 pub mod Performed
 pub mod Asking
+pub mod Rests

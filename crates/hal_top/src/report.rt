@@ -137,7 +137,13 @@ pub(crate) fn report_text<P: Procs + Drop>(
     text.extend_from_slice(state.output.as_slice())?;
     add_ends(alloc, &mut text, tables, state.ends.as_slice())?;
     add_lives(&mut text, tables, state)?;
-    let mut owns = owns;
-    add_values(alloc, &mut text, tables, state, &mut owns, shown.as_slice())?;
+    add_values(
+        alloc,
+        &mut text,
+        tables,
+        state,
+        owns.as_slice(),
+        shown.as_slice(),
+    )?;
     Ok(text)
 }

@@ -1,9 +1,10 @@
 //! The lines of a report's values.
 
-ghost use Rattle.std.specs.Prelude.{◌≡◌, ◌++◌, ◌<◌, ◌/◌, ◌%◌, ◌^◌, [], ℕ, List, OnOk, IfOk, codes, slice_index_or};
+ghost use Rattle.std.specs.Prelude.{◌≡◌, ◌++◌, ◌<◌, ◌/◌, ◌%◌, ◌^◌, [], ℕ, List, OnOk, IfOk, codes, slice_index_or, drop};
 ghost use Rattle.exec_model.specs.Effects.{bit_value};
 ghost use Rattle.exec_model.specs.Moments.{moment_of, event_in};
 ghost use Rattle.hal_values.specs.BitTexts.{bits_text};
+ghost use Rattle.hal_top.specs.Rests.{lists};
 ghost use Rattle.exec_model.specs.Report.{quoted, value_text, head_value, base_value, owns_after, value_lines};
 
 use crate::elements::Shown;
@@ -94,15 +95,33 @@ fn bit_value(bit: bool) -> Value
     }
 }
 
-/// The first of the values that are still to be shown of a process.
-fn head_value(owns: &[Listing<Value>], process: u8) -> Value
-    ensures { result ≡ head_value (slice_index_or owns.now process []) }
+/// The own values of each process, all of which are still to be shown.
+fn rests_of<'a>(alloc: Global, owns: &'a [Listing<Value>]) -> Result<Vec<&'a [Value]>, AllocError>
+    ensures { IfOk result (λ rests. lists rests.items ≡ owns.now) }
 {
-    match owns.get(usize::from(process)) {
-        Some(values) => match values.as_slice().first() {
-            Some(value) => value.copy(),
-            None => Value::Int(0),
-        },
+    let mut rests = Vec::new(alloc);
+    for values in owns {
+        rests.push(values.as_slice())?;
+    }
+    Ok(rests)
+}
+
+/// The first of these values.
+fn first_of(values: &[Value]) -> Value
+    ensures { result ≡ head_value values.now }
+{
+    match values {
+        [value, ..] => value.copy(),
+        [] => Value::Int(0),
+    }
+}
+
+/// The first of the values that are still to be shown of a process.
+fn head_value(rests: &[&[Value]], process: u8) -> Value
+    ensures { result ≡ head_value (slice_index_or (lists rests.now) process []) }
+{
+    match rests.get(usize::from(process)) {
+        Some(values) => first_of(values),
         None => Value::Int(0),
     }
 }
@@ -111,31 +130,41 @@ fn head_value(owns: &[Listing<Value>], process: u8) -> Value
 fn base_value(
     tables: &Tables,
     state: &State,
-    owns: &[Listing<Value>],
+    rests: &[&[Value]],
     base: ReportBase,
     number: usize,
 ) -> Value
-    ensures { result ≡ base_value tables.now (moment_of state.now []) owns.now base number }
+    ensures { result ≡ base_value tables.now (moment_of state.now []) (lists rests.now) base number }
 {
     match base {
         ReportBase::Shared => match state.store.as_slice().get(number) {
             Some(value) => value.copy(),
             None => Value::Int(0),
         },
-        ReportBase::Own(process) => head_value(owns, process),
+        ReportBase::Own(process) => head_value(rests, process),
         ReportBase::Event => bit_value(event_value(tables, state, number)),
     }
 }
 
 /// The own value that was shown last is shown no more.
-fn pass_shown(owns: &mut [Listing<Value>], base: ReportBase)
-    ensures { owns.new ≡ owns_after owns.old base }
+fn pass_shown(rests: &mut [&[Value]], base: ReportBase)
+    ensures { lists rests.new ≡ owns_after (lists rests.old) base }
 {
     if let ReportBase::Own(process) = base {
         let place = usize::from(process);
-        if place < owns.len() {
-            owns[place].remove_first();
+        if place < rests.len() {
+            rests[place] = behind_first(rests[place]);
         }
+    }
+}
+
+/// The values behind the first one.
+fn behind_first(values: &[Value]) -> &[Value]
+    ensures { result.now ≡ drop 1 values.now }
+{
+    match values {
+        [_, rest @ ..] => rest,
+        [] => values,
     }
 }
 
@@ -155,21 +184,22 @@ fn add_line(
     Ok(())
 }
 
-/// Adds the lines of elements. `owns` are the own values of each process that are still to be shown.
+/// Adds the lines of elements. `owns` are the own values of each process.
 pub(crate) fn add_values(
     alloc: Global,
     text: &mut Vec<u8>,
     tables: &Tables,
     state: &State,
-    owns: &mut Vec<Listing<Value>>,
+    owns: &[Listing<Value>],
     elements: &[Shown],
 ) -> Result<(), AllocError>
-    ensures { OnOk result (text.new.items ≡ text.old.items ++ value_lines tables.now (moment_of state.now []) owns.old.items elements.now) }
+    ensures { OnOk result (text.new.items ≡ text.old.items ++ value_lines tables.now (moment_of state.now []) owns.now elements.now) }
 {
+    let mut rests = rests_of(alloc, owns)?;
     for shown in elements {
-        let value = base_value(tables, state, owns.as_slice(), shown.base, shown.number);
+        let value = base_value(tables, state, rests.as_slice(), shown.base, shown.number);
         add_line(alloc, text, shown, &value)?;
-        pass_shown(owns.as_mut_slice(), shown.base);
+        pass_shown(rests.as_mut_slice(), shown.base);
     }
     Ok(())
 }

@@ -23,7 +23,7 @@ returns g c =
     (ap₂ (λ (t : Tables) (es : List End). flat_map (end_line t) es) tables_are (c.as_slice-3.ensures ∙ ap (λ (s : State). s.ends) state_is))
     (ap₂ (λ (t : Tables) (s : State). flat_map (live_line t (moment_of s [])) (range_with_len 0 (process_count t))) tables_are state_is
     ∙ live_lines-same tables state [] (g.P.Procs.answers c.args.plain.now.procs) (range_with_len 0 (process_count tables)))
-    (ap₂ (λ (t : Tables) (s : State). value_lines t (moment_of s []) c.args.owns.items c.as_slice-4.result.now) tables_are state_is
-    ∙ (ap₂ (λ (os : List (List Value)) (es : List Element). value_lines tables (moment_of state []) os es) c.requires
-    (c.as_slice-4.ensures.value ∙ c.in_ok-shown.ensures ∙ ap (λ (ns : List ReportName). elements_in (length ns) ns) (c.as_slice.ensures ∙ ap (λ (t : Tables). t.names) tables_are))
+    (ap₂ (λ (t : Tables) (s : State). value_lines t (moment_of s []) c.as_slice-4.result.now c.as_slice-5.result.now) tables_are state_is
+    ∙ (ap₂ (λ (os : List (List Value)) (es : List Element). value_lines tables (moment_of state []) os es) (c.as_slice-4.ensures.value ∙ c.requires)
+    (c.as_slice-5.ensures.value ∙ c.in_ok-shown.ensures ∙ ap (λ (ns : List ReportName). elements_in (length ns) ns) (c.as_slice.ensures ∙ ap (λ (t : Tables). t.names) tables_are))
     ∙ value_lines-same tables state [] (g.P.Procs.answers c.args.plain.now.procs) _ (elements tables)))
