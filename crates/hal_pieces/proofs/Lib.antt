@@ -1,0 +1,13 @@
+pub mod BitNumbers
+pub mod LongRuns
+pub mod Points
+pub mod Values
+pub mod Cells
+pub mod InComments
+pub mod Words
+pub mod Follow
+pub mod LineCells
+pub mod NoList
+pub mod PlainLines
+pub mod Sizes
+pub mod Whole

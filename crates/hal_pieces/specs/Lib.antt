@@ -1,0 +1,10 @@
+pub mod Bases
+pub mod Classes
+pub mod LiteralParts
+pub mod NumberParts
+pub mod Seen
+pub mod Faults
+pub mod Reading
+pub mod Kinds
+pub mod Directives
+pub mod Names

@@ -1,0 +1,11 @@
+-- The pieces of the code as those of the definition.
+use Rattle.hal_words.specs.Pieces as definition
+use Rattle.hal_words.specs.Pieces.{Is}
+use Rattle.hal_pieces.specs.declared.piece.Piece.{Piece}
+use Rattle.hal_pieces.specs.declared.piece.Piece.TheVariants as code
+
+abbrev pub seen : Piece → definition.Piece
+seen (code.Word word) = Is word
+seen (code.Replacement bytes) = definition.Replacement bytes.now
+seen code.Open = definition.Open
+seen (code.Wrong rule) = definition.Wrong rule.0

@@ -1,0 +1,78 @@
+//! Text literals.
+
+ghost use Rattle.std.specs.Prelude.{◌≡◌, ◌<◌, ◌≤◌, ◌+◌, ◌-◌, ◌++◌, ◌∷◌, [], length, take, IfSome, IfNone};
+ghost use Rattle.hal_words.specs.Literals.{inside, with_byte, blank_for_tab};
+ghost use Rattle.hal_words.specs.Pieces.{literal};
+ghost use Rattle.hal_pieces.specs.LiteralParts.{at_end, text_or_wrong};
+ghost use Rattle.hal_pieces.specs.Seen.{seen};
+
+use crate::bytes::is_plain;
+use crate::piece::Piece;
+use hal_base::Rule;
+use hal_words::{Literal, Word};
+
+/// The most bytes of a literal.
+const MOST: usize = 255;
+
+/// A text literal, behind the quote that begins it, and its size with both quotes.
+pub(crate) fn literal(text: &[u8]) -> (Piece<'_>, usize)
+    ensures what { seen result.0 ≡ (literal text.now).0 }
+    ensures size { result.1 ≡ (literal text.now).1 }
+{
+    let mut bytes = [0; MOST];
+    let mut count = 0;
+    let mut plain = true;
+    let mut rest = text;
+    'byte: while let Some((byte, more)) = next_byte(rest) {
+        store(&mut bytes, count, byte);
+        count += 1;
+        plain = plain && is_plain(byte);
+        rest = more;
+    }
+    if rest.is_empty() {
+        return (Piece::Wrong(Rule(202)), text.len() + 1);
+    }
+    (
+        literal_of(&bytes, count, plain),
+        text.len() - rest.len() + 2,
+    )
+}
+
+/// The next byte of a literal, and what follows it; a doubled quote is one. None at the quote that ends
+/// the literal and at the line's end.
+fn next_byte(text: &[u8]) -> Option<(u8, &[u8])>
+    ensures next { IfSome result (λ next. inside text.now
+        ≡ with_byte next.0 (length text.now - length next.1.now) (inside next.1.now)) }
+    ensures shorter { IfSome result (λ next. length next.1.now < length text.now) }
+    ensures end { IfNone result (inside text.now ≡ at_end text.now) }
+{
+    match text {
+        [b'\'', b'\'', more @ ..] => Some((b'\'', more)),
+        [b'\'', ..] | [] => None,
+        [byte, more @ ..] => Some((*byte, more)),
+    }
+}
+
+/// Stores a byte of a literal, if it has room; a tab is a blank there.
+fn store(bytes: &mut [u8; 255], count: usize, byte: u8)
+    ensures length { length bytes.new ≡ 255 }
+    ensures stored { count < 255 → take (count + 1) bytes.new
+        ≡ take count bytes.old ++ blank_for_tab byte ∷ [] }
+{
+    if count < MOST {
+        bytes[count] = if byte == b'\t' { b' ' } else { byte };
+    }
+}
+
+/// The literal of so many stored bytes.
+fn literal_of<'a>(bytes: &[u8; 255], count: usize, plain: bool) -> Piece<'a>
+    ensures { seen result ≡ text_or_wrong plain count (take count bytes.now) }
+{
+    if !plain {
+        Piece::Wrong(Rule(201))
+    } else if count <= MOST {
+        Piece::Word(Word::Text(Literal::new(&bytes[..count])))
+    } else {
+        Piece::Wrong(Rule(204))
+    }
+}

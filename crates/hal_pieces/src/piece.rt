@@ -1,0 +1,49 @@
+ghost use Rattle.std.specs.Prelude.{◌≡◌};
+ghost use Rattle.hal_words.specs.Pieces.{piece};
+ghost use Rattle.hal_pieces.specs.Seen.{seen};
+
+use crate::bytes::is_letter;
+use crate::letters::letters;
+use crate::literals::literal;
+use crate::numbers::{begins_number, number};
+use crate::replacements::replacement;
+use crate::signs::signs;
+use hal_base::Rule;
+use hal_words::Word;
+
+/// What a line begins with.
+#[derive(Clone, Copy, Debug)]
+pub enum Piece<'a> {
+    /// The longest word.
+    Word(Word),
+    /// The bytes between two `"`.
+    Replacement(&'a [u8]),
+    /// A `"` without another one on the line.
+    Open,
+    /// A broken rule.
+    Wrong(Rule),
+}
+
+/// What the text, which doesn't begin with a blank or a comment, begins with, and how many bytes that
+/// takes.
+pub fn first_piece(text: &[u8]) -> (Piece<'_>, usize)
+    ensures what { seen result.0 ≡ (piece text.now).0 }
+    ensures size { result.1 ≡ (piece text.now).1 }
+{
+    match text {
+        [] => (Piece::Wrong(Rule(201)), 1),
+        [first, rest @ ..] => {
+            if is_letter(*first) {
+                letters(text)
+            } else if begins_number(text) {
+                number(text)
+            } else if *first == b'\'' {
+                literal(rest)
+            } else if *first == b'"' {
+                replacement(rest)
+            } else {
+                signs(*first, rest)
+            }
+        }
+    }
+}

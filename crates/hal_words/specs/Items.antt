@@ -1,0 +1,70 @@
+-- The pieces of a file in order: at each byte of its main lines a word goes on, or there is a blank, or the longest word begins.
+use Rattle.std.specs.Prelude.{ℕ, zero, suc, pred, ◌==◌, Bool, false, ◌&&◌, ◌||◌, List, [], ◌∷◌, ◌++◌, length, Option, Some, None, option_map, if◌then◌else◌}
+use Rattle.hal_base.specs.declared.refusal.Place.{Place}
+use Rattle.hal_words.specs.declared.reserved.Reserved.TheVariants as reserved
+use Rattle.hal_words.specs.declared.word.Word.TheVariants as word
+use Rattle.hal_words.specs.Letters.{is_blank}
+use Rattle.hal_words.specs.Pieces.{Piece, Is, Wrong, piece}
+use Rattle.hal_words.specs.Lines.{Item, item, Cell, Byte, Given, file_cells}
+
+-- the bytes from here to the end of the line
+abbrev pub line_of : List Cell → List ℕ
+line_of [] = []
+line_of (Given one ∷ cells) = []
+line_of (Byte b place ∷ cells) = if b == 10 then [] else b ∷ line_of cells
+
+-- how many cells a comment goes on, behind its first two bytes, to the end of its last two; None where it is open. `after` tells that the byte before was `*`
+abbrev pub comment_rest : Bool → List Cell → Option ℕ
+comment_rest after [] = None
+comment_rest after (Given one ∷ cells) = option_map suc (comment_rest false cells)
+comment_rest after (Byte b place ∷ cells) = if after && b == 47 then Some 1 else option_map suc (comment_rest (b == 42) cells)
+
+-- a comment begins
+abbrev pub begins_comment : List ℕ → Bool
+begins_comment [] = false
+begins_comment (b ∷ []) = false
+begins_comment (b ∷ c ∷ text) = b == 47 && c == 42
+
+-- the word INCLUDE isn't for main lines: it breaks 103 at the line's first byte
+abbrev pub main_item : Piece → Place → Item
+main_item (Is (word.Reserved reserved.Include)) place = item (Wrong 103) (record { unit = place.unit; line = place.line; column = 1 })
+main_item piece place = item piece place
+
+abbrev pub size_or_all : Option ℕ → ℕ → ℕ
+size_or_all None all = all
+size_or_all (Some size) all = suc size
+
+abbrev pub fault_if_open : Option ℕ → Place → List Item
+fault_if_open None place = item (Wrong 202) place ∷ []
+fault_if_open (Some size) place = []
+
+-- what follows a comment's first byte, behind its second one
+abbrev pub behind : List Cell → List Cell
+behind [] = []
+behind (cell ∷ cells) = cells
+
+-- how many cells behind its first byte a comment has, where it is closed; all, where it is open
+abbrev pub comment_size : List Cell → ℕ
+comment_size cells = size_or_all (comment_rest false (behind cells)) (length cells)
+
+-- an open comment breaks 202
+abbrev pub comment_items : Place → List Cell → List Item
+comment_items place cells = fault_if_open (comment_rest false (behind cells)) place
+
+-- what begins at a byte: the items that it gives, and how many cells it goes on for
+abbrev pub begun : ℕ → Place → List ℕ → List Cell → List Item × ℕ
+begun b place line cells =
+    if is_blank b || b == 10 then ([], 0)
+    else if begins_comment line then (comment_items place cells, comment_size cells)
+    else (main_item (piece line).0 place ∷ [], pred (piece line).1)
+
+-- the items of cells, of which the first `skipped` belong to what began before. Items that lines give as a whole stand in nothing
+abbrev pub items : ℕ → List Cell → List Item
+items skipped [] = []
+items skipped (Given one ∷ cells) = one ∷ items (pred skipped) cells
+items (suc skipped) (Byte b place ∷ cells) = items skipped cells
+items zero (Byte b place ∷ cells) = let found = begun b place (line_of (Byte b place ∷ cells)) cells in found.0 ++ items found.1 cells
+
+-- the items of a file
+abbrev pub file_items : ℕ → List ℕ → List Item
+file_items unit text = items 0 (file_cells unit text)

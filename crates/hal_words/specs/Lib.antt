@@ -1,0 +1,11 @@
+pub mod Rooms
+pub mod Letters
+pub mod Reserved
+pub mod Numbers
+pub mod Literals
+pub mod Pieces
+pub mod Lines
+pub mod Items
+pub mod Tables
+pub mod Replacing
+pub mod Words
