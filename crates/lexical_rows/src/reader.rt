@@ -1,12 +1,12 @@
-//! How rows write bytes. A printing byte stands for itself, another one is written `\x7F`, and a number in
-//! braces says how often the byte before it comes, as `A{33}`; so a backslash and braces are written `\x5C`,
+//! How rows write bytes. A printing byte and a newline stand for themselves, another byte is written `\x7F`, and
+//! a number in braces says how often the byte before it comes, as `A{33}`; so a backslash and braces are written `\x5C`,
 //! `\x7B` and `\x7D`. What is written otherwise is read as something else, which `writer` then writes in
 //! another way than the row: no such row is kept.
 
 use std::alloc::{AllocError, Global};
 
 /// The longest run of a byte, so that a slip in a row takes no more memory.
-const MOST: usize = 2000;
+const MOST: usize = 70_000;
 
 /// What the reader waits for.
 #[derive(Clone, Copy, Debug)]

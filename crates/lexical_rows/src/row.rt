@@ -6,7 +6,7 @@ use hal_pieces::first_piece;
 use std::alloc::{AllocError, Global};
 
 /// What a row separates its fields with.
-const BAR: &str = " | ";
+pub(crate) const BAR: &str = " | ";
 
 /// Whether the program says what the text begins with: it isn't empty, and begins with no blank and no
 /// comment.
@@ -29,14 +29,25 @@ fn of_text(alloc: Global, row: &str) -> Result<String, AllocError> {
     format!(in alloc; "{text}{BAR}{piece}{BAR}{size}")
 }
 
-/// Adds each row that isn't kept to those that are told, with what the program gives in its place.
+/// Adds a row to those that are told, with what the program gives in its place, unless it is kept.
+pub(crate) fn tell_unless_kept(
+    alloc: Global,
+    row: &str,
+    written: &str,
+    told: &mut String,
+) -> Result<(), AllocError> {
+    if written != row {
+        let line = format!(in alloc; "\n{row}\n    not {written}")?;
+        told.push_str(line.as_str())?;
+    }
+    Ok(())
+}
+
+/// Adds each row that isn't kept to those that are told.
 pub(crate) fn tell(alloc: Global, rows: &[&str], told: &mut String) -> Result<(), AllocError> {
     for row in rows {
         let written = of_text(alloc, row)?;
-        if written.as_str() != *row {
-            let line = format!(in alloc; "\n{row}\n    not {written}")?;
-            told.push_str(line.as_str())?;
-        }
+        tell_unless_kept(alloc, row, written.as_str(), told)?;
     }
     Ok(())
 }

@@ -34,7 +34,8 @@ impl Run {
 
 /// Whether a byte stands for itself.
 fn is_printed(byte: u8) -> bool {
-    b' ' <= byte && byte <= b'~' && byte != b'\\' && byte != b'{' && byte != b'}'
+    let is_printing = b' ' <= byte && byte <= b'~' || byte == b'\n';
+    is_printing && byte != b'\\' && byte != b'{' && byte != b'}'
 }
 
 fn write_byte(alloc: Global, byte: u8, line: &mut String) -> Result<(), AllocError> {
@@ -65,7 +66,7 @@ pub(crate) fn bytes(alloc: Global, bytes: &[u8]) -> Result<String, AllocError> {
 }
 
 /// A word.
-fn word(alloc: Global, word: &Word) -> Result<String, AllocError> {
+pub(crate) fn word(alloc: Global, word: &Word) -> Result<String, AllocError> {
     match word {
         Word::Reserved(reserved) => format!(in alloc; "reserved {reserved:?}"),
         Word::Name(name) => {

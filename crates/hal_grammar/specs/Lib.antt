@@ -1,0 +1,11 @@
+pub mod Leaves
+pub mod Expressions
+pub mod Declarations
+pub mod Statements
+pub mod Units
+pub mod Words
+pub mod GoesOn
+pub mod SpellsExpressions
+pub mod SpellsDeclarations
+pub mod SpellsStatements
+pub mod SpellsFiles

@@ -1,0 +1,10 @@
+pub mod Among
+pub mod Explained
+pub mod TextFronts
+pub mod FileTexts
+pub mod Index
+pub mod Marks
+pub mod Weights
+pub mod Within
+pub mod KeptFaults
+pub mod NoBreach

@@ -1,0 +1,4 @@
+pub mod Texts
+pub mod Defined
+pub mod Stack
+pub mod Faults

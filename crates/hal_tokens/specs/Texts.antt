@@ -1,0 +1,31 @@
+-- Texts of definitions, and what they give.
+use Rattle.std.specs.Prelude.{◌≢◌, ℕ, ◌==◌, Bool, ◌&&◌, List, [], ◌∷◌, All, Option, Some, None, ⊤, if◌then◌else◌}
+use Rattle.hal_words.specs.Pieces.{Piece, Replacement, Open}
+use Rattle.hal_words.specs.Lines.{Item}
+
+-- no end of a line, and no `"`
+abbrev pub IsTextByte : ℕ → Type 0
+IsTextByte b = (b ≢ 10) × (b ≢ 34)
+
+-- a text that may stand between two `"`
+abbrev pub IsText : List ℕ → Type 0
+IsText bytes = All IsTextByte bytes
+
+-- the text of a definition is such a text
+abbrev pub IsTextOf : Piece → Type 0
+IsTextOf (Replacement bytes) = IsText bytes
+IsTextOf piece = ⊤
+
+abbrev pub HoldsText : Item → Type 0
+HoldsText one = IsTextOf one.piece
+
+-- the piece doesn't begin with a `"`
+abbrev pub IsNoMark : Piece → Type 0
+IsNoMark (Replacement bytes) = ⊥
+IsNoMark Open = ⊥
+IsNoMark piece = ⊤
+
+-- what follows a comment, from behind its first two bytes; None where it is open. `after` tells that the byte before was `*`
+abbrev pub after_comment : Bool → List ℕ → Option (List ℕ)
+after_comment after [] = None
+after_comment after (b ∷ text) = if after && b == 47 then Some text else after_comment (b == 42) text

@@ -1,0 +1,101 @@
+//! Texts of one kind, of about so many bytes.
+
+use std::alloc::{AllocError, Global};
+
+/// What a text is full of.
+#[derive(Clone, Copy, Debug)]
+pub(crate) enum Kind {
+    /// Assignments with comments behind them.
+    Ordinary,
+    /// One comment over all lines.
+    Comment,
+    /// One line of names.
+    Line,
+    /// Text literals of doubled quotes.
+    Quotes,
+    /// Numbers of many digits.
+    Digits,
+    /// Names that stand for names that stand for names.
+    Replacements,
+}
+
+pub(crate) const KINDS: [Kind; 6] = [
+    Kind::Ordinary,
+    Kind::Comment,
+    Kind::Line,
+    Kind::Quotes,
+    Kind::Digits,
+    Kind::Replacements,
+];
+
+/// A name that stands for a name, and so on, nine deep.
+const CHAIN: &str =
+    " REPLACE STEP BY \"STEP_1\";\n REPLACE STEP_1 BY \"STEP_2\";\n REPLACE STEP_2 BY \"STEP_3\";\n REPLACE STEP_3 BY \"STEP_4\";\n REPLACE STEP_4 BY \"STEP_5\";\n REPLACE STEP_5 BY \"STEP_6\";\n REPLACE STEP_6 BY \"STEP_7\";\n REPLACE STEP_7 BY \"STEP_8\";\n REPLACE STEP_8 BY \"2 M\";\n";
+
+/// What the text begins with, what is repeated, and what it ends with.
+#[derive(Clone, Copy)]
+struct Parts {
+    begin: &'static str,
+    repeat: &'static str,
+    end: &'static str,
+}
+
+impl Kind {
+    pub(crate) fn name(self) -> &'static str {
+        match self {
+            Kind::Ordinary => "ordinary",
+            Kind::Comment => "comment",
+            Kind::Line => "line",
+            Kind::Quotes => "quotes",
+            Kind::Digits => "digits",
+            Kind::Replacements => "replacements",
+        }
+    }
+
+    fn parts(self) -> Parts {
+        match self {
+            Kind::Ordinary => Parts {
+                begin: "",
+                repeat: "C  THE NEXT POSITION FROM THE LAST ONE AND THE RATE, WHICH THE FILTER GAVE\nC  AS IT IS AT THE END OF THE STEP. BEYOND THE LIMIT THE ARM IS HALTED.\nC  THE RATE IS KEPT FOR THE NEXT STEP, WHERE IT IS SMOOTHED.\n   POSITION = POSITION + RATE STEP; /* IN METRES */\n   IF POSITION > LIMIT THEN CALL HALT(POSITION);\n",
+                end: "",
+            },
+            Kind::Comment => Parts {
+                begin: " /*",
+                repeat: "\n * NOTHING BUT STARS ** AND / SLASHES",
+                end: " */\n",
+            },
+            Kind::Line => Parts {
+                begin: " ",
+                repeat: "A_NAME_OF_SIXTEEN ",
+                end: "\n",
+            },
+            Kind::Quotes => Parts {
+                begin: "",
+                repeat: " '''''''''''''''''''''''''''''''''''''''' ''''''''''''''''''''\n",
+                end: "",
+            },
+            Kind::Digits => Parts {
+                begin: "",
+                repeat: " 000000000000000000000000000000000000000000000000000000000000001\n",
+                end: "",
+            },
+            Kind::Replacements => Parts {
+                begin: CHAIN,
+                repeat: " N = N + STEP; /* FROM THE LAST POSITION */\n",
+                end: "",
+            },
+        }
+    }
+
+    /// A text of the kind with at least so many bytes.
+    pub(crate) fn text(self, alloc: Global, size: usize) -> Result<Vec<u8>, AllocError> {
+        let parts = self.parts();
+        let mut text = Vec::new(alloc);
+        text.extend_from_slice(parts.begin.as_bytes())?;
+        for _ in 0..=size / parts.repeat.len().max(1) {
+            text.extend_from_slice(parts.repeat.as_bytes())?;
+        }
+        text.extend_from_slice(parts.end.as_bytes())?;
+        Ok(text)
+    }
+}
