@@ -1,43 +1,19 @@
 -- The index of the definitions has the latest one of each name.
-use Rattle.std.proofs.Common.{◌≡◌, ◌+◌, ℕ, List, [], ◌∷◌, ◌++◌, length, take, map, reverse, Bool, true, false, cond, Option, Some, None, All, refl, sym, ◌∙◌, ap, subst, Decides, arith}
+use Rattle.std.proofs.Common.{◌≡◌, ◌+◌, ℕ, List, [], ◌∷◌, ◌++◌, length, map, reverse, Bool, true, false, cond, Option, Some, None, All, refl, sym, ◌∙◌, ap, subst, arith}
 use Rattle.std.specs.Prelude.{bytes_eq, slice_get, if◌then◌else◌}
 use Rattle.std.specs.Map.{lookup}
-use Rattle.std.specs.Cmp.Lexicographic.{bytes_decides}
 use Rattle.std.specs.Option.{option_map}
-use Rattle.std.proofs.Math.Seq.{take-append_seam, get_or-append_seam}
-use Rattle.std.proofs.lemmas.Bool.Decides.{same_from_decides, Decides-and, Decides-eqb, Decides-like}
+use Rattle.std.proofs.Math.Seq.{get_or-append_seam}
 use Rattle.std.proofs.lemmas.List.{reverse-append, length-append, length-map, map-append, get_or_append_left}
 use Rattle.std.proofs.lemmas.List.Elements.{All-append, All-cons, All-nil}
 use Rattle.std.proofs.lemmas.Option.{slice_get-get_or, slice_get_within, get_or_from_slice_get, slice_get-map}
-use Rattle.std.proofs.lemmas.Slice.Eq.{bytes_eq-Decides}
-use Rattle.hal_words.specs.Rooms.{filled}
 use Rattle.hal_words.specs.Replacing.{Definitions}
 use Rattle.hal_words.specs.Reserved.{look_up}
 use Rattle.hal_words.specs.contracts.name.NamePartialEq.TheImpl as derived
+use Rattle.hal_tokens.proofs.NameEquality.{eq-same, eq-flipped, lookup-same}
 use Rattle.hal_tokens.specs.declared.definitions.Definition.{Definition}
 use Rattle.hal_tokens.specs.Texts.{IsText}
 use Rattle.hal_tokens.specs.Defined.{pair_of, found, Names, IsIndex}
-
--- names with the same room and the same length
-same_text : (a b : List ℕ) → (filled 32 a ≡ filled 32 b) × (length a ≡ length b) → a ≡ b
-same_text a b same =
-    sym (take-append_seam a _) ∙ ap (λ room. take (length a) room) same.0 ∙ ap (λ n. take n (filled 32 b)) same.1 ∙ take-append_seam b _
-
-eq-Decides : (a b : List ℕ) → Decides ((derived.eq-value).it a b) (a ≡ b)
-eq-Decides a b =
-    Decides-like _ (same_text a b) (λ e. (ap (filled 32) e, ap length e))
-    (Decides-and _ _ (bytes_decides (filled 32 a) (filled 32 b)) (Decides-eqb (length a) (length b)))
-
-eq-same : (a b : List ℕ) → (derived.eq-value).it a b ≡ bytes_eq a b
-eq-same a b = same_from_decides _ _ (eq-Decides a b) (bytes_eq-Decides a b)
-
-eq-flipped : (a b : List ℕ) → (derived.eq-value).it a b ≡ bytes_eq b a
-eq-flipped a b = same_from_decides _ _ (eq-Decides a b) (Decides-like _ sym sym (bytes_eq-Decides b a))
-
-lookup-same : (f g : List ℕ → Bool) → ((key : List ℕ) → f key ≡ g key) → (entries : List (List ℕ × ℕ)) → lookup f entries ≡ lookup g entries
-lookup-same f g same [] = refl
-lookup-same f g same (entry ∷ entries) =
-    ap (λ b. cond b (Some entry.1) (lookup f entries)) (same entry.0) ∙ ap (λ rest. cond (g entry.0) (Some entry.1) rest) (lookup-same f g same entries)
 
 lookup-found : (entries : List (List ℕ × ℕ)) (name : List ℕ) → lookup ((derived.eq-value).it name) entries ≡ found entries name
 lookup-found entries name = lookup-same _ _ (eq-flipped name) entries

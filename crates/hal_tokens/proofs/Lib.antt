@@ -1,10 +1,11 @@
 pub mod Among
 pub mod Explained
+pub mod NameEquality
 pub mod TextFronts
 pub mod FileTexts
 pub mod Index
 pub mod Marks
 pub mod Weights
 pub mod Within
-pub mod KeptFaults
+pub mod WrongItems
 pub mod NoBreach

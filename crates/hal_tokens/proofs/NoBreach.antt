@@ -1,15 +1,15 @@
 -- A text that has words breaks no rule.
-use Rattle.std.proofs.Common.{◌≡◌, ◌∙◌, ◌⊎◌, ◌<◌, ◌≤◌, ℕ, inl, inr, ⊎_elim, sym, ap, subst, List, [], length, map, get_or, Option, Some, None, All, Contains, arith, rules}
+use Rattle.std.proofs.Common.{◌≡◌, ◌<◌, ℕ, inl, inr, subst, List, [], length, map, Some, All, Contains, arith}
 use Rattle.std.specs.Prelude.{slice_get}
 use Rattle.std.proofs.lemmas.List.{length-map}
 use Rattle.std.proofs.lemmas.Option.{slice_get_within}
-use Rattle.std.proofs.lemmas.List.Elements.{All-map, All-contains, All-from_get_or}
+use Rattle.std.proofs.lemmas.List.Elements.{All-map, All-contains}
 use Rattle.hal_base.specs.declared.refusal.Place.{Place}
 use Rattle.hal_base.specs.declared.limits.TheConstants.{TOKEN_LIMIT}
 use Rattle.hal_words.specs.declared.word.Token.{Token}
 use Rattle.hal_words.specs.Pieces.{Wrong}
 use Rattle.hal_words.specs.Lines.{Item, item}
-use Rattle.hal_words.specs.Words.{file_words, word_item, misplaced, IsCut, Breaks}
+use Rattle.hal_words.specs.Words.{word_item, IsCut, Breaks}
 use Rattle.hal_pieces.specs.Faults.{IsRight}
 
 abbrev Right : Item → Type 0

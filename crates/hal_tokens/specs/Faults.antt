@@ -6,8 +6,7 @@ use Rattle.hal_base.specs.declared.refusal.Fault.TheVariants as fault
 use Rattle.hal_base.specs.declared.limits.TheConstants.{TOKEN_LIMIT}
 use Rattle.hal_words.specs.Pieces.{Wrong}
 use Rattle.hal_words.specs.Lines.{Item, item}
-use Rattle.hal_words.specs.Words as words
-use Rattle.hal_words.specs.Words.{misplaced}
+use Rattle.hal_words.specs.Words.{misplaced, Breaks}
 
 -- the fault is this one
 abbrev pub IsBrokenAt : ℕ → Place → Fault → Type 0
@@ -41,7 +40,7 @@ abbrev pub Blames : List Item → Fault → Type 0
 Blames whole (fault.Broken refusal) = IsBroken whole refusal.rule.0 refusal.place
 Blames whole (fault.Memory error) = ⊤
 
--- the text breaks the rule of a refusal at its place, or memory ended
-abbrev pub Breaks : ℕ → List ℕ → Fault → Type 0
-Breaks unit text (fault.Broken refusal) = words.Breaks unit text refusal.rule.0 refusal.place
-Breaks unit text (fault.Memory error) = ⊤
+-- the text breaks the rule of the fault, or memory ended
+abbrev pub BreaksBy : ℕ → List ℕ → Fault → Type 0
+BreaksBy unit text (fault.Broken refusal) = Breaks unit text refusal.rule.0 refusal.place
+BreaksBy unit text (fault.Memory error) = ⊤

@@ -1,12 +1,20 @@
 -- The texts that are being read, the innermost first: what they still give, and how much that is at most.
-use Rattle.std.specs.Prelude.{◌≡◌, ℕ, suc, ◌+◌, ◌-◌, ◌*◌, ◌^◌, ◌<◌, ◌≤◌, ◌⊎◌, max, List, [], ◌∷◌, ◌++◌, length, map, flat_map}
+use Rattle.std.specs.Prelude.{◌≡◌, ℕ, suc, ◌+◌, ◌-◌, ◌*◌, ◌^◌, ◌<◌, ◌≤◌, ◌⊎◌, max, All, List, [], ◌∷◌, ◌++◌, length, map, flat_map}
+use Rattle.std.specs.Borrow.{Bor}
 use Rattle.hal_base.specs.declared.refusal.Place.{Place}
 use Rattle.hal_words.specs.Lines.{Item}
 use Rattle.hal_words.specs.Replacing.{Definitions, text_items, within}
-use Rattle.hal_tokens.specs.declared.frames.Frame.{Frame}
+use Rattle.hal_tokens.specs.Texts.{IsText}
 
-abbrev pub frame_of : Frame → List ℕ × List ℕ
-frame_of frame = (frame.name, frame.rest.now)
+-- a name and what is left of its text, in the map of the code
+abbrev pub Entry : Type 0
+Entry = List ℕ × Bor (List ℕ)
+
+abbrev pub frame_of : Entry → List ℕ × List ℕ
+frame_of entry = (entry.0, entry.1.now)
+
+abbrev pub AreTexts : List Entry → Type 0
+AreTexts entries = All (λ (entry : Entry). IsText entry.1.now) entries
 
 -- the names whose texts are being read
 abbrev pub names_of : List (List ℕ × List ℕ) → List (List ℕ)

@@ -1,6 +1,6 @@
 ghost use Rattle.std.specs.Prelude.{IfOk, IfErr};
 ghost use Rattle.hal_words.specs.Words.{IsCut};
-ghost use Rattle.hal_tokens.specs.Faults.{Breaks};
+ghost use Rattle.hal_tokens.specs.Faults.{BreaksBy};
 
 use crate::file_words::words;
 use crate::token_list::Tokens;
@@ -11,7 +11,7 @@ use std::alloc::Global;
 /// The words of unit number `unit`, or a rule that is broken at its place.
 pub fn tokens(alloc: Global, text: &[u8], unit: u32) -> Result<Tokens, Fault>
     ensures cut { IfOk result (IsCut unit text.now) }
-    ensures broken { IfErr result (Breaks unit text.now) }
+    ensures broken { IfErr result (BreaksBy unit text.now) }
 {
     let items = items(alloc, text, unit)?;
     words(alloc, items.as_slice())

@@ -88,13 +88,13 @@ fn go_on<'a>(
     ensures broken { IfErr result (λ fault. (rest : List lines.Item) →
         Explains (map word_item tokens.old ++ (remains definitions.now place frames.old ++ rest)) fault) }
 {
-    let Some(frame) = frames.pop() else {
+    let Some((name, text)) = frames.pop() else {
         return Ok(());
     };
-    let Some((piece, rest)) = front(frame.rest) else {
+    let Some((piece, rest)) = front(text) else {
         return Ok(());
     };
-    if frames.push(frame.name, rest).is_err() {
+    if frames.push(name, rest).is_err() {
         return Err(Fault::Memory(AllocError));
     }
     let word = word_of_text(&piece, place)?;

@@ -3,7 +3,7 @@ use Rattle.std.proofs.lemmas.Result.{err_from_is_err_and}
 use Rattle.hal_words.specs.Lines.{Item}
 use Rattle.hal_pieces.specs.Faults.{seen_item}
 use Rattle.hal_tokens.specs.Texts.{HoldsText}
-use Rattle.hal_tokens.proofs.KeptFaults.{told}
+use Rattle.hal_tokens.proofs.WrongItems.{told}
 use Rattle.hal_tokens.proofs.FileTexts.{file_texts}
 use Rattle.hal_tokens.proofs.file.tokens.Goals as goal
 
