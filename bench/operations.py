@@ -7,40 +7,29 @@ each round needs what the one before it came to. A row is an operation: its roun
 a run of no rounds, are taken. A sum and a comparison of integers are to take less than 20 nanoseconds
 each. CAT joins a byte and a text of 255 bytes, for which no limit is set.
 """
-import os
-import pathlib
-import subprocess
 import sys
 
-ROOT = pathlib.Path(__file__).resolve().parent.parent
-CRATE = ROOT / 'crates/operation_times'
-PROGRAM = CRATE / 'out/operation_times'
+from programs import program, run
+
 # An operation, its rounds, and the nanoseconds that it stays below.
 ROWS = (('sum', 20_000_000, 20), ('comparison', 20_000_000, 20), ('cat', 1_000_000, None))
 
 
-def cost(kind, rounds):
+def cost(path, kind, rounds):
     """The processor seconds of one run of so many rounds."""
-    child = subprocess.Popen([PROGRAM, str(rounds), kind], stdout=subprocess.PIPE, text=True)
-    said = child.stdout.read()
-    child.stdout.close()
-    _, status, usage = os.wait4(child.pid, 0)
-    child.returncode = os.WEXITSTATUS(status) if os.WIFEXITED(status) else -1
-    if child.returncode != 0 or not said.startswith(f'{rounds} {kind} ') or said.count('\n') != 1:
-        sys.exit(f'{rounds} {kind}: status {child.returncode}, {said!r}')
-    return usage.ru_utime + usage.ru_stime
+    said, seconds, _ = run(path, rounds, kind)
+    if not said.startswith(f'{rounds} {kind} ') or said.count('\n') != 1:
+        sys.exit(f'{rounds} {kind}: {said!r}')
+    return seconds
 
 
 def main():
-    if not PROGRAM.exists():  # proves the program and builds it
-        subprocess.run(['rt', 'run', '--', '1000'], cwd=CRATE, stdout=subprocess.DEVNULL, check=False)
-    if not PROGRAM.exists():
-        return 1
+    path = program('operation_times')
     print(f'{"operation":>12}{"rounds":>12}{"ms":>10}{"ns each":>10}')
     is_fine = True
     for kind, rounds, limit in ROWS:
-        start = min(cost(kind, 0) for _ in range(3))
-        seconds = min(cost(kind, rounds) for _ in range(3))
+        start = min(cost(path, kind, 0) for _ in range(3))
+        seconds = min(cost(path, kind, rounds) for _ in range(3))
         each = (seconds - start) * 1e9 / rounds
         print(f'{kind:>12}{rounds:12}{seconds * 1000:10.1f}{each:10.2f}')
         is_fine = is_fine and (limit is None or each < limit)

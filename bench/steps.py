@@ -7,39 +7,28 @@ events: the processor time (the least of three runs), the peak of memory, and th
 event more than in the row above. A step is to cost the same in a long run, so the last row's is at
 most 2.5 times that of the first. The peak is never less than Python's own.
 """
-import os
-import pathlib
-import subprocess
 import sys
 
-ROOT = pathlib.Path(__file__).resolve().parent.parent
-CRATE = ROOT / 'crates/exec_steps'
-PROGRAM = CRATE / 'out/exec_steps'
+from programs import program, run
+
 EVENTS = (300, 10_000, 20_000, 40_000)
 RATIO_LIMIT = 2.5
 
 
-def cost(events):
+def cost(path, events):
     """The processor seconds and peak megabytes of one run of so many events."""
-    child = subprocess.Popen([PROGRAM, str(events)], stdout=subprocess.PIPE, text=True)
-    said = child.stdout.read()
-    child.stdout.close()
-    _, status, usage = os.wait4(child.pid, 0)
-    child.returncode = os.WEXITSTATUS(status) if os.WIFEXITED(status) else -1
-    if child.returncode != 0 or said != f'{events} events, 128 processes\n':
-        sys.exit(f'{events} events: status {child.returncode}, {said!r}')
-    return usage.ru_utime + usage.ru_stime, usage.ru_maxrss / 1024
+    said, seconds, peak = run(path, events)
+    if said != f'{events} events, 128 processes\n':
+        sys.exit(f'{events} events: {said!r}')
+    return seconds, peak
 
 
 def main():
-    if not PROGRAM.exists():  # proves the program and builds it
-        subprocess.run(['rt', 'run', '--', str(EVENTS[0])], cwd=CRATE, stdout=subprocess.DEVNULL, check=False)
-    if not PROGRAM.exists():
-        return 1
+    path = program('exec_steps')
     print(f'{"events":>8}{"ms":>10}{"MB":>8}{"ms each":>10}')
     last, steps = None, []
     for events in EVENTS:
-        runs = [cost(events) for _ in range(3)]
+        runs = [cost(path, events) for _ in range(3)]
         seconds, peak = min(run[0] for run in runs), max(run[1] for run in runs)
         step = ''
         if last:

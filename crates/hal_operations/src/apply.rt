@@ -69,7 +69,8 @@ fn of_text(op: Op1, text: &Text) -> Result<Value, ErrNo>
     }
 }
 
-/// The value of an operation with one operand, or the error that it raises.
+/// The value of an operation with one operand, or the error that it raises: 1:1 for an integer outside
+/// 32 bits, 1:5 for a text that isn't an integer of 32 bits. The table is in docs/LANGUAGE.md, "Operations".
 pub fn apply1(op: Op1, a: &Value) -> Result<Value, ErrNo>
     requires { Takes op a.now }
     ensures { result ≡ value_of_one op a.now }
@@ -191,7 +192,9 @@ fn of_integer_and_text(op: Op2, a: i32, y: &Text) -> Result<Value, ErrNo>
     }
 }
 
-/// The value of an operation with two operands, or the error that it raises.
+/// The value of an operation with two operands, or the error that it raises: 1:1 for an integer outside
+/// 32 bits, and for places or a length out of range; 1:2 for a division by zero. The table is in
+/// docs/LANGUAGE.md, "Operations".
 pub fn apply2(op: Op2, a: &Value, b: &Value) -> Result<Value, ErrNo>
     requires { TakesBoth op a.now b.now }
     ensures { result ≡ value_of_two op a.now b.now }

@@ -22,7 +22,8 @@ fn stand_in_of_one(op: Op1, a: &Value) -> Value
     }
 }
 
-/// The value of an operation with one operand, after an ignored error.
+/// The value of an operation with one operand, after an ignored error: the nearest bound for 1:1, 0 for
+/// 1:5. See docs/LANGUAGE.md, "Operations".
 pub fn mend1(op: Op1, a: &Value) -> Value
     requires { Takes op a.now }
     ensures { result ≡ mended_of_one op a.now }
@@ -72,7 +73,8 @@ fn stand_in_of_two(op: Op2, a: &Value, b: &Value) -> Value
     }
 }
 
-/// The value of an operation with two operands, after an ignored error.
+/// The value of an operation with two operands, after an ignored error: the nearest places or length and
+/// then the nearest bound for 1:1, 0 for 1:2. See docs/LANGUAGE.md, "Operations".
 pub fn mend2(op: Op2, a: &Value, b: &Value) -> Value
     requires { TakesBoth op a.now b.now }
     ensures { result ≡ mended_of_two op a.now b.now }

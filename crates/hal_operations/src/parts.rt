@@ -22,7 +22,8 @@ pub fn place_count(value: &Value) -> u8
     }
 }
 
-/// A part of a bit string or a text, or the error where it doesn't lie in it.
+/// A part of a bit string or a text, or error 1:4 where it doesn't lie in it. See docs/LANGUAGE.md,
+/// "Operations", on components.
 pub fn pick(value: &Value, part: Part) -> Result<Value, ErrNo>
     requires { HasComponents value.now }
     ensures { result ≡ picked value.now part }
@@ -92,7 +93,7 @@ fn patch_text(text: &Text, part: Part, new: &Text) -> Result<Value, ErrNo>
 }
 
 /// A bit string or a text with a part replaced: the new one is cut or filled, bits on their left with
-/// zeros, texts on their right with blanks. Or the error where the part doesn't lie in it.
+/// zeros, texts on their right with blanks. Or error 1:4 where the part doesn't lie in it.
 pub fn patch(value: &Value, part: Part, new: &Value) -> Result<Value, ErrNo>
     requires { TakesPart value.now new.now }
     ensures { result ≡ patched value.now part new.now }

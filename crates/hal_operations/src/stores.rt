@@ -32,7 +32,8 @@ fn stored_integer(kind: Kind, a: i32) -> Result<Value, ErrNo>
     }
 }
 
-/// What a cell of the kind holds after a store, or the error of an integer that it can't hold.
+/// What a cell of the kind holds after a store, or error 1:1 for an integer that a SINGLE can't hold: bits
+/// keep their last `n`, texts their first `n` bytes. See docs/LANGUAGE.md, "Operations", on stores.
 pub fn fit(kind: Kind, a: &Value) -> Result<Value, ErrNo>
     requires { IsStorable kind a.now }
     ensures { result ≡ stored kind a.now }
@@ -55,7 +56,7 @@ fn nearest_single(a: &Value) -> Value
     }
 }
 
-/// What the cell holds after an ignored error.
+/// What the cell holds after an ignored error: the nearest integer of a SINGLE.
 pub fn mend_fit(kind: Kind, a: &Value) -> Value
     requires { IsStorable kind a.now }
     ensures { result ≡ mended_store kind a.now }

@@ -8,7 +8,9 @@ use hal_base::Fault;
 use hal_pieces::items;
 use std::alloc::Global;
 
-/// The words of unit number `unit`, or a rule that is broken at its place.
+/// The words of unit number `unit` with their places, lines and columns counted from 1, or a rule of
+/// words that is broken, at its place, or want of memory. See docs/LANGUAGE.md, "The words of the whole
+/// language".
 pub fn tokens(alloc: Global, text: &[u8], unit: u32) -> Result<Tokens, Fault>
     ensures cut { IfOk result (IsCut unit text.now) }
     ensures broken { IfErr result (BreaksBy unit text.now) }

@@ -3,6 +3,7 @@
 
 use crate::row::{Trial, tell};
 use hal_operations::Op2;
+use std::alloc::{AllocError, Global};
 use std::test::Fail;
 
 const EQUAL_INTEGERS: [&str; 10] = [
@@ -223,59 +224,36 @@ const GREATER_OR_EQUAL_TEXTS: [&str; 16] = [
     "'B{255}' | 'A{255}' | b'1'",
 ];
 
+fn tell_equalities(alloc: Global, told: &mut String) -> Result<(), AllocError> {
+    tell(alloc, Trial::Two(Op2::Equal), &EQUAL_INTEGERS, told)?;
+    tell(alloc, Trial::Two(Op2::Equal), &EQUAL_TEXTS, told)?;
+    tell(alloc, Trial::Two(Op2::Equal), &EQUAL_BITS, told)?;
+    tell(alloc, Trial::Two(Op2::NotEqual), &NOT_EQUAL_INTEGERS, told)?;
+    tell(alloc, Trial::Two(Op2::NotEqual), &NOT_EQUAL_TEXTS, told)?;
+    tell(alloc, Trial::Two(Op2::NotEqual), &NOT_EQUAL_BITS, told)
+}
+
+fn tell_orders(alloc: Global, told: &mut String) -> Result<(), AllocError> {
+    let (or_less, or_greater) = (
+        Trial::Two(Op2::LessOrEqual),
+        Trial::Two(Op2::GreaterOrEqual),
+    );
+    tell(alloc, Trial::Two(Op2::Less), &LESS_INTEGERS, told)?;
+    tell(alloc, Trial::Two(Op2::Less), &LESS_TEXTS, told)?;
+    tell(alloc, Trial::Two(Op2::Greater), &GREATER_INTEGERS, told)?;
+    tell(alloc, Trial::Two(Op2::Greater), &GREATER_TEXTS, told)?;
+    tell(alloc, or_less, &LESS_OR_EQUAL_INTEGERS, told)?;
+    tell(alloc, or_less, &LESS_OR_EQUAL_TEXTS, told)?;
+    tell(alloc, or_greater, &GREATER_OR_EQUAL_INTEGERS, told)?;
+    tell(alloc, or_greater, &GREATER_OR_EQUAL_TEXTS, told)
+}
+
 #[test]
 fn comparisons_keep_their_rows(rt: HostRuntime) -> Result<(), Fail> {
     let alloc = rt.alloc();
     let mut told = String::new(alloc);
-    tell(alloc, Trial::Two(Op2::Equal), &EQUAL_INTEGERS, &mut told)?;
-    tell(alloc, Trial::Two(Op2::Equal), &EQUAL_TEXTS, &mut told)?;
-    tell(alloc, Trial::Two(Op2::Equal), &EQUAL_BITS, &mut told)?;
-    tell(
-        alloc,
-        Trial::Two(Op2::NotEqual),
-        &NOT_EQUAL_INTEGERS,
-        &mut told,
-    )?;
-    tell(
-        alloc,
-        Trial::Two(Op2::NotEqual),
-        &NOT_EQUAL_TEXTS,
-        &mut told,
-    )?;
-    tell(alloc, Trial::Two(Op2::NotEqual), &NOT_EQUAL_BITS, &mut told)?;
-    tell(alloc, Trial::Two(Op2::Less), &LESS_INTEGERS, &mut told)?;
-    tell(alloc, Trial::Two(Op2::Less), &LESS_TEXTS, &mut told)?;
-    tell(
-        alloc,
-        Trial::Two(Op2::Greater),
-        &GREATER_INTEGERS,
-        &mut told,
-    )?;
-    tell(alloc, Trial::Two(Op2::Greater), &GREATER_TEXTS, &mut told)?;
-    tell(
-        alloc,
-        Trial::Two(Op2::LessOrEqual),
-        &LESS_OR_EQUAL_INTEGERS,
-        &mut told,
-    )?;
-    tell(
-        alloc,
-        Trial::Two(Op2::LessOrEqual),
-        &LESS_OR_EQUAL_TEXTS,
-        &mut told,
-    )?;
-    tell(
-        alloc,
-        Trial::Two(Op2::GreaterOrEqual),
-        &GREATER_OR_EQUAL_INTEGERS,
-        &mut told,
-    )?;
-    tell(
-        alloc,
-        Trial::Two(Op2::GreaterOrEqual),
-        &GREATER_OR_EQUAL_TEXTS,
-        &mut told,
-    )?;
+    tell_equalities(alloc, &mut told)?;
+    tell_orders(alloc, &mut told)?;
     assert!(rt; told.is_empty(), "{told}");
     Ok(())
 }
