@@ -15,7 +15,7 @@ use Rattle.hal_tokens.specs.declared.definitions.Definition.{Definition}
 use Rattle.hal_tokens.specs.Texts.{IsText}
 use Rattle.hal_tokens.specs.Defined.{pair_of, found, Names, IsIndex}
 
-lookup-found : (entries : List (List ℕ × ℕ)) (name : List ℕ) → lookup ((derived.eq-value).it name) entries ≡ found entries name
+pub lookup-found : (entries : List (List ℕ × ℕ)) (name : List ℕ) → lookup ((derived.eq-value).it name) entries ≡ found entries name
 lookup-found entries name = lookup-same _ _ (eq-flipped name) entries
 
 -- one more definition

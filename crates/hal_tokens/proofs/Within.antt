@@ -1,8 +1,6 @@
 -- What stands in place of a word, by whether its text is opened.
-use Rattle.std.proofs.Common.{◌≡◌, ◌<◌, ◌≤◌, ◌-◌, ℕ, zero, suc, inl, inr, true, false, List, [], ◌∷◌, ◌++◌, length, get_or, take, drop, map, All, Some, None, nat_lt, refl, sym, ap, ◌∙◌, subst, append_assoc, arith}
-use Rattle.std.specs.Prelude.{if◌then◌else◌, flat_map}
-use Rattle.std.proofs.lemmas.Bool.{cases_lt}
-use Rattle.std.proofs.lemmas.Bool.Decides.{nat_tests}
+use Rattle.std.proofs.Common.{◌≡◌, ◌<◌, ◌≤◌, ◌-◌, ℕ, zero, suc, true, false, List, [], ◌∷◌, ◌++◌, length, get_or, take, drop, map, All, Some, None, refl, sym, ap, ◌∙◌, subst, append_assoc, arith}
+use Rattle.std.specs.Prelude.{flat_map}
 use Rattle.std.proofs.lemmas.List.{take_all, drop-map}
 use Rattle.std.proofs.lemmas.List.Elements.{All-drop}
 use Rattle.hal_base.specs.declared.refusal.Place.{Place}
@@ -19,7 +17,6 @@ use Rattle.hal_pieces.specs.declared.item.Item.{Item as CodeItem}
 use Rattle.hal_pieces.specs.Faults.{seen_item}
 use Rattle.hal_tokens.specs.Texts.{HoldsText}
 use Rattle.hal_tokens.specs.Faults.{IsFaultItem, Explains}
-use Rattle.hal_tokens.specs.Stack.{names_of, remains}
 use Rattle.hal_tokens.proofs.Explained.{explains_here}
 
 -- a name in its own text
@@ -35,7 +32,7 @@ within_undefined zero definitions opened name place among none = rw among refl
 within_undefined (suc deep) definitions opened name place among none = let here : look_up definitions name ≡ None = none (omega arith) in rw (among, here) refl
 
 -- a name with a text
-within_defined : (deep : ℕ) (definitions : Definitions) (opened : List (List ℕ)) (name text : List ℕ) (place : Place) → is_among opened name ≡ false → look_up definitions name ≡ Some text
+pub within_defined : (deep : ℕ) (definitions : Definitions) (opened : List (List ℕ)) (name text : List ℕ) (place : Place) → is_among opened name ≡ false → look_up definitions name ≡ Some text
     → within (suc deep) definitions opened (item (Is (word.Name name)) place) ≡ flat_map (within deep definitions (name ∷ opened)) (text_items place text)
 within_defined deep definitions opened name text place among some = rw (among, some) refl
 
@@ -69,37 +66,6 @@ within_replace deep definitions opened one place is =
     let facts = kept_replace opened one place is in
     within_alone deep definitions opened (Is one) place facts.0 ∙ ap (λ (i : Item). i ∷ []) facts.1
 
--- levels
-pub none_left : (definitions frames : Definitions) (name : List ℕ) → (if nat_lt (length frames) (length definitions) then look_up definitions name else None) ≡ None
-    → 0 < length definitions - length frames → look_up definitions name ≡ None
-none_left definitions frames name none left =
-    let below : nat_lt (length frames) (length definitions) ≡ true = grind (arith, nat_tests) in
-    rw below at none
-
-pub record IsOpening (definitions frames : Definitions) (name text : List ℕ) (place : Place) : Type 0 where
-  pub below : length frames < length definitions
-  pub found : look_up definitions name ≡ Some text
-  pub gives : within (length definitions - length frames) definitions (names_of frames) (item (Is (word.Name name)) place)
-      ≡ flat_map (within (length definitions - suc (length frames)) definitions (name ∷ names_of frames)) (text_items place text)
-
-pub opening_is : (definitions frames : Definitions) (name text : List ℕ) (place : Place) → is_among (names_of frames) name ≡ false
-    → (if nat_lt (length frames) (length definitions) then look_up definitions name else None) ≡ Some text → IsOpening definitions frames name text place
-opening_is definitions frames name text place among some = elim (cases_lt (length frames) (length definitions)) [
-  | inl below ↦
-      let yes : nat_lt (length frames) (length definitions) ≡ true = grind (arith, nat_tests) in
-      let here : look_up definitions name ≡ Some text = rw yes at some in
-      let levels : length definitions - length frames ≡ suc (length definitions - suc (length frames)) = omega arith in
-      record {
-        below = below;
-        found = here;
-        gives = rw levels (within_defined (length definitions - suc (length frames)) definitions (names_of frames) name text place among here);
-      }
-  | inr above ↦
-      let no : nat_lt (length frames) (length definitions) ≡ false = grind (arith, nat_tests) in
-      let never : None ≡ Some text = rw no at some in
-      absurd (cc)
-]
-
 -- steps of items
 pub moved_on : (old new : List Item) (one : Item) (given rest : List Item) → new ≡ old ++ one ∷ [] → given ≡ one ∷ [] → new ++ rest ≡ old ++ (given ++ rest)
 moved_on old new one given rest added is = rw (added, is, append_assoc) refl
@@ -108,45 +74,15 @@ pub explains_one : (before : List Item) (one : Item) (given rest : List Item) (f
 explains_one before one given rest found is there = rw is there
 
 -- a fault in a text
-fault_within : (deep : ℕ) (definitions : Definitions) (opened : List (List ℕ)) (one : Item) (found : Fault) → IsFaultItem one found → within deep definitions opened one ≡ one ∷ []
+pub fault_within : (deep : ℕ) (definitions : Definitions) (opened : List (List ℕ)) (one : Item) (found : Fault) → IsFaultItem one found → within deep definitions opened one ≡ one ∷ []
 fault_within deep definitions opened one (fault.Broken refusal) is =
     rw is (within_alone deep definitions opened (Wrong refusal.rule.0) refusal.place refl)
 fault_within deep definitions opened one (fault.Memory error) is = absurd is
-
-abbrev pub tops : Definitions → List ℕ → Definitions → Item → List Item
-tops definitions name below one = within (length definitions - suc (length below)) definitions (name ∷ names_of below) one
-
--- what the frames give, by the front of the innermost text
-pub remains_front : (definitions : Definitions) (place : Place) (name text rest : List ℕ) (below : Definitions) (one : Item) → text_items place text ≡ one ∷ text_items place rest
-    → remains definitions place ((name, text) ∷ below) ≡ tops definitions name below one ++ remains definitions place ((name, rest) ∷ below)
-remains_front definitions place name text rest below one front =
-    rw front (append_assoc (tops definitions name below one) (flat_map (λ (i : Item). tops definitions name below i) (text_items place rest)) (remains definitions place below))
-
-pub fault_front : (before : List Item) (definitions : Definitions) (place : Place) (frames : Definitions) (name text rest : List ℕ) (below : Definitions) (one : Item) (found : Fault)
-    → frames ≡ (name, text) ∷ below → text_items place text ≡ one ∷ text_items place rest → IsFaultItem one found → (more : List Item) → Explains (before ++ (remains definitions place frames ++ more)) found
-fault_front before definitions place frames name text rest below one found top front is more =
-    rw (top, remains_front definitions place name text rest below one front, fault_within (length definitions - suc (length below)) definitions (name ∷ names_of below) one found is)
-    (explains_here before one (remains definitions place ((name, rest) ∷ below) ++ more) found is)
-
-pub explains_front : (before : List Item) (definitions : Definitions) (place : Place) (frames : Definitions) (name text rest : List ℕ) (below : Definitions) (one : Item) (found : Fault)
-    → frames ≡ (name, text) ∷ below → text_items place text ≡ one ∷ text_items place rest → ((more : List Item) → Explains (before ++ (tops definitions name below one ++ more)) found)
-    → (more : List Item) → Explains (before ++ (remains definitions place frames ++ more)) found
-explains_front before definitions place frames name text rest below one found top front there more =
-    rw (top, remains_front definitions place name text rest below one front, append_assoc) (there (remains definitions place ((name, rest) ∷ below) ++ more))
 
 pub explains_moved : (old new given left : List Item) (found : Fault) → new ++ left ≡ old ++ given → ((more : List Item) → Explains (new ++ (left ++ more)) found) → (more : List Item) → Explains (old ++ (given ++ more)) found
 explains_moved old new given left found same there more =
     let whole : new ++ (left ++ more) ≡ old ++ (given ++ more) = sym (append_assoc new left more) ∙ ap (λ (list : List Item). list ++ more) same ∙ append_assoc old given more in
     subst (λ (list : List Item). Explains list found) whole (there more)
-
--- a word of the file
-pub explains_first : (before : List Item) (definitions frames : Definitions) (one : Item) (found : Fault) → frames ≡ []
-    → ((more : List Item) → Explains (before ++ (within (length definitions - length frames) definitions (names_of frames) one ++ more)) found)
-    → (more : List Item) → Explains (before ++ (replaced_word definitions one ++ more)) found
-explains_first before definitions frames one found none there more =
-    let levels : length definitions - length frames ≡ length definitions = omega (arith, ap (λ (list : Definitions). length list) none) in
-    let names : names_of frames ≡ [] = ap names_of none in
-    rw (levels, names) at (there more)
 
 -- items of the file
 pub items_are : (items behind : List CodeItem) (one : CodeItem) → 1 ≤ length items → one ≡ get_or items 0 one → behind ≡ take (length items - 1) (drop 1 items) → map seen_item items ≡ seen_item one ∷ map seen_item behind

@@ -1,4 +1,7 @@
 pub mod Texts
 pub mod Defined
-pub mod Stack
+pub mod Compiled
+pub mod Numbers
+pub mod Opened
+pub mod Walks
 pub mod Faults

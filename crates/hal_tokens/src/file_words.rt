@@ -6,13 +6,14 @@ ghost use Rattle.hal_words.specs.Replacing.{are_parameters, defined, definition,
 ghost use Rattle.hal_words.specs.Words.{misplaced, word_item};
 ghost use Rattle.hal_pieces.specs.Seen.{seen};
 ghost use Rattle.hal_pieces.specs.Faults.{seen_item};
+ghost use Rattle.hal_tokens.specs.Compiled.{IsCompiled};
 ghost use Rattle.hal_tokens.specs.Texts.{HoldsText, IsText, IsTextOf};
 ghost use Rattle.hal_tokens.specs.Faults.{Explains, Blames};
 
-use crate::definitions::Definitions;
 use crate::fault::broken;
-use crate::replacing::{replace, word_of};
+use crate::replacing::Replacements;
 use crate::temporaries::misplaced;
+use crate::text_words::word_of;
 use crate::token_list::Tokens;
 use hal_base::{Fault, Place};
 use hal_pieces::{Item, Piece};
@@ -40,11 +41,16 @@ fn replaced_words<'a>(alloc: Global, items: &[Item<'a>]) -> Result<Tokens, Fault
     ensures words { IfOk result (λ tokens. replaced 0 [] (map seen_item items.now) ≡ map word_item tokens) }
     ensures broken { IfErr result (Explains (replaced 0 [] (map seen_item items.now))) }
 {
-    let mut definitions = Definitions::new(alloc);
+    let mut replacements = Replacements::new(alloc);
     let mut tokens = Tokens::new(alloc);
     let mut from = 0;
     'item: while from < items.len() {
-        from += take(alloc, &mut definitions, &mut tokens, items.split_at(from).1)?;
+        from += take(
+            alloc,
+            &mut replacements,
+            &mut tokens,
+            items.split_at(from).1,
+        )?;
     }
     Ok(tokens)
 }
@@ -53,27 +59,29 @@ fn replaced_words<'a>(alloc: Global, items: &[Item<'a>]) -> Result<Tokens, Fault
 /// defines a name. The result is how many items that takes.
 fn take<'a>(
     alloc: Global,
-    definitions: &mut Definitions<'a>,
+    replacements: &mut Replacements<'a>,
     tokens: &mut Tokens,
     items: &[Item<'a>],
 ) -> Result<usize, Fault>
     requires some { 0 < length items.now }
     requires texts { All HoldsText (map seen_item items.now) }
-    ensures taken { IfOk result (λ count. map word_item tokens.new ++ replaced 0 definitions.new (map seen_item (drop count items.now))
-        ≡ map word_item tokens.old ++ replaced 0 definitions.old (map seen_item items.now)) }
+    requires compiled { IsCompiled replacements.old.definitions replacements.old.compiled }
+    ensures taken { IfOk result (λ count. map word_item tokens.new ++ replaced 0 replacements.new.definitions (map seen_item (drop count items.now))
+        ≡ map word_item tokens.old ++ replaced 0 replacements.old.definitions (map seen_item items.now)) }
+    ensures compiled { OnOk result (IsCompiled replacements.new.definitions replacements.new.compiled) }
     ensures some { IfOk result (λ count. 0 < count) }
     ensures within { IfOk result (λ count. count ≤ length items.now) }
-    ensures broken { IfErr result (Explains (map word_item tokens.old ++ replaced 0 definitions.old (map seen_item items.now))) }
+    ensures broken { IfErr result (Explains (map word_item tokens.old ++ replaced 0 replacements.old.definitions (map seen_item items.now))) }
 {
     let [one, behind @ ..] = items else {
         return Ok(0);
     };
     if is_replace(&one.piece) {
-        define(definitions, one.place, behind)?;
+        define(replacements, one.place, behind)?;
         return Ok(5);
     }
     let word = word_of(&one.piece, one.place)?;
-    replace(alloc, definitions, tokens, word, one.place)?;
+    replacements.put(alloc, tokens, word, one.place)?;
     Ok(1)
 }
 
@@ -86,12 +94,14 @@ fn is_replace(piece: &Piece) -> bool
 
 /// Adds the definition that stands behind REPLACE at this place.
 fn define<'a>(
-    definitions: &mut Definitions<'a>,
+    replacements: &mut Replacements<'a>,
     place: Place,
     behind: &[Item<'a>],
 ) -> Result<(), Fault>
-    requires { All HoldsText (map seen_item behind.now) }
-    ensures added { OnOk result (IsSomeAnd (definition (map seen_item behind.now)) (λ one. definitions.new ≡ one ∷ definitions.old)) }
+    requires texts { All HoldsText (map seen_item behind.now) }
+    requires compiled { IsCompiled replacements.old.definitions replacements.old.compiled }
+    ensures added { OnOk result (IsSomeAnd (definition (map seen_item behind.now)) (λ one. replacements.new.definitions ≡ one ∷ replacements.old.definitions)) }
+    ensures compiled { OnOk result (IsCompiled replacements.new.definitions replacements.new.compiled) }
     ensures long { OnOk result (4 ≤ length behind.now) }
     ensures broken { IfErr result (λ fault. (done rest : List lines.Item) →
         Explains (done ++ (fault_of (definition (map seen_item behind.now)) (formless (map seen_item behind.now)) place ++ rest)) fault) }
@@ -99,7 +109,7 @@ fn define<'a>(
     let Some((name, text)) = definition(behind) else {
         return Err(broken(formless(behind), place));
     };
-    if definitions.push(name, text).is_err() {
+    if replacements.define(name, text).is_err() {
         return Err(Fault::Memory(AllocError));
     }
     Ok(())

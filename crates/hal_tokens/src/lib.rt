@@ -1,7 +1,10 @@
 //! The words of a file: its items with REPLACE applied, each of them a word, and few enough.
 #![tactic(auto)]
 
+mod child;
 mod comments;
+mod compiled;
+mod compiling;
 mod definitions;
 mod fault;
 mod file;
@@ -11,7 +14,9 @@ mod fronts;
 mod laws;
 mod replacing;
 mod temporaries;
+mod text_words;
 mod token_list;
+mod walk;
 
 pub use file::tokens;
 pub use laws::a_text_with_words_breaks_nothing;

@@ -1,179 +1,185 @@
-//! A word of the file with the texts that stand in its place.
+//! The definitions of a file, and the words that stand in place of a word of the file.
 
-ghost use Rattle.std.specs.Prelude.{◌≡◌, ◌-◌, ◌<◌, ◌≤◌, ◌∷◌, [], ◌++◌, List, length, map, nat_lt, if◌then◌else◌, None, OnOk, IfOk, IfErr, IfSome};
-ghost use Rattle.std.specs.Option.{option_map};
+ghost use Rattle.std.specs.Prelude.{◌≡◌, ◌<◌, ◌∷◌, [], ◌++◌, List, length, map, OnOk, IfErr};
 ghost use Rattle.hal_words.specs.declared.word.Word.TheVariants as word;
 ghost use Rattle.hal_words.specs.Pieces.{Is};
 ghost use Rattle.hal_words.specs.Lines as lines;
 ghost use Rattle.hal_words.specs.Lines.{item};
-ghost use Rattle.hal_words.specs.Items.{main_item};
-ghost use Rattle.hal_words.specs.Replacing.{as_word, is_replace, replaced_word, within};
-ghost use Rattle.hal_words.specs.Reserved.{look_up};
+ghost use Rattle.hal_words.specs.Replacing.{replaced_word};
 ghost use Rattle.hal_words.specs.Words.{word_item};
-ghost use Rattle.hal_pieces.specs.Seen.{seen};
-ghost use Rattle.hal_tokens.specs.Texts.{IsNoMark, IsText};
-ghost use Rattle.hal_tokens.specs.Stack.{names_of, remains, weight, Opens};
-ghost use Rattle.hal_tokens.specs.Faults.{Explains, IsFaultItem};
+ghost use Rattle.hal_pieces.specs.Faults.{IsMemory};
+ghost use Rattle.hal_tokens.specs.Compiled.{IsCompiled, IsOrdered, children_at, gives};
+ghost use Rattle.hal_tokens.specs.Faults.{Explains};
+ghost use Rattle.hal_tokens.specs.Texts.{IsText};
+ghost use Rattle.hal_tokens.specs.Walks.{kept, left_words, length_left};
 
+use crate::child::Child;
+use crate::compiled::Compiled;
+use crate::compiling::number;
 use crate::definitions::Definitions;
 use crate::fault::broken;
-use crate::frames::Frames;
-use crate::fronts::front;
+use crate::text_words::is_replace;
 use crate::token_list::Tokens;
+use crate::walk::Walk;
 use hal_base::{Fault, Place};
-use hal_pieces::Piece;
-use hal_words::{Name, Reserved, Word};
+use hal_words::{Name, Word};
 use std::alloc::{AllocError, Global};
 
-/// The word that a piece is. A text between two `"` stands only in a definition.
-pub(crate) fn word_of(piece: &Piece, place: Place) -> Result<Word, Fault>
-    ensures word { IfOk result (λ word. as_word (seen piece.now) place ≡ item (Is word) place) }
-    ensures broken { IfErr result (λ fault. IsFaultItem (as_word (seen piece.now) place) fault) }
-{
-    match piece {
-        Piece::Word(word) => Ok(*word),
-        Piece::Replacement(_) | Piece::Open => Err(broken(201, place)),
-        Piece::Wrong(rule) => Err(broken(rule.0, place)),
-    }
+/// The definitions so far, and what of them is compiled.
+#[derive(Drop)]
+pub(crate) struct Replacements<'a> {
+    definitions: Definitions<'a>,
+    compiled: Compiled,
 }
 
-/// The word that a piece of a text is.
-fn word_of_text(piece: &Piece, place: Place) -> Result<Word, Fault>
-    requires { IsNoMark (seen piece.now) }
-    ensures word { IfOk result (λ word. main_item (seen piece.now) place ≡ item (Is word) place) }
-    ensures broken { IfErr result (λ fault. IsFaultItem (main_item (seen piece.now) place) fault) }
-{
-    match piece {
-        Piece::Word(Word::Reserved(Reserved::Include)) => {
-            Err(broken(103, Place { column: 1, ..place }))
+impl<'a> Replacements<'a> {
+    /// No definition.
+    pub(crate) fn new(alloc: Global) -> Replacements<'a>
+        ensures definitions { result.definitions ≡ [] }
+        ensures compiled { IsCompiled result.definitions result.compiled }
+    {
+        Replacements {
+            definitions: Definitions::new(alloc),
+            compiled: Compiled::new(alloc),
         }
-        _ => word_of(piece, place),
+    }
+
+    /// Adds a definition. What is compiled rests on the definitions of its names, so where this name is
+    /// one of them, each name is compiled anew at its next use.
+    pub(crate) fn define(&mut self, name: Name, text: &'a [u8]) -> Result<(), Fault>
+        requires text { IsText text.now }
+        requires compiled { IsCompiled self.old.definitions self.old.compiled }
+        ensures added { OnOk result (self.new.definitions ≡ (name, text.now) ∷ self.old.definitions) }
+        ensures compiled { OnOk result (IsCompiled self.new.definitions self.new.compiled) }
+        ensures memory { IfErr result IsMemory }
+    {
+        self.compiled.forget(&name);
+        if self.definitions.push(name, text).is_err() {
+            return Err(Fault::Memory(AllocError));
+        }
+        Ok(())
+    }
+
+    /// Puts a word of the file in its place, with the words that stand there.
+    pub(crate) fn put(
+        &mut self,
+        alloc: Global,
+        tokens: &mut Tokens,
+        word: Word,
+        place: Place,
+    ) -> Result<(), Fault>
+        requires { IsCompiled self.old.definitions self.old.compiled }
+        ensures same { OnOk result (self.new.definitions ≡ self.old.definitions) }
+        ensures compiled { OnOk result (IsCompiled self.new.definitions self.new.compiled) }
+        ensures replaced { OnOk result (map word_item tokens.new
+            ≡ map word_item tokens.old ++ replaced_word self.old.definitions (item (Is word) place)) }
+        ensures broken { IfErr result (λ fault. (rest : List lines.Item) →
+            Explains (map word_item tokens.old ++ (replaced_word self.old.definitions (item (Is word) place) ++ rest)) fault) }
+    {
+        if let Word::Name(name) = word {
+            return self.put_name(alloc, tokens, name, place);
+        }
+        if is_replace(&word) {
+            return Err(broken(207, place));
+        }
+        tokens.push(word, place)
+    }
+
+    /// Puts a name of the file in its place.
+    fn put_name(
+        &mut self,
+        alloc: Global,
+        tokens: &mut Tokens,
+        name: Name,
+        place: Place,
+    ) -> Result<(), Fault>
+        requires { IsCompiled self.old.definitions self.old.compiled }
+        ensures same { OnOk result (self.new.definitions ≡ self.old.definitions) }
+        ensures compiled { OnOk result (IsCompiled self.new.definitions self.new.compiled) }
+        ensures replaced { OnOk result (map word_item tokens.new
+            ≡ map word_item tokens.old ++ replaced_word self.old.definitions (item (Is (word.Name name)) place)) }
+        ensures broken { IfErr result (λ fault. (rest : List lines.Item) →
+            Explains (map word_item tokens.old ++ (replaced_word self.old.definitions (item (Is (word.Name name)) place) ++ rest)) fault) }
+    {
+        match number(alloc, &self.definitions, &mut self.compiled, name, place)? {
+            Some(number) => write(alloc, &self.compiled, tokens, number, place),
+            None => tokens.push(Word::Name(name), place),
+        }
     }
 }
 
-/// Puts a word of the file in its place, with the texts that stand there.
-pub(crate) fn replace<'a>(
+/// Puts the words of the name with this number in their place.
+fn write(
     alloc: Global,
-    definitions: &Definitions<'a>,
+    compiled: &Compiled,
     tokens: &mut Tokens,
-    word: Word,
+    number: usize,
     place: Place,
 ) -> Result<(), Fault>
-    ensures replaced { OnOk result (map word_item tokens.new
-        ≡ map word_item tokens.old ++ replaced_word definitions.now (item (Is word) place)) }
+    requires { IsOrdered compiled.now }
+    ensures written { OnOk result (map word_item tokens.new
+        ≡ map word_item tokens.old ++ gives compiled.now place (children_at compiled.now number)) }
     ensures broken { IfErr result (λ fault. (rest : List lines.Item) →
-        Explains (map word_item tokens.old ++ (replaced_word definitions.now (item (Is word) place) ++ rest)) fault) }
+        Explains (map word_item tokens.old ++ (gives compiled.now place (children_at compiled.now number) ++ rest)) fault) }
 {
-    let mut frames = Frames::new(alloc);
-    put(definitions, &mut frames, tokens, &word, place)?;
-    'frame: while frames.len() > 0 {
-        go_on(definitions, &mut frames, tokens, place)?;
+    let mut walk = Walk::new(alloc);
+    if walk.push(compiled.children(number)).is_err() {
+        return Err(Fault::Memory(AllocError));
+    }
+    'child: while walk.len() > 0 {
+        write_child(compiled, &mut walk, tokens, place)?;
     }
     Ok(())
 }
 
-/// Takes one piece of the innermost text, and puts it in its place.
-fn go_on<'a>(
-    definitions: &Definitions<'a>,
-    frames: &mut Frames<'a>,
+/// Takes one child, and writes it or goes into it.
+fn write_child<'a>(
+    compiled: &'a Compiled,
+    walk: &mut Walk<'a>,
     tokens: &mut Tokens,
     place: Place,
 ) -> Result<(), Fault>
-    requires some { 0 < length frames.old }
-    requires depth { length frames.old ≤ length definitions.now }
-    ensures moved { OnOk result (map word_item tokens.new ++ remains definitions.now place frames.new
-        ≡ map word_item tokens.old ++ remains definitions.now place frames.old) }
-    ensures depth { OnOk result (length frames.new ≤ length definitions.now) }
-    ensures smaller { OnOk result (weight definitions.now frames.new < weight definitions.now frames.old) }
+    requires some { 0 < length walk.old }
+    requires ordered { IsOrdered compiled.now }
+    ensures moved { OnOk result (map word_item tokens.new ++ left_words compiled.now place walk.new
+        ≡ map word_item tokens.old ++ left_words compiled.now place walk.old) }
+    ensures smaller { OnOk result (length_left compiled.now walk.new < length_left compiled.now walk.old) }
     ensures broken { IfErr result (λ fault. (rest : List lines.Item) →
-        Explains (map word_item tokens.old ++ (remains definitions.now place frames.old ++ rest)) fault) }
+        Explains (map word_item tokens.old ++ (left_words compiled.now place walk.old ++ rest)) fault) }
 {
-    let Some((name, text)) = frames.pop() else {
+    let Some(children) = walk.pop() else {
         return Ok(());
     };
-    let Some((piece, rest)) = front(text) else {
+    let Some((first, rest)) = children.split_first() else {
         return Ok(());
     };
-    if frames.push(name, rest).is_err() {
+    if keep(walk, rest).is_err() {
         return Err(Fault::Memory(AllocError));
     }
-    let word = word_of_text(&piece, place)?;
-    put(definitions, frames, tokens, &word, place)
+    match first {
+        Child::Word(word) => tokens.push(*word, place),
+        Child::Name(number) => enter(walk, compiled.children(*number)),
+    }
 }
 
-/// Puts a word in its place: a name that is defined opens its text, and every other word is written.
-fn put<'a>(
-    definitions: &Definitions<'a>,
-    frames: &mut Frames<'a>,
-    tokens: &mut Tokens,
-    word: &Word,
-    place: Place,
-) -> Result<(), Fault>
-    ensures moved { OnOk result (map word_item tokens.new ++ remains definitions.now place frames.new
-        ≡ map word_item tokens.old
-        ++ (within (length definitions.now - length frames.old) definitions.now (names_of frames.old) (item (Is word.now) place)
-        ++ remains definitions.now place frames.old)) }
-    ensures opens { OnOk result (Opens definitions.now frames.old frames.new) }
-    ensures broken { IfErr result (λ fault. (rest : List lines.Item) →
-        Explains (map word_item tokens.old
-        ++ (within (length definitions.now - length frames.old) definitions.now (names_of frames.old) (item (Is word.now) place)
-        ++ rest)) fault) }
+/// Keeps the children behind the first for later, if there are any: a walk into last children leaves
+/// nothing behind.
+fn keep<'a>(walk: &mut Walk<'a>, rest: &'a [Child]) -> Result<(), AllocError>
+    ensures { OnOk result (walk.new ≡ kept rest.now walk.old) }
 {
-    if let Word::Name(name) = word {
-        return put_name(definitions, frames, tokens, name, place);
+    if rest.is_empty() {
+        return Ok(());
     }
-    if is_replace(word) {
-        return Err(broken(207, place));
-    }
-    tokens.push(*word, place)
+    walk.push(rest)
 }
 
-/// Whether the word is REPLACE, which has no form within a text.
-fn is_replace(word: &Word) -> bool
-    ensures { result ≡ is_replace (Is word.now) }
+/// Walks over these children next.
+fn enter<'a>(walk: &mut Walk<'a>, children: &'a [Child]) -> Result<(), Fault>
+    ensures entered { OnOk result (walk.new ≡ children.now ∷ walk.old) }
+    ensures memory { IfErr result IsMemory }
 {
-    matches!(word, Word::Reserved(Reserved::Replace))
-}
-
-/// Puts a name in its place.
-fn put_name<'a>(
-    definitions: &Definitions<'a>,
-    frames: &mut Frames<'a>,
-    tokens: &mut Tokens,
-    name: &Name,
-    place: Place,
-) -> Result<(), Fault>
-    ensures moved { OnOk result (map word_item tokens.new ++ remains definitions.now place frames.new
-        ≡ map word_item tokens.old
-        ++ (within (length definitions.now - length frames.old) definitions.now (names_of frames.old) (item (Is (word.Name name.now)) place)
-        ++ remains definitions.now place frames.old)) }
-    ensures opens { OnOk result (Opens definitions.now frames.old frames.new) }
-    ensures broken { IfErr result (λ fault. (rest : List lines.Item) →
-        Explains (map word_item tokens.old
-        ++ (within (length definitions.now - length frames.old) definitions.now (names_of frames.old) (item (Is (word.Name name.now)) place)
-        ++ rest)) fault) }
-{
-    if frames.has(name) {
-        return Err(broken(205, place));
-    }
-    let Some(text) = text_for(definitions, frames, name) else {
-        return tokens.push(Word::Name(*name), place);
-    };
-    if frames.push(*name, text).is_err() {
+    if walk.push(children).is_err() {
         return Err(Fault::Memory(AllocError));
     }
     Ok(())
-}
-
-/// The text that is opened for a name; there are as many levels as definitions.
-fn text_for<'a>(definitions: &Definitions<'a>, frames: &Frames<'a>, name: &Name) -> Option<&'a [u8]>
-    ensures text { IfSome result (λ text. IsText text.now) }
-    ensures found { option_map (λ text. text.now) result ≡ (if nat_lt (length frames.now) (length definitions.now)
-        then look_up definitions.now name.now else None) }
-{
-    if frames.len() < definitions.len() {
-        definitions.text(name)
-    } else {
-        None
-    }
 }
