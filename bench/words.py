@@ -12,7 +12,7 @@ from programs import program, run
 
 # Kinds of text, and their bytes, which keep the limit of words.
 KINDS = (('ordinary', 1_048_576), ('comment', 1_048_576), ('line', 1_048_576), ('quotes', 1_048_576), ('digits', 1_048_576),
-         ('replacements', 262_144))
+         ('replacements', 262_144), ('chain', 262_144), ('empties', 262_144))
 TIMES = 20
 LEAST = 20
 

@@ -63,8 +63,22 @@ const NESTED: [&str; 17] = [
     " REPLACE A BY \"B\";\n REPLACE B BY \"C\";\nD INCLUDE TEMPLATE A | Include 3:3, C 3:20",
 ];
 
+/// Names that are defined again, or only now, after a use that rested on what they were.
+const REDEFINED: [&str; 10] = [
+    " B\n REPLACE B BY \"C\";\n B | B 1:2, C 3:2",
+    " REPLACE A BY \"B B\";\n REPLACE B BY \"1\";\n A\n REPLACE B BY \"2 3\";\n A | 1 3:2, 1 3:2, 2 5:2, 3 5:2, 2 5:2, 3 5:2",
+    " REPLACE A BY \"B C\";\n A\n REPLACE B BY \"\";\n A\n REPLACE C BY \"\";\n A D | B 2:2, C 2:2, C 4:2, D 6:4",
+    " REPLACE A BY \"B C\";\n REPLACE B BY \"\";\n A\n REPLACE B BY \"X Y\";\n A | C 3:2, X 5:2, Y 5:2, C 5:2",
+    " REPLACE A BY \"B\";\n REPLACE B BY \"C\";\n REPLACE C BY \"D E\";\n A\n REPLACE C BY \"F\";\n A B | D 4:2, E 4:2, F 6:2, F 6:4",
+    " REPLACE A BY \"B\";\n A\n REPLACE C BY \"D\";\n A C | B 2:2, B 4:2, D 4:4",
+    " REPLACE A BY \"B\";\n A\n REPLACE B BY \"A\";\n A | rule 205 4:2",
+    " REPLACE A BY \"B\";\n REPLACE B BY \"A\";\n REPLACE A BY \"C\";\n B A | C 4:2, C 4:4",
+    " REPLACE A BY \"B\";\n REPLACE B BY \"1\";\n A\n REPLACE B BY \"!\";\n C A | rule 201 5:4",
+    " REPLACE A BY \"1\";\n A\n REPLACE A BY \"A\";\n A | rule 205 4:2",
+];
+
 /// A name that stands in its own replacement.
-const OWN: [&str; 8] = [
+const OWN: [&str; 11] = [
     " REPLACE A BY \"A\";\n A | rule 205 2:2",
     " REPLACE A BY \"A + 1\";\n B A; | rule 205 2:4",
     " REPLACE A BY \"B + a\";\n B\n  A; | rule 205 3:3",
@@ -73,6 +87,9 @@ const OWN: [&str; 8] = [
     " REPLACE A BY \"B\";\n REPLACE B BY \"C\";\n REPLACE C BY \"A\";\n X C | rule 205 4:4",
     " REPLACE A BY \"B\";\n REPLACE B BY \"C\";\n REPLACE C BY \"B\";\n A | rule 205 4:2",
     " REPLACE P BY \"P\";\nD INCLUDE TEMPLATE P | rule 205 2:20",
+    " REPLACE A BY \"\";\n REPLACE B BY \"A B\";\n B | rule 205 3:2",
+    " REPLACE A BY \"B B\";\n REPLACE B BY \"C C\";\n REPLACE C BY \"D A\";\n D A | rule 205 4:4",
+    " REPLACE A BY \"C\";\n REPLACE B BY \"A B\";\n A A | C 3:2, C 3:4",
 ];
 
 /// What the words of a text break, where the text is used.
@@ -110,7 +127,7 @@ const IN_TEXTS: [&str; 30] = [
 ];
 
 /// The word after the limit.
-const LIMIT: [&str; 14] = [
+const LIMIT: [&str; 16] = [
     " ;{65536} | 65536 words, ; 1:2 to ; 1:65537",
     " ;{65537} | rule 206 1:65538",
     " ;{70000} | rule 206 1:65538",
@@ -125,6 +142,8 @@ const LIMIT: [&str; 14] = [
     " ;{65536}\n REPLACE A BY \"\";\n A A | 65536 words, ; 1:2 to ; 1:65537",
     " ;{32768}\n REPLACE A BY \",{32768}\";\n A | 65536 words, ; 1:2 to , 3:2",
     " ;{32768}\n REPLACE A BY \",{32768}\";\n A + | rule 206 3:4",
+    " REPLACE A BY \",{70000}\";\n B A | rule 206 2:4",
+    " ;{65536}\n REPLACE A BY \"B !\";\n A | rule 201 3:2",
 ];
 
 /// Behind 16 texts that double: N0 stands for 65,536 words.
@@ -137,12 +156,31 @@ const DOUBLED_16: [&str; 5] = [
 ];
 
 /// Behind 40 texts that double.
-const DOUBLED_40: [&str; 5] = [
+const DOUBLED_40: [&str; 10] = [
     "\n ;; N0 | rule 206 42:5",
     "D INCLUDE TEMPLATE N0 | rule 206 41:20",
     " N38 | N40 41:2, N40 41:2, N40 41:2, N40 41:2",
     " N40 | N40 41:2",
     " | nothing",
+    " N20 | rule 206 41:2",
+    " REPLACE N40 BY \"\";\n N0 | nothing",
+    " REPLACE N40 BY \"\";\n N0 A N1 N40 | A 42:5",
+    " REPLACE N40 BY \"A\";\n N39 N38 | A 42:2, A 42:2, A 42:6, A 42:6, A 42:6, A 42:6",
+    " REPLACE N40 BY \"N0\";\n N39 | rule 205 42:2",
+];
+
+/// Behind a chain of 10,000 names.
+const CHAINED: [&str; 4] = [
+    " C0 | C10000 10001:2",
+    " C1 C9999 | C10000 10001:2, C10000 10001:5",
+    " REPLACE C10000 BY \"\";\n C0 A | A 10002:5",
+    " REPLACE C10000 BY \"C9\";\n A C5000 | rule 205 10002:4",
+];
+
+/// Behind the same chain, and 1,000 lines that each use its first name.
+const CHAINED_USES: [&str; 2] = [
+    " ; | 1001 words, C10000 10001:2 to ; 11001:2",
+    " REPLACE C10000 BY \"D E\";\n C0 | 1002 words, C10000 10001:2 to E 11002:2",
 ];
 
 /// Lines of which each defines a name as two of the next name, from N0 on.
@@ -156,12 +194,24 @@ fn doublings(alloc: Global, count: u32) -> Result<String, AllocError> {
     Ok(lines)
 }
 
+/// Lines of which each defines a name as the next name, from C0 on.
+fn chain(alloc: Global, count: u32) -> Result<String, AllocError> {
+    let mut lines = String::new(alloc);
+    for from in 0..count {
+        let to = from.saturating_add(1);
+        let line = format!(in alloc; " REPLACE C{from} BY \"C{to}\";\n")?;
+        lines.push_str(line.as_str())?;
+    }
+    Ok(lines)
+}
+
 #[test]
 fn replacing_keeps_its_rows(rt: HostRuntime) -> Result<(), Fail> {
     let alloc = rt.alloc();
     let mut told = String::new(alloc);
     tell_files(alloc, &[], &USES, &mut told)?;
     tell_files(alloc, &[], &NESTED, &mut told)?;
+    tell_files(alloc, &[], &REDEFINED, &mut told)?;
     tell_files(alloc, &[], &OWN, &mut told)?;
     tell_files(alloc, &[], &IN_TEXTS, &mut told)?;
     tell_files(alloc, &[], &LIMIT, &mut told)?;
@@ -169,6 +219,12 @@ fn replacing_keeps_its_rows(rt: HostRuntime) -> Result<(), Fail> {
     tell_files(alloc, beginning.as_bytes(), &DOUBLED_16, &mut told)?;
     let beginning = doublings(alloc, 40)?;
     tell_files(alloc, beginning.as_bytes(), &DOUBLED_40, &mut told)?;
+    let mut beginning = chain(alloc, 10_000)?;
+    tell_files(alloc, beginning.as_bytes(), &CHAINED, &mut told)?;
+    for _ in 0..1_000 {
+        beginning.push_str(" C0\n")?;
+    }
+    tell_files(alloc, beginning.as_bytes(), &CHAINED_USES, &mut told)?;
     assert!(rt; told.is_empty(), "{told}");
     Ok(())
 }

@@ -17,20 +17,48 @@ pub(crate) enum Kind {
     Digits,
     /// Names that stand for names that stand for names.
     Replacements,
+    /// A name at the head of a chain of definitions, as long as a 64th of the bytes.
+    Chain,
+    /// A name that stands for nothing, through 40 definitions that each use the one before twice.
+    Empties,
 }
 
-pub(crate) const KINDS: [Kind; 6] = [
+pub(crate) const KINDS: [Kind; 8] = [
     Kind::Ordinary,
     Kind::Comment,
     Kind::Line,
     Kind::Quotes,
     Kind::Digits,
     Kind::Replacements,
+    Kind::Chain,
+    Kind::Empties,
 ];
 
 /// A name that stands for a name, and so on, nine deep.
 const CHAIN: &str =
     " REPLACE STEP BY \"STEP_1\";\n REPLACE STEP_1 BY \"STEP_2\";\n REPLACE STEP_2 BY \"STEP_3\";\n REPLACE STEP_3 BY \"STEP_4\";\n REPLACE STEP_4 BY \"STEP_5\";\n REPLACE STEP_5 BY \"STEP_6\";\n REPLACE STEP_6 BY \"STEP_7\";\n REPLACE STEP_7 BY \"STEP_8\";\n REPLACE STEP_8 BY \"2 M\";\n";
+
+/// Lines of which each defines a name as the next name, from C0 on.
+fn chain(alloc: Global, count: usize) -> Result<String, AllocError> {
+    let mut lines = String::new(alloc);
+    for from in 0..count {
+        let to = from.saturating_add(1);
+        let line = format!(in alloc; " REPLACE C{from} BY \"C{to}\";\n")?;
+        lines.push_str(line.as_str())?;
+    }
+    Ok(lines)
+}
+
+/// Lines of which each defines a name as two of the name before, from E1 on.
+fn empties(alloc: Global, count: usize) -> Result<String, AllocError> {
+    let mut lines = String::new(alloc);
+    for from in 0..count {
+        let to = from.saturating_add(1);
+        let line = format!(in alloc; " REPLACE E{to} BY \"E{from} E{from}\";\n")?;
+        lines.push_str(line.as_str())?;
+    }
+    Ok(lines)
+}
 
 /// What the text begins with, what is repeated, and what it ends with.
 #[derive(Clone, Copy)]
@@ -49,6 +77,8 @@ impl Kind {
             Kind::Quotes => "quotes",
             Kind::Digits => "digits",
             Kind::Replacements => "replacements",
+            Kind::Chain => "chain",
+            Kind::Empties => "empties",
         }
     }
 
@@ -84,6 +114,25 @@ impl Kind {
                 repeat: " N = N + STEP; /* FROM THE LAST POSITION */\n",
                 end: "",
             },
+            Kind::Chain => Parts {
+                begin: "",
+                repeat: " N = N + C0; /* FROM THE LAST POSITION */\n",
+                end: "",
+            },
+            Kind::Empties => Parts {
+                begin: " REPLACE E0 BY \"\";\n",
+                repeat: " N = N + E40 1; /* FROM THE LAST POSITION */\n",
+                end: "",
+            },
+        }
+    }
+
+    /// The definitions that the text begins with, where they are counted.
+    fn definitions(self, alloc: Global, size: usize) -> Result<String, AllocError> {
+        match self {
+            Kind::Chain => chain(alloc, size / 64),
+            Kind::Empties => empties(alloc, 40),
+            _ => Ok(String::new(alloc)),
         }
     }
 
@@ -92,6 +141,8 @@ impl Kind {
         let parts = self.parts();
         let mut text = Vec::new(alloc);
         text.extend_from_slice(parts.begin.as_bytes())?;
+        let definitions = self.definitions(alloc, size)?;
+        text.extend_from_slice(definitions.as_bytes())?;
         for _ in 0..=size / parts.repeat.len().max(1) {
             text.extend_from_slice(parts.repeat.as_bytes())?;
         }
