@@ -19,3 +19,4 @@ pub mod NumberIndex
 pub mod Steps
 pub mod BothOk
 pub mod Replaced
+pub mod ReadingOn

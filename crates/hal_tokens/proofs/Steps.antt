@@ -51,6 +51,16 @@ pub entered_leads : (definitions : Definitions) (place : Place) (table : Table) 
 entered_leads definitions place table frames top below one inner text behind top_is opened' front name other defined whole leads =
     leads_in definitions place whole table top below inner text behind (rw top_is at opened') (rw name at front) other defined (rw top_is at leads)
 
+pub entered_opened : (definitions : Definitions) (table : Table) (frames more : List Opened) (inner text : List ℕ) → more ≡ begun inner text ∷ frames → AreOpened definitions table frames → look_up definitions inner ≡ Some text
+    → number_of table inner ≡ None → is_among (names_of frames) inner ≡ false → AreOpened definitions table more
+entered_opened definitions table frames more inner text more_is opened' defined new other =
+    rw more_is (record {
+      text = text;
+      defined = defined;
+      uncompiled = new;
+      read = read_start table text;
+    }, other, opened')
+
 pub entered_smaller : (definitions : Definitions) (table : Table) (frames top more : List Opened) (inner text : List ℕ) → frames ≡ top → more ≡ begun inner text ∷ top → look_up definitions inner ≡ Some text
     → number_of table inner ≡ None → is_among (names_of top) inner ≡ false → work definitions table more < work definitions table frames
 entered_smaller definitions table frames top more inner text top_is more_is defined new other =
@@ -111,17 +121,7 @@ step_spoilt definitions place frames top below found top_is spoilt whole leads =
 -- the compilation begins with the text of a name
 pub start_opened : (definitions : Definitions) (table : Table) (frames : List Opened) (name text : List ℕ) → frames ≡ begun name text ∷ [] → look_up definitions name ≡ Some text → number_of table name ≡ None
     → AreOpened definitions table frames
-start_opened definitions table frames name text is defined new =
-    rw is (
-      record {
-        text = text;
-        defined = defined;
-        uncompiled = new;
-        read = read_start table text;
-      },
-      refl,
-      tt,
-    )
+start_opened definitions table frames name text is defined new = entered_opened definitions table [] frames name text is tt defined new refl
 
 pub start_seen : (table : Table) (frames : List Opened) (name text : List ℕ) → frames ≡ begun name text ∷ [] → is_seen table frames name ≡ true
 start_seen table frames name text is = rw (is, own_name name) refl

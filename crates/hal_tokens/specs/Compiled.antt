@@ -1,5 +1,5 @@
 -- What stands in place of the names that were looked up, each with the parts that give words.
-use Rattle.std.specs.Prelude.{◌≡◌, ℕ, ◌<◌, ◌==◌, ◌⊎◌, List, [], ◌∷◌, ◌++◌, All, length, flat_map, Option, Some, None, bytes_eq, ⊤, if◌then◌else◌}
+use Rattle.std.specs.Prelude.{◌≡◌, ◌≤◌, ℕ, ◌<◌, ◌==◌, ◌⊎◌, List, [], ◌∷◌, ◌++◌, All, length, flat_map, Option, Some, None, bytes_eq, ⊤, if◌then◌else◌}
 use Rattle.hal_base.specs.declared.refusal.Place.{Place}
 use Rattle.hal_words.specs.declared.reserved.Reserved.TheVariants as reserved
 use Rattle.hal_words.specs.declared.word.Word.{Word}
@@ -84,6 +84,12 @@ IsReadAs table place (one ∷ items) children =
 abbrev pub IsRead : Table → List ℕ → List ℕ → List Child → Type 0
 IsRead table text rest children =
     (place : Place) → (done : List Item) × (text_items place text ≡ done ++ text_items place rest) × IsReadAs table place done children
+
+-- a text is read on: the children stand for what was read of it too, and what is left follows that
+pub record GoesOn (table : Table) (rest : List ℕ) (children : List Child) (behind : List ℕ) (more : List Child) : Type 0 where
+  pub read : (text : List ℕ) → IsRead table text rest children → IsRead table text behind more
+  pub follows : (place : Place) → (done : List Item) × (text_items place rest ≡ done ++ text_items place behind)
+  pub shorter : length behind ≤ length rest
 
 -- a name without a text is a word, and else its children stand for the text
 abbrev pub IsNamed : Table → List ℕ × List Child → Option (List ℕ) → Type 0

@@ -3,7 +3,7 @@
 //! even where the limit of words would come before it: of several broken rules any may be answered.
 
 ghost use Rattle.std.specs.Prelude.{◌≡◌, ◌<◌, ◌∷◌, [], ◌++◌, ◌⊎◌, ℕ, List, true, false, length, None, Some, OnOk, IfOk, IfErr, IfSome, IfNone};
-ghost use Rattle.std.specs.Option.{option_to_list};
+ghost use Rattle.std.specs.Option.{option_map, option_to_list};
 ghost use Rattle.hal_base.specs.declared.refusal.Place.{Place};
 ghost use Rattle.hal_words.specs.declared.word.Word.TheVariants as word;
 ghost use Rattle.hal_words.specs.Pieces.{Is};
@@ -15,8 +15,8 @@ ghost use Rattle.hal_pieces.specs.Faults.{IsMemory, Tells};
 ghost use Rattle.hal_tokens.specs.declared.child.Child.TheVariants as child;
 ghost use Rattle.hal_tokens.specs.declared.child.Child as parts;
 ghost use Rattle.hal_tokens.specs.Faults.{IsBrokenAt};
-ghost use Rattle.hal_tokens.specs.Compiled.{IsCompiled, Stays, as_child, number_of, word_children};
-ghost use Rattle.hal_tokens.specs.Opened.{AreOpened, Leads, begun, is_seen, names_of, opened, opened_of, work};
+ghost use Rattle.hal_tokens.specs.Compiled.{GoesOn, IsCompiled, Stays, as_child, number_of, word_children};
+ghost use Rattle.hal_tokens.specs.Opened.{AreOpened, IsSpoilt, Leads, begun, is_seen, names_of, opened, opened_of, work};
 ghost use Rattle.hal_tokens.specs.Texts.{IsText};
 
 use crate::child::Child;
@@ -125,14 +125,78 @@ fn step<'a>(
     let Some((name, part)) = frames.pop() else {
         return Ok(());
     };
-    match next_word(part.rest, place) {
+    let mut children = part.children;
+    let rest = read_on(compiled, part.rest, &mut children, place)?;
+    match next_word(rest, place) {
         Err(fault) => Err(fault),
-        Ok(None) => close(compiled, name, part.children),
+        Ok(None) => close(compiled, name, children),
         Ok(Some((one, behind))) => match uncompiled(definitions, compiled, &one) {
-            Some((inner, text)) => enter(alloc, frames, name, part, inner, text, place),
-            None => pass(alloc, compiled, frames, name, part.children, &one, behind),
+            Some((inner, text)) => {
+                enter(alloc, frames, name, Part { rest, children }, inner, text, place)
+            }
+            None => pass(alloc, compiled, frames, name, children, &one, behind),
         },
     }
+}
+
+/// Reads a text as far as its words are known, and adds their children. The result is what is left.
+fn read_on<'a>(
+    compiled: &Compiled,
+    text: &'a [u8],
+    children: &mut Vec<Child>,
+    place: Place,
+) -> Result<&'a [u8], Fault>
+    requires { IsText text.now }
+    ensures on { IfOk result (λ rest. GoesOn compiled.now text.now children.old.items rest.now children.new.items) }
+    ensures text { IfOk result (λ rest. IsText rest.now) }
+    ensures broken { IfErr result (IsSpoilt place text.now) }
+{
+    let mut rest = text;
+    'word: while let Some(behind) = read_known(compiled, rest, children, place)? {
+        rest = behind;
+    }
+    Ok(rest)
+}
+
+/// Reads the next word of a text and adds its children. The result is what follows it; None where no word
+/// is left, or the word is a name that isn't compiled yet.
+fn read_known<'a>(
+    compiled: &Compiled,
+    text: &'a [u8],
+    children: &mut Vec<Child>,
+    place: Place,
+) -> Result<Option<&'a [u8]>, Fault>
+    requires { IsText text.now }
+    ensures on { IfOk result (λ next. IfSome next (λ rest. GoesOn compiled.now text.now children.old.items rest.now children.new.items)) }
+    ensures shorter { IfOk result (λ next. IfSome next (λ rest. length rest.now < length text.now)) }
+    ensures text { IfOk result (λ next. IfSome next (λ rest. IsText rest.now)) }
+    ensures none { IfOk result (λ next. IfNone next (children.new.items ≡ children.old.items)) }
+    ensures broken { IfErr result (IsSpoilt place text.now) }
+{
+    match next_word(text, place) {
+        Err(fault) => Err(fault),
+        Ok(None) => Ok(None),
+        Ok(Some((one, behind))) => {
+            let Some(child) = known(compiled, &one) else {
+                return Ok(None);
+            };
+            add(children, &child)?;
+            Ok(Some(behind))
+        }
+    }
+}
+
+/// The child that stands for a word, or that none does. None where the word is a name that isn't compiled
+/// yet.
+fn known(compiled: &Compiled, one: &Word) -> Option<Option<Child>>
+    requires { is_replace (Is one.now) ≡ false }
+    ensures { option_map option_to_list result ≡ word_children compiled.now one.now }
+{
+    let Word::Name(name) = one else {
+        return Some(Some(Child::Word(*one)));
+    };
+    let number = compiled.number(name)?;
+    Some(as_child(number, compiled.children(number)))
 }
 
 /// Puts a name back with its text, and opens the text of a name in it.
@@ -234,7 +298,7 @@ fn read(
     if let Word::Name(name) = one {
         return read_name(alloc, compiled, children, name);
     }
-    add(children, &Child::Word(*one))
+    add(children, &Some(Child::Word(*one)))
 }
 
 /// Adds the children that stand for a name. One that isn't compiled yet has no text, and is a word.
@@ -249,23 +313,21 @@ fn read_name(
     ensures memory { IfErr result IsMemory }
 {
     if let Some(number) = compiled.number(name) {
-        return match as_child(number, compiled.children(number)) {
-            Some(child) => add(children, &child),
-            None => Ok(()),
-        };
+        return add(children, &as_child(number, compiled.children(number)));
     }
     leave(alloc, compiled, *name)?;
-    add(children, &Child::Word(Word::Name(*name)))
+    add(children, &Some(Child::Word(Word::Name(*name))))
 }
 
-/// Adds a child.
-fn add(children: &mut Vec<Child>, child: &Child) -> Result<(), Fault>
-    ensures added { OnOk result (children.new.items ≡ children.old.items ++ child.now ∷ []) }
+/// Adds a child, if there is one.
+fn add(children: &mut Vec<Child>, child: &Option<Child>) -> Result<(), Fault>
+    ensures added { OnOk result (children.new.items ≡ children.old.items ++ option_to_list child.now) }
     ensures memory { IfErr result IsMemory }
 {
     let pushed = match child {
-        Child::Word(one) => children.push(Child::Word(*one)),
-        Child::Name(number) => children.push(Child::Name(*number)),
+        None => Ok(()),
+        Some(Child::Word(one)) => children.push(Child::Word(*one)),
+        Some(Child::Name(number)) => children.push(Child::Name(*number)),
     };
     if pushed.is_err() {
         return Err(Fault::Memory(AllocError));
