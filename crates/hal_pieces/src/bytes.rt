@@ -4,7 +4,7 @@ ghost use Rattle.std.specs.Prelude.{◌≡◌};
 ghost use Rattle.hal_words.specs.Letters.{is_blank, is_capital, is_small, is_letter, is_digit, is_name_byte, capital, is_plain};
 
 /// A blank, or a tab.
-pub(crate) fn is_blank(byte: u8) -> bool
+pub fn is_blank(byte: u8) -> bool
     ensures { result ≡ is_blank byte }
 {
     byte == b' ' || byte == b'\t'

@@ -18,6 +18,8 @@ mod replacements;
 mod runs;
 mod signs;
 
+pub use bytes::is_blank;
+pub use comments::comment_end;
 pub use file::items;
-pub use item::Item;
+pub use item::{Item, broken};
 pub use piece::{Piece, first_piece};

@@ -12,7 +12,7 @@ use Rattle.hal_words.specs.Lines.{Item, item}
 use Rattle.hal_words.specs.Replacing.{Definitions, text_items, within}
 use Rattle.hal_tokens.specs.declared.child.Child.{Child}
 use Rattle.hal_tokens.specs.Compiled.{Table, GoesOn, word_children}
-use Rattle.hal_tokens.specs.Opened.{Opened, opened, names_of, AreOpened, Leads, IsSpoilt, rests, work}
+use Rattle.hal_tokens.specs.Opened.{Opened, opened, names_of, AreOpened, Leads, IsSpoilt, work}
 use Rattle.hal_tokens.proofs.Readings.{read_next}
 
 pub goes_on_start : (table : Table) (rest : List ℕ) (children : List Child) → GoesOn table rest children rest children
@@ -57,13 +57,16 @@ spoilt_before place table rest behind children more (fault.Memory error) goes_on
 pub on_opened : (definitions : Definitions) (table : Table) (frames : List Opened) (name rest behind : List ℕ) (children more : List Child) (below : List Opened) → frames ≡ opened name rest children ∷ below
     → GoesOn table rest children behind more → AreOpened definitions table frames → AreOpened definitions table (opened name behind more ∷ below)
 on_opened definitions table frames name rest behind children more below top_is goes_on opened' =
-    let is : AreOpened definitions table (opened name rest children ∷ below) = rw top_is at opened' in
-    (record {
-      text = is.0.text;
-      defined = is.0.defined;
-      uncompiled = is.0.uncompiled;
-      read = goes_on.read is.0.text is.0.read;
-    }, is.1, is.2)
+    let is : AreOpened definitions table (opened name rest children ∷ below) = rw top_is at opened' in (
+      record {
+        text = is.0.text;
+        defined = is.0.defined;
+        uncompiled = is.0.uncompiled;
+        read = goes_on.read is.0.text is.0.read;
+      },
+      is.1,
+      is.2,
+    )
 
 pub on_leads : (definitions : Definitions) (place : Place) (table : Table) (frames : List Opened) (name rest behind : List ℕ) (children more : List Child) (below : List Opened) → frames ≡ opened name rest children ∷ below
     → GoesOn table rest children behind more → (whole : List Item) → Leads definitions place whole frames → Leads definitions place whole (opened name behind more ∷ below)

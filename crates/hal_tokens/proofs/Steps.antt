@@ -8,11 +8,10 @@ use Rattle.hal_words.specs.Pieces.{Is}
 use Rattle.hal_words.specs.Lines.{Item, item}
 use Rattle.hal_words.specs.Replacing.{Definitions, is_among, text_items, replaced_word}
 use Rattle.hal_words.specs.Reserved.{look_up}
-use Rattle.hal_pieces.specs.Faults.{IsMemory, Tells}
+use Rattle.hal_pieces.specs.Faults.{IsBrokenAt, IsMemory, Tells}
 use Rattle.hal_tokens.specs.declared.child.Child.{Child}
 use Rattle.hal_tokens.specs.declared.child.Child.TheVariants as child
 use Rattle.hal_tokens.specs.Compiled.{Table, number_of, IsCompiled, Stays, word_children}
-use Rattle.hal_tokens.specs.Faults.{IsBrokenAt}
 use Rattle.hal_tokens.specs.Opened.{Opened, opened, begun, names_of, AreOpened, Leads, IsSpoilt, is_seen, work}
 use Rattle.hal_tokens.proofs.Tables.{own_name}
 use Rattle.hal_tokens.proofs.Readings.{read_end, read_below, read_next, read_start}
@@ -54,12 +53,16 @@ entered_leads definitions place table frames top below one inner text behind top
 pub entered_opened : (definitions : Definitions) (table : Table) (frames more : List Opened) (inner text : List ℕ) → more ≡ begun inner text ∷ frames → AreOpened definitions table frames → look_up definitions inner ≡ Some text
     → number_of table inner ≡ None → is_among (names_of frames) inner ≡ false → AreOpened definitions table more
 entered_opened definitions table frames more inner text more_is opened' defined new other =
-    rw more_is (record {
-      text = text;
-      defined = defined;
-      uncompiled = new;
-      read = read_start table text;
-    }, other, opened')
+    rw more_is (
+      record {
+        text = text;
+        defined = defined;
+        uncompiled = new;
+        read = read_start table text;
+      },
+      other,
+      opened',
+    )
 
 pub entered_smaller : (definitions : Definitions) (table : Table) (frames top more : List Opened) (inner text : List ℕ) → frames ≡ top → more ≡ begun inner text ∷ top → look_up definitions inner ≡ Some text
     → number_of table inner ≡ None → is_among (names_of top) inner ≡ false → work definitions table more < work definitions table frames

@@ -12,7 +12,8 @@ use Rattle.hal_words.specs.Lines.{Item, item, Cell, Byte}
 use Rattle.hal_words.specs.Pieces.{Piece, Wrong, piece}
 use Rattle.hal_words.specs.Items.{line_of, comment_rest, begins_comment, main_item, size_or_all, fault_if_open, items}
 use Rattle.hal_words.specs.Replacing.{text_items}
-use Rattle.hal_tokens.specs.Texts.{IsTextByte, IsText, IsNoMark, after_comment}
+use Rattle.hal_pieces.specs.Reading.{closing}
+use Rattle.hal_tokens.specs.Texts.{IsTextByte, IsText, IsNoMark}
 use Rattle.hal_tokens.proofs.Marks.{piece_no_mark}
 
 -- the bytes of a text where it is used
@@ -38,35 +39,28 @@ line_is place (b ∷ text) is =
     rw other (ap (λ (rest : List ℕ). b ∷ rest) (line_is place text (rest_text b text is)))
 
 -- comments
-later : (b : ℕ) (text : List ℕ) (size : Option ℕ) → option_map (λ n. drop n (b ∷ text)) (option_map suc size) ≡ option_map (λ n. drop n text) size
-later b text None = refl
-later b text (Some n) = refl
-
-rest_is : (after : Bool) (place : Place) (text : List ℕ) → option_map (λ n. drop n text) (comment_rest after (cells place text)) ≡ after_comment after text
+rest_is : (after : Bool) (place : Place) (text : List ℕ) → comment_rest after (cells place text) ≡ closing after text
 rest_is true place [] = refl
 rest_is false place [] = refl
 rest_is after place (b ∷ text) = elim (cases_Bool (after && b == 47)) [
   | inl ends ↦ rw ends refl
-  | inr goes_on ↦ rw goes_on (later b text (comment_rest (b == 42) (cells place text)) ∙ rest_is (b == 42) place text)
+  | inr goes_on ↦ rw goes_on (ap (option_map suc) (rest_is (b == 42) place text))
 ]
 
-abbrev pub After : Place → Option (List ℕ) → List Item
-After place None = item (Wrong 202) place ∷ []
-After place (Some rest) = text_items place rest
+abbrev pub After : Place → List ℕ → Option ℕ → List Item
+After place text None = item (Wrong 202) place ∷ []
+After place text (Some size) = text_items place (drop size text)
 
-behind_comment : (size : Option ℕ) (place : Place) (text : List ℕ) → size ≡ comment_rest false (cells place text)
-    → fault_if_open size place ++ items (size_or_all size (length (cells place (42 ∷ text)))) (cells place (42 ∷ text)) ≡ After place (after_comment false text)
-behind_comment None place text is =
-    let none : after_comment false text ≡ None = sym (rest_is false place text) ∙ ap (option_map (λ n. drop n text)) (sym is) in
+behind_comment : (size : Option ℕ) (place : Place) (text : List ℕ)
+    → fault_if_open size place ++ items (size_or_all size (length (cells place (42 ∷ text)))) (cells place (42 ∷ text)) ≡ After place text size
+behind_comment None place text =
     let all : drop (length (cells place (42 ∷ text))) (42 ∷ text) ≡ [] =
     drop_all (length (cells place (42 ∷ text))) (42 ∷ text) (omega (arith, length-append (map (λ b. Byte b place) (42 ∷ text)) (Byte 10 place ∷ []), length-map (42 ∷ text) (λ b. Byte b place))) in
-    rw none (ap (λ (rest : List Item). item (Wrong 202) place ∷ rest) (skipped (length (cells place (42 ∷ text))) place (42 ∷ text) ∙ ap (text_items place) all))
-behind_comment (Some n) place text is =
-    let some : after_comment false text ≡ Some (drop n text) = sym (rest_is false place text) ∙ ap (option_map (λ n. drop n text)) (sym is) in
-    rw some (skipped (suc n) place (42 ∷ text))
+    ap (λ (rest : List Item). item (Wrong 202) place ∷ rest) (skipped (length (cells place (42 ∷ text))) place (42 ∷ text) ∙ ap (text_items place) all)
+behind_comment (Some n) place text = skipped (suc n) place (42 ∷ text)
 
-comment_is : (place : Place) (text : List ℕ) → text_items place (47 ∷ 42 ∷ text) ≡ After place (after_comment false text)
-comment_is place text = behind_comment (comment_rest false (cells place text)) place text refl
+comment_is : (place : Place) (text : List ℕ) → text_items place (47 ∷ 42 ∷ text) ≡ After place text (closing false text)
+comment_is place text = behind_comment (comment_rest false (cells place text)) place text ∙ ap (After place text) (rest_is false place text)
 
 comment_front : (text : List ℕ) → begins_comment text ≡ true → text ≡ 47 ∷ 42 ∷ drop 2 text
 comment_front [] is = let no : false ≡ true = is in absurd (cc)
@@ -76,23 +70,16 @@ comment_front (b ∷ c ∷ text) is =
     let second : c ≡ 42 = grind (arith, nat_tests) in
     rw (first, second) refl
 
-pub open_comment : (text rest : List ℕ) → begins_comment text ≡ true → rest ≡ drop 2 text → after_comment false rest ≡ None → (place : Place) → text_items place text ≡ item (Wrong 202) place ∷ []
+pub open_comment : (text rest : List ℕ) → begins_comment text ≡ true → rest ≡ drop 2 text → closing false rest ≡ None → (place : Place) → text_items place text ≡ item (Wrong 202) place ∷ []
 open_comment text rest begins is none place =
-    let here : after_comment false (drop 2 text) ≡ None = rw (← is) none in
-    ap (text_items place) (comment_front text begins) ∙ comment_is place (drop 2 text) ∙ ap (After place) here
+    let here : closing false (drop 2 text) ≡ None = rw (← is) none in
+    ap (text_items place) (comment_front text begins) ∙ comment_is place (drop 2 text) ∙ ap (After place (drop 2 text)) here
 
-pub closed_comment : (text rest after : List ℕ) → begins_comment text ≡ true → rest ≡ drop 2 text → after_comment false rest ≡ Some after → (place : Place) → text_items place text ≡ text_items place after
-closed_comment text rest after begins is some place =
-    let here : after_comment false (drop 2 text) ≡ Some after = rw (← is) some in
-    ap (text_items place) (comment_front text begins) ∙ comment_is place (drop 2 text) ∙ ap (After place) here
-
--- what follows a comment is a text too
-pub after_is_text : (after : Bool) (text rest : List ℕ) → IsText text → after_comment after text ≡ Some rest → IsText rest
-after_is_text after [] rest is found = let no : None ≡ Some rest = found in absurd (cc)
-after_is_text after (b ∷ text) rest is found = elim (cases_Bool (after && b == 47)) [
-  | inl ends ↦ let here : Some text ≡ Some rest = rw ends at found in let same : text ≡ rest = cc in rw (← same) (rest_text b text is)
-  | inr goes_on ↦ let here : after_comment (b == 42) text ≡ Some rest = rw goes_on at found in after_is_text (b == 42) text rest (rest_text b text is) here
-]
+pub closed_comment : (text rest after : List ℕ) (size : ℕ) → begins_comment text ≡ true → rest ≡ drop 2 text → closing false rest ≡ Some size → after ≡ drop size rest → (place : Place) → text_items place text ≡ text_items place after
+closed_comment text rest after size begins is some cut place =
+    let here : closing false (drop 2 text) ≡ Some size = rw (← is) some in
+    let behind : after ≡ drop size (drop 2 text) = rw (← is) cut in
+    ap (text_items place) (comment_front text begins) ∙ comment_is place (drop 2 text) ∙ ap (After place (drop 2 text)) here ∙ ap (text_items place) (sym behind)
 
 pred_is : (n : ℕ) → pred n ≡ n - 1
 pred_is zero = refl

@@ -14,13 +14,9 @@ use Rattle.hal_words.specs.Replacing.{Definitions, defined, definition, definiti
 use Rattle.hal_base.specs.declared.refusal.Fault.{Fault}
 use Rattle.hal_base.specs.declared.refusal.Fault.TheVariants as fault
 use Rattle.hal_words.specs.Words.{file_words}
-use Rattle.hal_pieces.specs.Faults.{Tells}
+use Rattle.hal_pieces.specs.Faults.{IsRight, Tells}
 use Rattle.hal_tokens.specs.Faults.{BreaksBy}
 use Rattle.hal_tokens.proofs.Within.{within_alone}
-
-abbrev IsRight : Piece → Type 0
-IsRight (Wrong rule) = ⊥
-IsRight one = ⊤
 
 -- none of the first items is wrong
 abbrev AreRight : ℕ → List Item → Type 0

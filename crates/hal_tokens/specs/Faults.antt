@@ -8,11 +8,6 @@ use Rattle.hal_words.specs.Pieces.{Wrong}
 use Rattle.hal_words.specs.Lines.{Item, item}
 use Rattle.hal_words.specs.Words.{misplaced, Breaks}
 
--- the fault is this one
-abbrev pub IsBrokenAt : ℕ → Place → Fault → Type 0
-IsBrokenAt rule place (fault.Broken refusal) = (refusal.rule.0 ≡ rule) × (refusal.place ≡ place)
-IsBrokenAt rule place (fault.Memory error) = ⊥
-
 -- the rule that an item breaks
 abbrev pub IsFaultItem : Item → Fault → Type 0
 IsFaultItem one (fault.Broken refusal) = one ≡ item (Wrong refusal.rule.0) refusal.place

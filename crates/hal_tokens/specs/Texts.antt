@@ -1,5 +1,5 @@
 -- Texts of definitions, and what they give.
-use Rattle.std.specs.Prelude.{◌≢◌, ℕ, ◌==◌, Bool, ◌&&◌, List, [], ◌∷◌, All, Option, Some, None, ⊤, if◌then◌else◌}
+use Rattle.std.specs.Prelude.{◌≢◌, ℕ, List, All, ⊤}
 use Rattle.hal_words.specs.Pieces.{Piece, Replacement, Open}
 use Rattle.hal_words.specs.Lines.{Item}
 
@@ -24,8 +24,3 @@ abbrev pub IsNoMark : Piece → Type 0
 IsNoMark (Replacement bytes) = ⊥
 IsNoMark Open = ⊥
 IsNoMark piece = ⊤
-
--- what follows a comment, from behind its first two bytes; None where it is open. `after` tells that the byte before was `*`
-abbrev pub after_comment : Bool → List ℕ → Option (List ℕ)
-after_comment after [] = None
-after_comment after (b ∷ text) = if after && b == 47 then Some text else after_comment (b == 42) text

@@ -11,10 +11,9 @@ ghost use Rattle.hal_words.specs.Lines as lines;
 ghost use Rattle.hal_words.specs.Lines.{item};
 ghost use Rattle.hal_words.specs.Replacing.{is_among, is_replace, replaced_word};
 ghost use Rattle.hal_words.specs.Reserved.{look_up};
-ghost use Rattle.hal_pieces.specs.Faults.{IsMemory, Tells};
+ghost use Rattle.hal_pieces.specs.Faults.{IsBrokenAt, IsMemory, Tells};
 ghost use Rattle.hal_tokens.specs.declared.child.Child.TheVariants as child;
 ghost use Rattle.hal_tokens.specs.declared.child.Child as parts;
-ghost use Rattle.hal_tokens.specs.Faults.{IsBrokenAt};
 ghost use Rattle.hal_tokens.specs.Compiled.{GoesOn, IsCompiled, Stays, as_child, number_of, word_children};
 ghost use Rattle.hal_tokens.specs.Opened.{AreOpened, IsSpoilt, Leads, begun, is_seen, names_of, opened, opened_of, work};
 ghost use Rattle.hal_tokens.specs.Texts.{IsText};
@@ -22,10 +21,10 @@ ghost use Rattle.hal_tokens.specs.Texts.{IsText};
 use crate::child::Child;
 use crate::compiled::Compiled;
 use crate::definitions::Definitions;
-use crate::fault::broken;
 use crate::frames::{Frames, Part};
 use crate::text_words::next_word;
 use hal_base::{Fault, Place};
+use hal_pieces::broken;
 use hal_words::{Name, Word};
 use std::alloc::{AllocError, Global};
 
@@ -104,7 +103,8 @@ fn open<'a>(
     Ok(())
 }
 
-/// Takes one word of the innermost text, or ends it.
+/// Reads the innermost text on: to its end, and then its name is compiled; or to a name that isn't, whose
+/// text is opened, and when that is read the name is met again. A name without a text is a word.
 fn step<'a>(
     alloc: Global,
     definitions: &Definitions<'a>,
@@ -132,7 +132,15 @@ fn step<'a>(
         Ok(None) => close(compiled, name, children),
         Ok(Some((one, behind))) => match uncompiled(definitions, compiled, &one) {
             Some((inner, text)) => {
-                enter(alloc, frames, name, Part { rest, children }, inner, text, place)
+                enter(
+                    alloc,
+                    frames,
+                    name,
+                    Part { rest, children },
+                    inner,
+                    text,
+                    place,
+                )
             }
             None => pass(alloc, compiled, frames, name, children, &one, behind),
         },

@@ -10,13 +10,12 @@ ghost use Rattle.hal_tokens.specs.Compiled.{IsCompiled};
 ghost use Rattle.hal_tokens.specs.Texts.{HoldsText, IsText, IsTextOf};
 ghost use Rattle.hal_tokens.specs.Faults.{Explains, Blames};
 
-use crate::fault::broken;
 use crate::replacing::Replacements;
 use crate::temporaries::misplaced;
 use crate::text_words::word_of;
 use crate::token_list::Tokens;
 use hal_base::{Fault, Place};
-use hal_pieces::{Item, Piece};
+use hal_pieces::{Item, Piece, broken};
 use hal_words::{Name, Reserved, Symbol, Word};
 use std::alloc::{AllocError, Global};
 

@@ -2,15 +2,13 @@
 
 ghost use Rattle.std.specs.Prelude.{◌≡◌, ◌<◌, ◌∷◌, [], length, drop, IfSome, IfNone};
 ghost use Rattle.hal_base.specs.declared.refusal.Place.{Place};
-ghost use Rattle.hal_words.specs.Letters.{is_blank};
 ghost use Rattle.hal_words.specs.Items.{begins_comment, main_item};
 ghost use Rattle.hal_words.specs.Replacing.{text_items};
 ghost use Rattle.hal_pieces.specs.Seen.{seen};
 ghost use Rattle.hal_tokens.specs.Texts.{IsText, IsNoMark};
 
-use crate::comments::after_comment;
 use hal_base::Rule;
-use hal_pieces::{Piece, first_piece};
+use hal_pieces::{Piece, comment_end, first_piece, is_blank};
 
 /// The piece that the text goes on with, behind blanks and comments, and what follows it. None where no
 /// piece is left.
@@ -28,10 +26,11 @@ pub(crate) fn front(text: &[u8]) -> Option<(Piece<'_>, &[u8])>
         if is_blank(*first) {
             rest = behind;
         } else if begins_comment(rest) {
-            let Some(after) = after_comment(without(rest, 2)) else {
+            let inside = without(rest, 2);
+            let Some(size) = comment_end(inside) else {
                 return Some((Piece::Wrong(Rule(202)), &[]));
             };
-            rest = after;
+            rest = without(inside, size);
         } else {
             let (piece, size) = first_piece(rest);
             return Some((piece, without(behind, size.saturating_sub(1))));
@@ -45,12 +44,6 @@ fn begins_comment(text: &[u8]) -> bool
     ensures { result ≡ begins_comment text.now }
 {
     matches!(text, [b'/', b'*', ..])
-}
-
-fn is_blank(byte: u8) -> bool
-    ensures { result ≡ is_blank byte }
-{
-    byte == b' ' || byte == b'\t'
 }
 
 /// The bytes without so many at their front.

@@ -2,11 +2,9 @@
 #![tactic(auto)]
 
 mod child;
-mod comments;
 mod compiled;
 mod compiling;
 mod definitions;
-mod fault;
 mod file;
 mod file_words;
 mod frames;

@@ -17,11 +17,11 @@ use crate::child::Child;
 use crate::compiled::Compiled;
 use crate::compiling::number;
 use crate::definitions::Definitions;
-use crate::fault::broken;
 use crate::text_words::is_replace;
 use crate::token_list::Tokens;
 use crate::walk::Walk;
 use hal_base::{Fault, Place};
+use hal_pieces::broken;
 use hal_words::{Name, Word};
 use std::alloc::{AllocError, Global};
 

@@ -11,10 +11,9 @@ ghost use Rattle.hal_tokens.specs.Faults.{IsFaultItem};
 ghost use Rattle.hal_tokens.specs.Opened.{IsSpoilt};
 ghost use Rattle.hal_tokens.specs.Texts.{IsNoMark, IsText};
 
-use crate::fault::broken;
 use crate::fronts::front;
 use hal_base::{Fault, Place};
-use hal_pieces::Piece;
+use hal_pieces::{Piece, broken};
 use hal_words::{Reserved, Word};
 
 /// The word that a piece is. A text between two `"` stands only in a definition.

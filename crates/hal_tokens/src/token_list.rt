@@ -1,5 +1,5 @@
-use crate::fault::broken;
 use hal_base::{Fault, Place, TOKEN_LIMIT};
+use hal_pieces::broken;
 use hal_words::{Token, Word};
 use std::alloc::{AllocError, Global};
 use std::marker::Model;

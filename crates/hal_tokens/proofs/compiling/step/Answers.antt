@@ -1,17 +1,16 @@
-use Rattle.std.proofs.Common.{◌≡◌, ◌<◌, ◌≤◌, [], ◌∷◌, ◌++◌, length, Some, None, refl, rules, arith}
-use Rattle.std.specs.Prelude.{false}
+use Rattle.std.proofs.Common.{◌≡◌, ◌<◌, [], ◌∷◌, ◌++◌, length, Some, None, refl, rules, arith}
 use Rattle.std.proofs.lemmas.Result.{IfOk-weaker, IfErr-weaker, err_from_is_err_and}
 use Rattle.hal_base.specs.declared.refusal.Place.{Place}
 use Rattle.hal_words.specs.declared.word.Word.TheVariants as word
 use Rattle.hal_words.specs.Pieces.{Is}
 use Rattle.hal_words.specs.Lines.{item}
-use Rattle.hal_words.specs.Replacing.{is_among, text_items}
+use Rattle.hal_words.specs.Replacing.{text_items}
 use Rattle.hal_words.specs.Reserved.{look_up}
 use Rattle.hal_tokens.specs.Compiled.{number_of}
-use Rattle.hal_tokens.specs.Opened.{opened, opened_of, names_of}
+use Rattle.hal_tokens.specs.Opened.{opened, opened_of}
 use Rattle.hal_tokens.proofs.BothOk.{both_ok}
 use Rattle.hal_tokens.proofs.ReadingOn.{on_opened, on_leads, on_less}
-use Rattle.hal_tokens.proofs.Steps.{closed_compiled, closed_opened, closed_smaller, entered_opened, entered_leads, entered_smaller, entered_told, passed_opened, passed_leads, passed_smaller, step_spoilt}
+use Rattle.hal_tokens.proofs.Steps.{closed_compiled, closed_opened, entered_opened, entered_leads, entered_smaller, entered_told, passed_opened, passed_leads, passed_smaller, step_spoilt}
 use Rattle.hal_tokens.proofs.compiling.step.Goals as goal
 
 pub returns-in_err-rest-clause-broken : goal.returns-in_err-rest-clause-broken

@@ -1,7 +1,7 @@
 use Rattle.std.proofs.Common.{map, ◌≡◌, None, rules}
 use Rattle.hal_words.specs.Replacing.{definition, formless}
 use Rattle.hal_pieces.specs.Faults.{seen_item}
-use Rattle.hal_tokens.specs.Faults.{IsBrokenAt}
+use Rattle.hal_pieces.specs.Faults.{IsBrokenAt}
 use Rattle.hal_tokens.proofs.Explained.{explains_formless}
 use Rattle.hal_tokens.proofs.file_words.define.Goals as goal
 
