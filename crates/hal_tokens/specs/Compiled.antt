@@ -16,13 +16,16 @@ use Rattle.hal_tokens.specs.declared.compiled.Entry.{Entry}
 abbrev pub Table : Type 0
 Table = List (List ℕ × List Child)
 
+-- the same in the list of the code
 abbrev pub entry_of : Entry → List ℕ × List Child
 entry_of entry = (entry.name, entry.children.items)
 
+-- the number of a name, if it was looked up
 abbrev pub number_of : Table → List ℕ → Option ℕ
 number_of [] name = None
 number_of (entry ∷ older) name = if bytes_eq entry.0 name then Some (length older) else number_of older name
 
+-- the children of the name with this number
 abbrev pub children_at : Table → ℕ → List Child
 children_at [] n = []
 children_at (entry ∷ older) n = if n == length older then entry.1 else children_at older n
@@ -37,9 +40,11 @@ abbrev pub steps_at : Table → ℕ → List (Option Word)
 steps_at [] n = []
 steps_at (entry ∷ older) n = if n == length older then flat_map (child_steps (steps_at older)) entry.1 else steps_at older n
 
+-- what a walk over children meets
 abbrev pub steps : Table → List Child → List (Option Word)
 steps table children = flat_map (child_steps (steps_at table)) children
 
+-- a word is written, and going into a name writes nothing
 abbrev pub step_items : Place → Option Word → List Item
 step_items place None = []
 step_items place (Some one) = item (Is one) place ∷ []
@@ -64,6 +69,7 @@ as_child n [] = []
 as_child n (one ∷ []) = one ∷ []
 as_child n (one ∷ more ∷ rest) = child.Name n ∷ []
 
+-- the children that stand for the name with this number, if it has one
 abbrev pub name_children : Table → Option ℕ → Option (List Child)
 name_children table None = None
 name_children table (Some n) = Some (as_child n (children_at table n))
@@ -101,6 +107,7 @@ abbrev pub AreNamed : Definitions → Table → Type 0
 AreNamed definitions [] = ⊤
 AreNamed definitions (entry ∷ older) = IsNamed older entry (look_up definitions entry.0) × AreNamed definitions older
 
+-- what was looked up of these definitions
 abbrev pub IsCompiled : Definitions → Table → Type 0
 IsCompiled definitions table = IsOrdered table × AreNamed definitions table
 

@@ -17,13 +17,15 @@ pub record Opened : Type 0 where
   pub rest : List ℕ
   pub children : List Child
 
--- the same in the map of the code
+-- a name with the rest and the children, in the map of the code
 abbrev pub Entry : Type 0
 Entry = List ℕ × Part
 
+-- the three of them
 abbrev pub opened : List ℕ → List ℕ → List Child → Opened
 opened name rest children = record { name = name; rest = rest; children = children }
 
+-- what stands in the map
 abbrev pub opened_of : Entry → Opened
 opened_of entry = opened entry.0 entry.1.rest.now entry.1.children.items
 
@@ -31,9 +33,11 @@ opened_of entry = opened entry.0 entry.1.rest.now entry.1.children.items
 abbrev pub begun : List ℕ → List ℕ → Opened
 begun name text = opened name text []
 
+-- each of them is a text that may stand between two `"`
 abbrev pub AreTexts : List Entry → Type 0
 AreTexts entries = All (λ (entry : Entry). IsText entry.1.rest.now) entries
 
+-- the names whose texts are being read
 abbrev pub names_of : List Opened → List (List ℕ)
 names_of frames = map (λ (one : Opened). one.name) frames
 
@@ -70,6 +74,7 @@ abbrev pub unseen : (List ℕ → ℕ) → (List ℕ → Bool) → Definitions �
 unseen cost seen [] = 0
 unseen cost seen (one ∷ definitions) = (if seen one.0 then 0 else cost one.1) + unseen cost seen definitions
 
+-- a name is seen where its text is being read, or it is compiled
 abbrev pub is_seen : Table → List Opened → List ℕ → Bool
 is_seen table frames name = is_among (names_of frames) name || is_some (number_of table name)
 
@@ -78,5 +83,6 @@ abbrev pub rests : List Opened → ℕ
 rests [] = 0
 rests (one ∷ below) = (length one.rest + 1) + rests below
 
+-- what is left to do at most, where a text that isn't seen costs a step for each byte and two more
 abbrev pub work : Definitions → Table → List Opened → ℕ
 work definitions table frames = unseen (λ text. length text + 2) (is_seen table frames) definitions + rests frames

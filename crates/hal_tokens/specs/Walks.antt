@@ -7,6 +7,7 @@ use Rattle.hal_words.specs.Lines.{Item}
 use Rattle.hal_tokens.specs.declared.child.Child.{Child}
 use Rattle.hal_tokens.specs.Compiled.{Table, steps, step_items}
 
+-- a list of the code
 abbrev pub list_of : Bor (List Child) → List Child
 list_of list = list.now
 
