@@ -1,0 +1,2 @@
+//! The parser of expressions: from words to the longest expression that they begin with.
+#![tactic(auto)]
