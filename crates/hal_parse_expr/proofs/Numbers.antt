@@ -10,7 +10,7 @@ reserved_list : List Reserved
 reserved_list = reserved.After ∷ reserved.Aligned ∷ reserved.And ∷ reserved.Array ∷ reserved.Assign ∷ reserved.At ∷ reserved.Automatic ∷ reserved.Bin ∷ reserved.Bit ∷ reserved.Boolean ∷ reserved.By ∷ reserved.Call ∷ reserved.Cancel ∷ reserved.Case ∷ reserved.Cat ∷ reserved.Character ∷ reserved.Close ∷ reserved.Compool ∷ reserved.Constant ∷ reserved.Dec ∷ reserved.Declare ∷ reserved.Dense ∷ reserved.Dependent ∷ reserved.Do ∷ reserved.Double ∷ reserved.Else ∷ reserved.End ∷ reserved.Error ∷ reserved.Event ∷ reserved.Every ∷ reserved.Exclusive ∷ reserved.Exit ∷ reserved.External ∷ reserved.False ∷ reserved.For ∷ reserved.Function ∷ reserved.Hex ∷ reserved.If ∷ reserved.Ignore ∷ reserved.In ∷ reserved.Include ∷ reserved.Initial ∷ reserved.Integer ∷ reserved.Latched ∷ reserved.Lock ∷ reserved.Not ∷ reserved.Oct ∷ reserved.Off ∷ reserved.On ∷ reserved.Or ∷ reserved.Priority ∷ reserved.Procedure ∷ reserved.Program ∷ reserved.Read ∷ reserved.Reentrant ∷ reserved.Repeat ∷ reserved.Replace ∷ reserved.Reset ∷ reserved.Return ∷ reserved.Schedule ∷ reserved.Send ∷ reserved.Set ∷ reserved.Signal ∷ reserved.Single ∷ reserved.Static ∷ reserved.Structure ∷ reserved.System ∷ reserved.Task ∷ reserved.Temporary ∷ reserved.Terminate ∷ reserved.Then ∷ reserved.To ∷ reserved.True ∷ reserved.Until ∷ reserved.Update ∷ reserved.Wait ∷ reserved.While ∷ reserved.Write ∷ []
 
 listed : (r : Reserved) → slice_get reserved_list (reserved_number r) ≡ Some r
-  unfolding reserved_list reserved_number
+unfolding reserved_list reserved_number
 listed reserved.After = refl
 listed reserved.Aligned = refl
 listed reserved.And = refl
@@ -101,7 +101,7 @@ symbol_list : List Symbol
 symbol_list = symbol.Plus ∷ symbol.Minus ∷ symbol.Power ∷ symbol.Star ∷ symbol.Point ∷ symbol.Equals ∷ symbol.Less ∷ symbol.Greater ∷ symbol.AtMost ∷ symbol.AtLeast ∷ symbol.LeftParenthesis ∷ symbol.RightParenthesis ∷ symbol.Comma ∷ symbol.Semicolon ∷ symbol.Colon ∷ symbol.Dollar ∷ symbol.Number ∷ []
 
 listed_symbol : (s : Symbol) → slice_get symbol_list (symbol_number s) ≡ Some s
-  unfolding symbol_list symbol_number
+unfolding symbol_list symbol_number
 listed_symbol symbol.Plus = refl
 listed_symbol symbol.Minus = refl
 listed_symbol symbol.Power = refl
