@@ -1,3 +1,3 @@
-pub mod Numbers
 pub mod Reading
 pub mod ReadingExpressions
+pub mod Seen

@@ -1,6 +1,9 @@
 -- Reading: what a function on words finds at their front, and what stands behind it.
-use Rattle.std.specs.Prelude.{ℕ, zero, suc, ◌==◌, Bool, true, false, List, [], ◌∷◌, length, Option, Some, None}
+use denote.Enum.Bare.{sameb}
+use Rattle.std.specs.Prelude.{ℕ, zero, suc, Bool, true, false, List, [], ◌∷◌, length, Option, Some, None}
 use Rattle.hal_base.specs.declared.refusal.Place.{Place}
+use Rattle.hal_words.specs.contracts.reserved.Reserved.{the_type as reserved_type}
+use Rattle.hal_words.specs.contracts.word.Symbol.{the_type as symbol_type}
 use Rattle.hal_words.specs.declared.reserved.Reserved.{Reserved}
 use Rattle.hal_words.specs.declared.word.Symbol.{Symbol}
 use Rattle.hal_words.specs.declared.word.Symbol.TheVariants as symbol
@@ -8,7 +11,6 @@ use Rattle.hal_words.specs.declared.word.Word.{Word}
 use Rattle.hal_words.specs.declared.word.Word.TheVariants as word
 use Rattle.hal_grammar.specs.Leaves.{Naming, naming}
 use Rattle.hal_grammar.specs.Words.{Words}
-use Rattle.hal_parse_expr.specs.Numbers.{reserved_number, symbol_number}
 
 -- what a reader gives of words: a phrase and the words behind it, or nothing
 abbrev pub Read : Type 0 → Type 0
@@ -45,12 +47,12 @@ where_true false read = None
 
 -- the word is this reserved word
 unfoldable pub is_reserved : Reserved → Word → Bool
-is_reserved r (word.Reserved s) = reserved_number r == reserved_number s
+is_reserved r (word.Reserved s) = sameb reserved_type s r
 is_reserved r other = false
 
 -- the word is this symbol
 unfoldable pub is_symbol : Symbol → Word → Bool
-is_symbol r (word.Symbol s) = symbol_number r == symbol_number s
+is_symbol r (word.Symbol s) = sameb symbol_type s r
 is_symbol r other = false
 
 -- the first word's place, where it is this reserved word
