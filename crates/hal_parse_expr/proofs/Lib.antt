@@ -1,1 +1,4 @@
 pub mod FirstWords
+pub mod Shortening
+pub mod ShorteningExpressions
+pub mod ShorteningPrimaries

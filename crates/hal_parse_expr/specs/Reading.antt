@@ -83,13 +83,15 @@ before_symbol s read = followed read (λ x rest. made_of (λ p. x) (past_symbol 
 unfoldable pub before : {X : Type 0} → Reserved → Read X → Read X
 before r read = followed read (λ x rest. made_of (λ p. x) (past r rest))
 
+-- a phrase and those that are read behind it, or none
+unfoldable pub listed : {X : Type 0} → (Words → List X × Words) → Words → Read X → List X × Words
+listed others words None = ([], words)
+listed others words (Some f) = (f.0 ∷ (others f.1).0, (others f.1).1)
+
 -- as many phrases as can be read, this number at most
 unfoldable pub many : {X : Type 0} → Reader X → ℕ → Words → List X × Words
 many read zero words = ([], words)
-many read (suc k) words = elim (read words) [
-    | None ↦ ([], words)
-    | Some f ↦ (f.0 ∷ (many read k f.1).0, (many read k f.1).1)
-  ]
+many read (suc k) words = listed (many read k) words (read words)
 
 -- as many phrases as can be read
 unfoldable pub all : {X : Type 0} → Reader X → Words → List X × Words
