@@ -12,26 +12,8 @@ use Rattle.hal_words.specs.declared.word.Token.{Token}
 use Rattle.hal_grammar.specs.Leaves.{Naming, Sign, Added, Subtracted, Relation, IsEqual, IsLess, IsGreater, IsAtMost, IsAtLeast, IsNotEqual, IsNotLess, IsNotGreater, Conversion, ToInteger, ToBits, ToText, Literal, WholeNumber, QuotedText, BitPattern, TrueBit, FalseBit, OnBit, OffBit}
 use Rattle.hal_grammar.specs.Expressions.{Expression, Ors, Ands, Compared, Joined, Summed, Multiplied, Powered, Negated, Literally, Thousandths, Referred, Called, Converted, Enclosed, Expressions, NoExpressions, MoreExpressions, Terms, NoTerms, MoreTerms, Reference, Refers, Subscript, Unsubscripted, ByName, ByInteger, ByParts, Subscripts, NoSubscripts, MoreSubscripts, Sub, EveryPlace, OnePlace, Range, Portion, Position, FromBeginning, FromEnd, place_of}
 use Rattle.hal_grammar.specs.Words.{Words}
+pub use Rattle.hal_syntax.specs.Rows.{expressions, SignedTerm, terms, subscripts}
 use Rattle.hal_parse_expr.specs.Reading.{Read, Reader, followed, made_of, with_tail, or_else, where_true, past, past_symbol, is_reserved, name_at, integer_at, before_symbol, all, parted}
-
--- expressions one after another, as a list of the grammar
-unfoldable pub expressions : List Expression → Expressions
-expressions [] = NoExpressions
-expressions (t ∷ ts) = MoreExpressions t (expressions ts)
-
--- a signed term with its place
-abbrev pub SignedTerm : Type 0
-SignedTerm = Place × Sign × Expression
-
--- signed terms one after another, as a list of the grammar
-unfoldable pub terms : List SignedTerm → Terms
-terms [] = NoTerms
-terms (t ∷ ts) = MoreTerms t.0 t.1 t.2 (terms ts)
-
--- subscripts one after another, as a list of the grammar
-unfoldable pub subscripts : List Sub → Subscripts
-subscripts [] = NoSubscripts
-subscripts (x ∷ xs) = MoreSubscripts x (subscripts xs)
 
 -- the sign that a word is
 unfoldable pub sign_of : Word → Option Sign

@@ -1,0 +1,24 @@
+-- The lists of the grammar, from lists.
+use Rattle.std.specs.Prelude.{List, [], ◌∷◌}
+use Rattle.hal_base.specs.declared.refusal.Place.{Place}
+use Rattle.hal_grammar.specs.Leaves.{Sign}
+use Rattle.hal_grammar.specs.Expressions.{Expression, Expressions, NoExpressions, MoreExpressions, Terms, NoTerms, MoreTerms, Sub, Subscripts, NoSubscripts, MoreSubscripts}
+
+-- expressions one after another
+unfoldable pub expressions : List Expression → Expressions
+expressions [] = NoExpressions
+expressions (t ∷ ts) = MoreExpressions t (expressions ts)
+
+-- a term, its sign and the sign's place
+abbrev pub SignedTerm : Type 0
+SignedTerm = Place × Sign × Expression
+
+-- signed terms one after another
+unfoldable pub terms : List SignedTerm → Terms
+terms [] = NoTerms
+terms (t ∷ ts) = MoreTerms t.0 t.1 t.2 (terms ts)
+
+-- subscripts one after another
+unfoldable pub subscripts : List Sub → Subscripts
+subscripts [] = NoSubscripts
+subscripts (x ∷ xs) = MoreSubscripts x (subscripts xs)

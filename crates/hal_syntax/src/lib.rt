@@ -1,0 +1,8 @@
+//! The trees of HAL/S source as the program holds them. `specs/` says which tree of the grammar each of them is.
+#![tactic(auto)]
+
+mod expression;
+mod leaf;
+
+pub use expression::{Expr, Position, Reference, SignedTerm, Sub, Subscript};
+pub use leaf::{Conversion, Identifier, LiteralValue, Relation, Sign};
