@@ -1,4 +1,6 @@
 pub mod FirstWords
+pub mod Loops
+pub mod RowsMade
 pub mod Shortening
 pub mod ShorteningExpressions
 pub mod ShorteningPrimaries

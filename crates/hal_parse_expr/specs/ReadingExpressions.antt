@@ -73,6 +73,10 @@ conversion_of other = None
 unfoldable pub further_at : Reader Naming
 further_at words = followed (past_symbol symbol.Point words) (λ p rest. name_at rest)
 
+-- `**` and a primary
+unfoldable pub exponent_of : Reader Expression → Reader Expression
+exponent_of primary words = followed (past_symbol symbol.Power words) (λ p after. primary after)
+
 -- a factor: a primary, or a primary to the power of a primary
 unfoldable pub factor_of : Reader Expression → Reader Expression
 factor_of primary words =
