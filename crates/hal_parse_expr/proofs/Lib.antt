@@ -1,7 +1,11 @@
+pub mod Depths
 pub mod FirstWords
+pub mod PartedLists
 pub mod Loops
 pub mod RowsMade
-pub mod Steps
 pub mod Shortening
 pub mod ShorteningExpressions
 pub mod ShorteningPrimaries
+pub mod Steps
+pub mod Ranks
+pub mod ShorteningJoints

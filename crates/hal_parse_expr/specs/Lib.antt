@@ -1,4 +1,6 @@
 pub mod Reading
 pub mod ReadingExpressions
 pub mod Seen
+pub mod SeenParts
 pub mod Joints
+pub mod Openings

@@ -12,7 +12,8 @@ use Rattle.hal_words.specs.declared.word.Token.{Token}
 use Rattle.hal_grammar.specs.Leaves.{Naming, Sign, Added, Subtracted, Relation, IsEqual, IsLess, IsGreater, IsAtMost, IsAtLeast, IsNotEqual, IsNotLess, IsNotGreater, Conversion, ToInteger, ToBits, ToText, Literal, WholeNumber, QuotedText, BitPattern, TrueBit, FalseBit, OnBit, OffBit}
 use Rattle.hal_grammar.specs.Expressions.{Expression, Ors, Ands, Compared, Joined, Summed, Multiplied, Powered, Negated, Literally, Thousandths, Referred, Called, Converted, Enclosed, Expressions, NoExpressions, MoreExpressions, Terms, NoTerms, MoreTerms, Reference, Refers, Subscript, Unsubscripted, ByName, ByInteger, ByParts, Subscripts, NoSubscripts, MoreSubscripts, Sub, EveryPlace, OnePlace, Range, Portion, Position, FromBeginning, FromEnd, place_of}
 use Rattle.hal_grammar.specs.Words.{Words}
-pub use Rattle.hal_syntax.specs.Rows.{expressions, SignedTerm, terms, subscripts}
+unfoldable pub use Rattle.hal_syntax.specs.Rows.{expressions, terms, subscripts}
+pub use Rattle.hal_syntax.specs.Rows.{SignedTerm}
 use Rattle.hal_parse_expr.specs.Reading.{Read, Reader, followed, made_of, with_tail, or_else, decided, where_true, past, past_symbol, is_reserved, name_at, integer_at, before_symbol, all, parted}
 
 -- the sign that a word is

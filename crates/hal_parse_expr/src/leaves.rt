@@ -2,14 +2,14 @@
 
 ghost use Rattle.std.specs.Prelude.{◌≡◌, IfOk};
 ghost use Rattle.std.specs.Option.{option_map};
-ghost use Rattle.hal_syntax.specs.SeenLeaves.{seen_conversion, seen_literal, seen_name, seen_relation, seen_sign};
+ghost use Rattle.hal_syntax.specs.SeenLeaves.{seen_literal, seen_name, seen_relation, seen_sign};
 ghost use Rattle.hal_parse_expr.specs.Reading.{all, integer_at, name_at};
-ghost use Rattle.hal_parse_expr.specs.ReadingExpressions.{conversion_of, further_at, literal_of, negated_relation, plain_relation, relation_at, said, sign_at, sign_of};
+ghost use Rattle.hal_parse_expr.specs.ReadingExpressions.{further_at, literal_of, negated_relation, plain_relation, relation_at, said, sign_at, sign_of};
 ghost use Rattle.hal_parse_expr.specs.Seen.{seen_as, seen_list, seen_placed};
 
 use crate::leading::{past, past_symbol};
 use hal_base::Place;
-use hal_syntax::{Conversion, Identifier, LiteralValue, Relation, Sign};
+use hal_syntax::{Identifier, LiteralValue, Relation, Sign};
 use hal_words::{Reserved, Symbol, Token, Word};
 use std::alloc::{AllocError, Global};
 
@@ -159,19 +159,6 @@ pub fn literal_of(word: &Word) -> Option<LiteralValue>
         Word::Reserved(Reserved::False) => Some(LiteralValue::False),
         Word::Reserved(Reserved::On) => Some(LiteralValue::On),
         Word::Reserved(Reserved::Off) => Some(LiteralValue::Off),
-        _ => None,
-    }
-}
-
-/// The conversion that a word begins.
-#[tactic(auto, unfolding(crate::specs::ReadingExpressions::conversion_of))]
-pub(crate) fn conversion_of(word: &Word) -> Option<Conversion>
-    ensures { option_map seen_conversion result ≡ conversion_of word.now }
-{
-    match word {
-        Word::Reserved(Reserved::Integer) => Some(Conversion::Integer),
-        Word::Reserved(Reserved::Bit) => Some(Conversion::Bit),
-        Word::Reserved(Reserved::Character) => Some(Conversion::Character),
         _ => None,
     }
 }
