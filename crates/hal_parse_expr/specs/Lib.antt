@@ -1,3 +1,4 @@
 pub mod Reading
 pub mod ReadingExpressions
+pub mod Best
 pub mod Seen
