@@ -4,3 +4,7 @@ pub mod ShorteningExpressions
 pub mod ShorteningPrimaries
 pub mod Readings
 pub mod Rows
+pub mod ReadLeaves
+pub mod ReadRows
+pub mod ReadTerms
+pub mod ReadSums

@@ -1,0 +1,118 @@
+-- The readers of factors and terms.
+use Rattle.std.proofs.Common.{◌≡◌, ℕ, ◌<◌, ◌≤◌, List, [], ◌∷◌, length, Option, Some, None, refl, ap, sym, ◌∙◌, subst, arith}
+use Rattle.hal_base.specs.declared.refusal.Place.{Place}
+use Rattle.hal_words.specs.declared.reserved.Reserved.TheVariants as reserved
+use Rattle.hal_words.specs.declared.word.Symbol.TheVariants as symbol
+use Rattle.hal_words.specs.declared.word.Word.TheVariants as word
+use Rattle.hal_grammar.specs.Leaves.{Sign}
+use Rattle.hal_grammar.specs.Expressions.{Expression, Summed, Multiplied, Powered, Expressions, NoExpressions, MoreExpressions, Terms, MoreTerms, nesting, nesting_of_all, nesting_of_terms, place_of}
+use Rattle.hal_grammar.specs.Words.{Words, BeginsReserved, At}
+use Rattle.hal_grammar.specs.SpellsExpressions.{SpellsSign, SpellsExpression, both, comparison, cat, SpellsSum, sum, term, summed, signed, SpellsTerms, no_terms, more_terms, SpellsTerm, factor, multiplied, SpellsFactors, no_factors, more_factors, SpellsFactor, primary, powered, SpellsPrimary}
+use Rattle.hal_grammar.specs.GoesOn.{strength, Outcome}
+use Rattle.hal_grammar.proofs.Outcomes.{made, back}
+use Rattle.hal_grammar.proofs.Leaves.{one_sign}
+use Rattle.hal_grammar.proofs.Beginnings.{term_opens, sign_strength, terms_ends, factors_ends}
+use Rattle.hal_grammar.proofs.OneExpression.{one_sum, one_term, one_factor}
+use Rattle.hal_grammar.proofs.PlacedExpressions.{expression_placed}
+use Rattle.hal_parse_expr.specs.Reading.{Read, Reader, followed, made_of, with_tail, past, past_symbol, all}
+use Rattle.hal_parse_expr.specs.ReadingExpressions.{expressions, SignedTerm, terms, sign_at, factor_of, further_factor, row_of, row_at, term_of, signed_term, sum_from, unsigned_sum, signed_sum, sum_of}
+use Rattle.hal_parse_expr.proofs.FirstWords.{PastOf, is_past, not_past, past_of, past_none}
+use Rattle.hal_parse_expr.proofs.Shortening.{Below, Shortens, weaker, all_keeps}
+use Rattle.hal_parse_expr.proofs.ShorteningExpressions.{factor_shortens, further_factor_shortens, term_shortens, signed_term_shortens, sum_shortens}
+use Rattle.hal_parse_expr.proofs.Readings.{Holds, holds_none, holds, Reaches, reaches, Phrase, IsOneUp, Reads, weaker_holds, made_holds, followed_holds, tail_holds, followed_at, followed_reaches, made_reaches, tail_reaches, tail_keeps, met}
+use Rattle.hal_parse_expr.proofs.Rows.{all_sound, all_step, first_then, first_alone}
+use Rattle.hal_parse_expr.proofs.ReadLeaves.{IsSign, is_sign, sign_sound, sign_here, unsigned}
+use Rattle.hal_parse_expr.proofs.ReadRows.{Behind, behind_it, behind_symbol, IsRow, row_sound}
+
+-- the reader of primaries that are nested at most so deep
+abbrev pub Primaries : ℕ → Reader Expression → Type 0
+Primaries n read = Reads SpellsPrimary nesting n 9 read
+
+powered_in : {n : ℕ} {t u : Expression} {b m a : Words} → Phrase SpellsPrimary nesting n b t m → Behind (word.Symbol symbol.Power) SpellsPrimary u m a → nesting u ≤ n →
+    Phrase SpellsFactor nesting n b (Powered (place_of t) t u) a
+powered_in p (behind_it e) l =
+    record { spells = powered (expression_placed (both (comparison (cat (sum (term (factor (primary p.spells)))))))) p.spells e; shallow = omega (arith, p.shallow) }
+
+factor_sound : {n : ℕ} (read : Reader Expression) → Primaries n read → (words : Words) → Holds (Phrase SpellsFactor nesting n words) (factor_of read words)
+unfolding factor_of
+factor_sound read h words = followed_holds (h.sound words) (λ t rest p. tail_holds _ t rest (record { spells = primary p.spells; shallow = p.shallow })
+    ((behind_symbol read h symbol.Power).sound rest) (λ u after q. powered_in p q.spells q.shallow))
+
+factor_reach : {n : ℕ} (read : Reader Expression) → Primaries n read → {t : Expression} {b a : Words} → SpellsFactor t b a → nesting t ≤ n → Reaches (length a) (factor_of read b)
+unfolding factor_of
+factor_reach read h (primary d) l =
+    followed_reaches (h.reach _ _ _ d l) (λ t rest k. tail_keeps _ t rest _ k (weaker _ _ (omega arith) _ ((behind_symbol read h symbol.Power).short rest)))
+factor_reach read h (powered i d e) l =
+    followed_at _ (met h d (omega arith) (omega arith)) (tail_reaches _ _ _ ((behind_symbol read h symbol.Power).reach _ _ _ (behind_it e) (omega arith)))
+
+pub factor_reads : {n : ℕ} (read : Reader Expression) → Primaries n read → Reads SpellsFactor nesting n 8 (factor_of read)
+factor_reads read h = record {
+    sound = factor_sound read h;
+    reach = λ t b a d l. factor_reach read h d l;
+    one = λ t u w a b d e. one_factor d e;
+    short = factor_shortens read h.short
+  }
+
+-- a factor that doesn't begin with NOT
+data FurtherFactor : Expression → Words → Words → Type 0 where
+  not_negated : {t : Expression} {before after : Words} → ¬ BeginsReserved reserved.Not before → SpellsFactor t before after → FurtherFactor t before after
+
+further_in : {n : ℕ} {words : Words} {o : Read Place} {r : Read Expression} → PastOf (word.Reserved reserved.Not) words o → Holds (Phrase SpellsFactor nesting n words) r →
+    Holds (Phrase FurtherFactor nesting n words) (elim o [ None ↦ r | Some f ↦ None ])
+further_in is_past h = holds_none
+further_in (not_past m) h = weaker_holds h (λ t a p. record { spells = not_negated m p.spells; shallow = p.shallow })
+
+further_sound : {n : ℕ} (read : Reader Expression) → Primaries n read → (words : Words) → Holds (Phrase FurtherFactor nesting n words) (further_factor read words)
+unfolding further_factor
+further_sound read h words = further_in (past_of reserved.Not words) (factor_sound read h words)
+
+further_reach : {n : ℕ} (read : Reader Expression) → Primaries n read → {t : Expression} {b a : Words} → FurtherFactor t b a → nesting t ≤ n → Reaches (length a) (further_factor read b)
+unfolding further_factor
+further_reach read h {b = b} {a = a} (not_negated m d) l =
+    subst (λ o. Reaches (length a) (elim o [ None ↦ factor_of read b | Some f ↦ None ])) (sym (past_none reserved.Not b m)) (factor_reach read h d l)
+
+one_further_factor : {t u : Expression} {b a c : Words} → FurtherFactor t b a → FurtherFactor u b c → Outcome 8 t a u c
+one_further_factor (not_negated m d) (not_negated k e) = one_factor d e
+
+further_reads : {n : ℕ} (read : Reader Expression) → Primaries n read → Reads FurtherFactor nesting n 8 (further_factor read)
+further_reads read h = record {
+    sound = further_sound read h;
+    reach = λ t b a d l. further_reach read h d l;
+    one = λ t u w a b d e. one_further_factor d e;
+    short = further_factor_shortens read h.short
+  }
+
+factors_then : {t : Expression} {ts : Expressions} {b m a : Words} → FurtherFactor t b m → SpellsFactors ts m a → SpellsFactors (MoreExpressions t ts) b a
+factors_then (not_negated m d) ds = more_factors m d ds
+
+factors_ended : {b a : Words} → SpellsFactors NoExpressions b a → b ≡ a
+factors_ended no_factors = refl
+
+product : IsRow Multiplied SpellsFactor FurtherFactor SpellsTerm SpellsFactors
+product = record {
+    alone = λ t b a d. factor d;
+    row = λ t u us b m a d ds. multiplied (expression_placed (both (comparison (cat (sum (term (factor d))))))) d ds;
+    deep = λ p t us. refl;
+    ended = λ b a d. factors_ended d;
+    nil = λ a. no_factors;
+    cons = λ t ts b m a d ds. factors_then d ds
+  }
+
+factors_far : {n : ℕ} (read : Reader Expression) → Primaries n read → {ts : Expressions} {b a : Words} → SpellsFactors ts b a → nesting_of_all ts ≤ n → length (all (further_factor read) b).1 ≤ length a
+factors_far read h {a = a} no_factors l = all_keeps (further_factor read) (further_factor_shortens read h.short) a
+factors_far read h (more_factors m d ds) l = all_step (further_factor read) (further_reads read h) (not_negated m d) (omega arith) (factors_ends ds) (factors_far read h ds (omega arith))
+
+term_reach : {n : ℕ} (read : Reader Expression) → Primaries n read → {t : Expression} {b a : Words} → SpellsTerm t b a → nesting t ≤ n → Reaches (length a) (term_of read b)
+unfolding term_of row_at
+term_reach read h (factor d) l = first_alone _ _ (row_of Multiplied) (factor_reads read h) (further_factor_shortens read h.short) d l
+term_reach read h (multiplied i d ds) l =
+    first_then _ _ (row_of Multiplied) (factor_reads read h) (further_factor_shortens read h.short) d (omega arith) (factors_ends ds) (factors_far read h ds (omega arith))
+
+pub term_reads : {n : ℕ} (read : Reader Expression) → Primaries n read → Reads SpellsTerm nesting n 7 (term_of read)
+unfolding term_of
+term_reads read h = record {
+    sound = row_sound (factor_of read) (further_factor read) product (factor_reads read h) (further_reads read h);
+    reach = λ t b a d l. term_reach read h d l;
+    one = λ t u w a b d e. one_term d e;
+    short = term_shortens read h.short
+  }
