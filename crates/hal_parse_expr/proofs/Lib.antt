@@ -8,3 +8,4 @@ pub mod ReadLeaves
 pub mod ReadRows
 pub mod ReadTerms
 pub mod ReadSums
+pub mod ReadChains

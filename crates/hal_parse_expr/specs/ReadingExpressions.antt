@@ -12,7 +12,7 @@ use Rattle.hal_words.specs.declared.word.Token.{Token}
 use Rattle.hal_grammar.specs.Leaves.{Naming, Sign, Added, Subtracted, Relation, IsEqual, IsLess, IsGreater, IsAtMost, IsAtLeast, IsNotEqual, IsNotLess, IsNotGreater, Conversion, ToInteger, ToBits, ToText, Literal, WholeNumber, QuotedText, BitPattern, TrueBit, FalseBit, OnBit, OffBit}
 use Rattle.hal_grammar.specs.Expressions.{Expression, Ors, Ands, Compared, Joined, Summed, Multiplied, Powered, Negated, Literally, Thousandths, Referred, Called, Converted, Enclosed, Expressions, NoExpressions, MoreExpressions, Terms, NoTerms, MoreTerms, Reference, Refers, Subscript, Unsubscripted, ByName, ByInteger, ByParts, Subscripts, NoSubscripts, MoreSubscripts, Sub, EveryPlace, OnePlace, Range, Portion, Position, FromBeginning, FromEnd, place_of}
 use Rattle.hal_grammar.specs.Words.{Words}
-use Rattle.hal_parse_expr.specs.Reading.{Read, Reader, followed, made_of, with_tail, or_else, where_true, past, past_symbol, is_reserved, name_at, integer_at, before_symbol, all, parted}
+use Rattle.hal_parse_expr.specs.Reading.{Read, Reader, followed, made_of, with_tail, or_else, decided, where_true, past, past_symbol, is_reserved, name_at, integer_at, before_symbol, all, parted}
 
 -- expressions one after another, as a list of the grammar
 unfoldable pub expressions : List Expression → Expressions
@@ -211,7 +211,7 @@ components_of primary words =
 -- behind subscripts that the first part, behind its semicolon, doesn't have: a colon and the third part, or the parenthesis
 unfoldable pub arrays_then : Reader Expression → Subscripts → Subscripts → Reader Parts
 arrays_then primary copies xs rest =
-    or_else (followed (past_symbol symbol.Colon rest) (λ p after. made_of (λ ys. (copies, xs, ys)) (components_of primary after)))
+    decided (past_symbol symbol.Colon rest) (λ p after. made_of (λ ys. (copies, xs, ys)) (components_of primary after))
     (made_of (λ p. (copies, NoSubscripts, xs)) (past_symbol symbol.RightParenthesis rest))
 
 -- the second and the third part and the parenthesis
@@ -223,7 +223,7 @@ arrays_of primary copies words =
 -- behind the first subscripts: a semicolon and the other parts, or they are of a later part
 unfoldable pub copies_then : Reader Expression → Subscripts → Reader Parts
 copies_then primary xs rest =
-    or_else (followed (past_symbol symbol.Semicolon rest) (λ p after. arrays_of primary xs after)) (arrays_then primary NoSubscripts xs rest)
+    decided (past_symbol symbol.Semicolon rest) (λ p after. arrays_of primary xs after) (arrays_then primary NoSubscripts xs rest)
 
 -- the three parts and the parenthesis
 unfoldable pub parts_of : Reader Expression → Reader Parts
