@@ -9,3 +9,4 @@ pub mod ReadRows
 pub mod ReadTerms
 pub mod ReadSums
 pub mod ReadChains
+pub mod ReadLists

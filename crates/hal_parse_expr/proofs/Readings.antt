@@ -128,3 +128,31 @@ best_in one (holds p) r = found (record { reads = p.spells; shallow = p.shallow;
 -- such a reader gives the best phrase
 pub best : {X : Type 0} {R : X → Words → Words → Type 0} {depth : X → ℕ} {n c : ℕ} {read : Reader X} → Reads R depth n c read → (words : Words) → BestOf R depth n c words (read words)
 best r words = best_in r.one (r.sound words) (λ y rest d l. r.reach y words rest d l)
+
+-- what is known to be found is reached
+pub reached : {X : Type 0} {k : ℕ} {o : Read X} {x : X} {a : Words} → o ≡ Some (x, a) → length a ≤ k → Reaches k o
+reached {k = k} e l = subst (λ o. Reaches k o) (sym e) (reaches l)
+
+pub followed_equals : {X Y : Type 0} {o : Read X} (next : X → Words → Read Y) {x : X} {m : Words} {r : Read Y} → o ≡ Some (x, m) → next x m ≡ r → followed o next ≡ r
+unfolding followed
+followed_equals next e f = ap (λ o. followed o next) e ∙ f
+
+pub followed_none : {X Y : Type 0} {o : Read X} (next : X → Words → Read Y) → o ≡ None → followed o next ≡ None
+unfolding followed
+followed_none next e = ap (λ o. followed o next) e
+
+pub made_equals : {X Y : Type 0} {o : Read X} (make : X → Y) {x : X} {a : Words} → o ≡ Some (x, a) → made_of make o ≡ Some (make x, a)
+unfolding made_of
+made_equals make e = ap (λ o. made_of make o) e
+
+pub made_none : {X Y : Type 0} {o : Read X} (make : X → Y) → o ≡ None → made_of make o ≡ None
+unfolding made_of
+made_none make e = ap (λ o. made_of make o) e
+
+pub or_equals : {X : Type 0} {o : Read X} (other : Read X) {f : X × Words} → o ≡ Some f → or_else o other ≡ Some f
+unfolding or_else
+or_equals other e = ap (λ o. or_else o other) e
+
+pub or_next : {X : Type 0} {o other r : Read X} → o ≡ None → other ≡ r → or_else o other ≡ r
+unfolding or_else
+or_next {other = other} e f = ap (λ o. or_else o other) e ∙ f
