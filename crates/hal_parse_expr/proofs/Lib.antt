@@ -10,3 +10,5 @@ pub mod ReadTerms
 pub mod ReadSums
 pub mod ReadChains
 pub mod ReadLists
+pub mod ReadBefore
+pub mod ReadPositions
