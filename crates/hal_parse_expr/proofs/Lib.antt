@@ -12,3 +12,4 @@ pub mod ReadChains
 pub mod ReadLists
 pub mod ReadBefore
 pub mod ReadPositions
+pub mod ReadParts

@@ -4,7 +4,7 @@ use Rattle.hal_words.specs.declared.reserved.Reserved.{Reserved}
 use Rattle.hal_words.specs.declared.word.Symbol.{Symbol}
 use Rattle.hal_grammar.specs.Words.{Words}
 use Rattle.hal_grammar.specs.GoesOn.{strength, Outcome, same, sooner, later}
-use Rattle.hal_parse_expr.specs.Reading.{Read, Reader, followed, made_of, with_tail, or_else}
+use Rattle.hal_parse_expr.specs.Reading.{Read, Reader, followed, made_of, with_tail, or_else, decided}
 use Rattle.hal_parse_expr.specs.Best.{BestOf, nothing, found}
 use Rattle.hal_parse_expr.proofs.Shortening.{Below, Shortens}
 
@@ -156,3 +156,11 @@ or_equals other e = ap (λ o. or_else o other) e
 pub or_next : {X : Type 0} {o other r : Read X} → o ≡ None → other ≡ r → or_else o other ≡ r
 unfolding or_else
 or_next {other = other} e f = ap (λ o. or_else o other) e ∙ f
+
+pub decided_equals : {X Y : Type 0} {o : Read X} (next : X → Words → Read Y) (other : Read Y) {x : X} {m : Words} {r : Read Y} → o ≡ Some (x, m) → next x m ≡ r → decided o next other ≡ r
+unfolding decided
+decided_equals next other e f = ap (λ o. decided o next other) e ∙ f
+
+pub decided_other : {X Y : Type 0} {o : Read X} (next : X → Words → Read Y) {other r : Read Y} → o ≡ None → other ≡ r → decided o next other ≡ r
+unfolding decided
+decided_other next {other = other} e f = ap (λ o. decided o next other) e ∙ f
