@@ -13,3 +13,4 @@ pub mod ReadLists
 pub mod ReadBefore
 pub mod ReadPositions
 pub mod ReadParts
+pub mod ReadReferences
