@@ -14,3 +14,6 @@ pub mod ReadBefore
 pub mod ReadPositions
 pub mod ReadParts
 pub mod ReadReferences
+pub mod ReadPrimaries
+pub mod Longest
+pub mod BestReadings
