@@ -1,10 +1,9 @@
 -- What a best reading says of a phrase that ends at a word with which it doesn't go on.
-use Rattle.std.proofs.Common.{◌≡◌, ℕ, ◌<◌, ◌≤◌, ◌⊎◌, inl, inr, ◌∷◌, length, Option, Some, None, refl, ap, sym, ◌∙◌, subst, arith}
+use Rattle.std.proofs.Common.{◌≡◌, ℕ, ◌<◌, ◌≤◌, ◌⊎◌, inl, inr, ◌∷◌, length, Some, None, sym, ◌∙◌, subst, arith}
 use Rattle.hal_base.specs.declared.refusal.Place.{Place}
 use Rattle.hal_words.specs.declared.reserved.Reserved.{Reserved}
 use Rattle.hal_words.specs.declared.word.Symbol.{Symbol}
 use Rattle.hal_words.specs.declared.word.Word.{Word}
-use Rattle.hal_words.specs.declared.word.Word.TheVariants as word
 use Rattle.hal_grammar.specs.Words.{Words, token, reserved_then, symbol_then}
 use Rattle.hal_grammar.specs.GoesOn.{strength}
 use Rattle.hal_parse_expr.specs.Reading.{Read, before_symbol, before}

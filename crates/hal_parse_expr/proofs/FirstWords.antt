@@ -1,6 +1,6 @@
 -- What the first words are.
-use denote.Enum.Bare.{sameb, same_true, true_same, false_same}
-use Rattle.std.proofs.Common.{◌≡◌, ◌≢◌, Bool, true, false, [], ◌∷◌, Option, Some, None, refl, ap, sym, ◌∙◌, subst}
+use denote.Enum.Bare.{sameb, same_true, true_same}
+use Rattle.std.proofs.Common.{◌≡◌, Bool, true, false, [], ◌∷◌, Some, None, refl, ap, sym, ◌∙◌, subst}
 use Rattle.hal_base.specs.declared.refusal.Place.{Place}
 use Rattle.hal_words.specs.contracts.reserved.Reserved.{the_type as reserved_type}
 use Rattle.hal_words.specs.contracts.word.Symbol.{the_type as symbol_type}

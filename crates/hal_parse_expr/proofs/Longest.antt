@@ -1,11 +1,11 @@
 -- The reading functions give the best phrase: the longest expression, list of expressions or reference that is nested at most so deep.
-use Rattle.std.proofs.Common.{◌≡◌, ℕ, ◌≤◌, refl}
+use Rattle.std.proofs.Common.{ℕ}
 use Rattle.hal_grammar.specs.Expressions.{nesting, nesting_of_all, nesting_of_reference}
 use Rattle.hal_grammar.specs.Words.{Words}
 use Rattle.hal_grammar.specs.SpellsExpressions.{SpellsExpression, SpellsExpressions, SpellsReference}
-use Rattle.hal_parse_expr.specs.ReadingExpressions.{expression_of, expressions_of, primary_at, expression_at, expressions_at, reference_at}
+use Rattle.hal_parse_expr.specs.ReadingExpressions.{primary_at, expression_at, expressions_at, reference_at}
 use Rattle.hal_parse_expr.specs.Best.{BestOf}
-use Rattle.hal_parse_expr.proofs.Readings.{Reads, best}
+use Rattle.hal_parse_expr.proofs.Readings.{best}
 use Rattle.hal_parse_expr.proofs.ReadChains.{expression_reads}
 use Rattle.hal_parse_expr.proofs.ReadLists.{expressions_reads}
 use Rattle.hal_parse_expr.proofs.ReadPrimaries.{primary_reads, reference_reads}

@@ -1,5 +1,5 @@
 -- The readers of phrases that a word must follow.
-use Rattle.std.proofs.Common.{◌≡◌, ℕ, ◌≤◌, ◌∷◌, Some, None, refl, arith}
+use Rattle.std.proofs.Common.{◌≡◌, ℕ, ◌≤◌, ◌∷◌, Some}
 use Rattle.hal_base.specs.declared.refusal.Place.{Place}
 use Rattle.hal_words.specs.declared.reserved.Reserved.{Reserved}
 use Rattle.hal_words.specs.declared.word.Symbol.{Symbol}
@@ -7,7 +7,7 @@ use Rattle.hal_words.specs.declared.word.Word.{Word}
 use Rattle.hal_words.specs.declared.word.Word.TheVariants as word
 use Rattle.hal_grammar.specs.Words.{Words, token, reserved_then, symbol_then}
 use Rattle.hal_grammar.specs.GoesOn.{strength}
-use Rattle.hal_parse_expr.specs.Reading.{Read, Reader, followed, made_of, past, past_symbol, before_symbol, before}
+use Rattle.hal_parse_expr.specs.Reading.{Read, Reader, made_of, before_symbol, before}
 use Rattle.hal_parse_expr.proofs.FirstWords.{PastOf, is_past, not_past, past_of, past_symbol_of, past_here, past_symbol_here}
 use Rattle.hal_parse_expr.proofs.Readings.{Holds, holds_none, holds, Phrase, Reads, followed_holds, followed_equals, made_equals, met}
 

@@ -1,6 +1,5 @@
 -- The readers of chains of CAT, comparisons, chains of AND and expressions.
-use Rattle.std.proofs.Common.{◌≡◌, ℕ, ◌<◌, ◌≤◌, List, length, refl, arith}
-use Rattle.hal_base.specs.declared.refusal.Place.{Place}
+use Rattle.std.proofs.Common.{◌≡◌, ℕ, ◌≤◌, length, refl, arith}
 use Rattle.hal_words.specs.declared.reserved.Reserved.{Reserved}
 use Rattle.hal_words.specs.declared.reserved.Reserved.TheVariants as reserved
 use Rattle.hal_words.specs.declared.word.Word.TheVariants as word
@@ -34,13 +33,13 @@ cats_ended no_cat = refl
 
 cats_row : IsRow Joined SpellsSum (Behind (word.Reserved reserved.Cat) SpellsSum) SpellsCat SpellsCats
 cats_row = record {
-    alone = λ t b a d. sum d;
-    row = λ t u us b m a d ds. joined (expression_placed (both (comparison (cat (sum d))))) d ds;
-    deep = λ p t us. refl;
-    ended = λ b a d. cats_ended d;
-    nil = λ a. no_cat;
-    cons = λ t ts b m a d ds. cats_then d ds
-  }
+  alone = λ t b a d. sum d;
+  row = λ t u us b m a d ds. joined (expression_placed (both (comparison (cat (sum d))))) d ds;
+  deep = λ p t us. refl;
+  ended = λ b a d. cats_ended d;
+  nil = λ a. no_cat;
+  cons = λ t ts b m a d ds. cats_then d ds;
+}
 
 further_sums : {n : ℕ} (read : Reader Expression) → Primaries n read → Reads (Behind (word.Reserved reserved.Cat) SpellsSum) nesting n 6 (behind reserved.Cat (sum_of read))
 further_sums read h = behind_reads (sum_of read) (sum_reads read h) reserved.Cat
@@ -58,11 +57,11 @@ cat_reach read h (joined i d ds) l = first_then _ _ (row_of Joined) (sum_reads r
 pub cat_reads : {n : ℕ} (read : Reader Expression) → Primaries n read → Reads SpellsCat nesting n 5 (cat_of read)
 unfolding cat_of
 cat_reads read h = record {
-    sound = row_sound (sum_of read) (behind reserved.Cat (sum_of read)) cats_row (sum_reads read h) (further_sums read h);
-    reach = λ t b a d l. cat_reach read h d l;
-    one = λ t u w a b d e. one_cat d e;
-    short = cat_shortens read h.short
-  }
+  sound = row_sound (sum_of read) (behind reserved.Cat (sum_of read)) cats_row (sum_reads read h) (further_sums read h);
+  reach = λ t b a d l. cat_reach read h d l;
+  one = λ t u w a b d e. one_cat d e;
+  short = cat_shortens read h.short;
+}
 
 -- a relation and what stands behind it
 data SpellsRelated : Relation × Expression → Words → Words → Type 0 where
@@ -95,11 +94,11 @@ comparison_reach read h (compared i d r e) l =
 
 pub comparison_reads : {n : ℕ} (read : Reader Expression) → Primaries n read → Reads SpellsComparison nesting n 4 (comparison_of read)
 comparison_reads read h = record {
-    sound = comparison_sound read h;
-    reach = λ t b a d l. comparison_reach read h d l;
-    one = λ t u w a b d e. one_comparison d e;
-    short = comparison_shortens read h.short
-  }
+  sound = comparison_sound read h;
+  reach = λ t b a d l. comparison_reach read h d l;
+  one = λ t u w a b d e. one_comparison d e;
+  short = comparison_shortens read h.short;
+}
 
 ands_then : {t : Expression} {ts : Expressions} {b m a : Words} → Behind (word.Reserved reserved.And) SpellsComparison t b m → SpellsAnds ts m a → SpellsAnds (MoreExpressions t ts) b a
 ands_then (behind_it d) ds = and_more d ds
@@ -109,13 +108,13 @@ ands_ended no_and = refl
 
 ands_row : IsRow Ands SpellsComparison (Behind (word.Reserved reserved.And) SpellsComparison) SpellsBoth SpellsAnds
 ands_row = record {
-    alone = λ t b a d. comparison d;
-    row = λ t u us b m a d ds. ands (expression_placed (both (comparison d))) d ds;
-    deep = λ p t us. refl;
-    ended = λ b a d. ands_ended d;
-    nil = λ a. no_and;
-    cons = λ t ts b m a d ds. ands_then d ds
-  }
+  alone = λ t b a d. comparison d;
+  row = λ t u us b m a d ds. ands (expression_placed (both (comparison d))) d ds;
+  deep = λ p t us. refl;
+  ended = λ b a d. ands_ended d;
+  nil = λ a. no_and;
+  cons = λ t ts b m a d ds. ands_then d ds;
+}
 
 further_comparisons : {n : ℕ} (read : Reader Expression) → Primaries n read → Reads (Behind (word.Reserved reserved.And) SpellsComparison) nesting n 4 (behind reserved.And (comparison_of read))
 further_comparisons read h = behind_reads (comparison_of read) (comparison_reads read h) reserved.And
@@ -134,11 +133,11 @@ both_reach read h (ands i d ds) l =
 pub both_reads : {n : ℕ} (read : Reader Expression) → Primaries n read → Reads SpellsBoth nesting n 3 (both_of read)
 unfolding both_of
 both_reads read h = record {
-    sound = row_sound (comparison_of read) (behind reserved.And (comparison_of read)) ands_row (comparison_reads read h) (further_comparisons read h);
-    reach = λ t b a d l. both_reach read h d l;
-    one = λ t u w a b d e. one_both d e;
-    short = both_shortens read h.short
-  }
+  sound = row_sound (comparison_of read) (behind reserved.And (comparison_of read)) ands_row (comparison_reads read h) (further_comparisons read h);
+  reach = λ t b a d l. both_reach read h d l;
+  one = λ t u w a b d e. one_both d e;
+  short = both_shortens read h.short;
+}
 
 ors_then : {t : Expression} {ts : Expressions} {b m a : Words} → Behind (word.Reserved reserved.Or) SpellsBoth t b m → SpellsOrs ts m a → SpellsOrs (MoreExpressions t ts) b a
 ors_then (behind_it d) ds = or_more d ds
@@ -148,13 +147,13 @@ ors_ended no_or = refl
 
 ors_row : IsRow Ors SpellsBoth (Behind (word.Reserved reserved.Or) SpellsBoth) SpellsExpression SpellsOrs
 ors_row = record {
-    alone = λ t b a d. both d;
-    row = λ t u us b m a d ds. ors (expression_placed (both d)) d ds;
-    deep = λ p t us. refl;
-    ended = λ b a d. ors_ended d;
-    nil = λ a. no_or;
-    cons = λ t ts b m a d ds. ors_then d ds
-  }
+  alone = λ t b a d. both d;
+  row = λ t u us b m a d ds. ors (expression_placed (both d)) d ds;
+  deep = λ p t us. refl;
+  ended = λ b a d. ors_ended d;
+  nil = λ a. no_or;
+  cons = λ t ts b m a d ds. ors_then d ds;
+}
 
 further_boths : {n : ℕ} (read : Reader Expression) → Primaries n read → Reads (Behind (word.Reserved reserved.Or) SpellsBoth) nesting n 3 (behind reserved.Or (both_of read))
 further_boths read h = behind_reads (both_of read) (both_reads read h) reserved.Or
@@ -172,8 +171,8 @@ expression_reach read h (ors i d ds) l = first_then _ _ (row_of Ors) (both_reads
 pub expression_reads : {n : ℕ} (read : Reader Expression) → Primaries n read → Reads SpellsExpression nesting n 2 (expression_of read)
 unfolding expression_of
 expression_reads read h = record {
-    sound = row_sound (both_of read) (behind reserved.Or (both_of read)) ors_row (both_reads read h) (further_boths read h);
-    reach = λ t b a d l. expression_reach read h d l;
-    one = λ t u w a b d e. one_expression d e;
-    short = expression_shortens read h.short
-  }
+  sound = row_sound (both_of read) (behind reserved.Or (both_of read)) ors_row (both_reads read h) (further_boths read h);
+  reach = λ t b a d l. expression_reach read h d l;
+  one = λ t u w a b d e. one_expression d e;
+  short = expression_shortens read h.short;
+}

@@ -1,5 +1,5 @@
 -- The readers of leaves: signs, relations, literals and names.
-use Rattle.std.proofs.Common.{◌≡◌, ℕ, ◌<◌, ◌≤◌, List, [], ◌∷◌, length, Option, Some, None, refl, ap, sym, ◌∙◌, subst, arith}
+use Rattle.std.proofs.Common.{◌≡◌, ℕ, ◌≤◌, List, [], ◌∷◌, length, Option, Some, None, refl, ap, ◌∙◌, arith}
 use Rattle.hal_base.specs.declared.refusal.Place.{Place}
 use Rattle.hal_words.specs.declared.reserved.Reserved.TheVariants as reserved
 use Rattle.hal_words.specs.declared.word.Symbol.TheVariants as symbol
@@ -13,12 +13,12 @@ use Rattle.hal_grammar.proofs.Outcomes.{Ends, ends_here, ends_later}
 use Rattle.hal_grammar.proofs.Shorter.{further_shorter}
 use Rattle.hal_grammar.proofs.Leaves.{one_further}
 use Rattle.hal_grammar.proofs.Beginnings.{Opening, Opening-unsigned, sign_strength}
-use Rattle.hal_parse_expr.specs.Reading.{Read, Reader, followed, or_else, past, past_symbol, name_at, integer_at, all}
+use Rattle.hal_parse_expr.specs.Reading.{Read, followed, or_else, past, name_at, integer_at, all}
 use Rattle.hal_parse_expr.specs.ReadingExpressions.{sign_of, sign_at, plain_relation, negated_relation, said, relation_at, literal_of, further_at}
 use Rattle.hal_parse_expr.proofs.FirstWords.{PastOf, is_past, not_past, past_of, past_symbol_of, past_here, past_symbol_here}
 use Rattle.hal_parse_expr.proofs.Shortening.{all_keeps}
 use Rattle.hal_parse_expr.proofs.ShorteningExpressions.{further_shortens}
-use Rattle.hal_parse_expr.proofs.Readings.{Holds, holds_none, holds, Reaches, reaches, Phrase, IsOneUp, Reads, followed_at, or_holds}
+use Rattle.hal_parse_expr.proofs.Readings.{Holds, holds_none, holds, Reaches, reaches, Phrase, Reads, followed_at, or_holds}
 use Rattle.hal_parse_expr.proofs.Rows.{all_sound, all_step}
 
 -- a name at the front

@@ -1,23 +1,19 @@
 -- The readers of phrases that are parted by commas, and of those that a parenthesis ends.
-use Rattle.std.proofs.Common.{◌≡◌, ℕ, ◌<◌, ◌≤◌, List, [], ◌∷◌, length, max, Some, None, refl, ap, subst, arith}
+use Rattle.std.proofs.Common.{◌≡◌, ℕ, ◌<◌, ◌≤◌, List, [], ◌∷◌, length, max, refl, ap, subst, arith}
 use Rattle.hal_base.specs.declared.refusal.Place.{Place}
-use Rattle.hal_words.specs.declared.reserved.Reserved.{Reserved}
-use Rattle.hal_words.specs.declared.word.Symbol.{Symbol}
 use Rattle.hal_words.specs.declared.word.Symbol.TheVariants as symbol
-use Rattle.hal_words.specs.declared.word.Word.{Word}
 use Rattle.hal_words.specs.declared.word.Word.TheVariants as word
 use Rattle.hal_grammar.specs.Expressions.{Expression, Expressions, NoExpressions, MoreExpressions, nesting, nesting_of_all}
-use Rattle.hal_grammar.specs.Words.{Words, token, reserved_then, symbol_then}
+use Rattle.hal_grammar.specs.Words.{Words, symbol_then}
 use Rattle.hal_grammar.specs.SpellsExpressions.{SpellsExpression, SpellsExpressions, last_expression, more_expressions}
 use Rattle.hal_grammar.proofs.Outcomes.{ends_here, ends_later}
 use Rattle.hal_grammar.proofs.Shorter.{expressions_shorter}
 use Rattle.hal_grammar.proofs.OneExpression.{one_expressions}
-use Rattle.hal_parse_expr.specs.Reading.{Read, Reader, followed, made_of, past, past_symbol, before_symbol, before, all, after_comma, parted}
+use Rattle.hal_parse_expr.specs.Reading.{Reader, all, after_comma, parted}
 use Rattle.hal_parse_expr.specs.ReadingExpressions.{expressions, expression_of, expressions_of}
-use Rattle.hal_parse_expr.proofs.FirstWords.{PastOf, is_past, not_past, past_of, past_symbol_of, past_here, past_symbol_here}
 use Rattle.hal_parse_expr.proofs.Shortening.{all_keeps}
 use Rattle.hal_parse_expr.proofs.ShorteningExpressions.{expressions_shortens}
-use Rattle.hal_parse_expr.proofs.Readings.{Holds, holds_none, holds, Reaches, Phrase, Reads, made_holds, followed_holds, made_reaches, followed_equals, made_equals}
+use Rattle.hal_parse_expr.proofs.Readings.{Holds, holds, Reaches, Phrase, Reads, made_holds, followed_holds, made_reaches}
 use Rattle.hal_parse_expr.proofs.Rows.{all_sound, all_step, first_then, first_alone}
 use Rattle.hal_parse_expr.proofs.ReadRows.{Behind, behind_it, behind_symbol}
 use Rattle.hal_parse_expr.proofs.ReadTerms.{Primaries}
@@ -90,11 +86,11 @@ comma_more read h w p a d l k far = all_step (after_comma read) (comma_reads rea
 
 parted_expressions : IsParted nesting nesting_of_all NoExpressions MoreExpressions SpellsExpression SpellsExpressions
 parted_expressions = record {
-    last = λ x b a d. last_expression d;
-    more = λ x z p b m a d ds. more_expressions d ds;
-    none_deep = refl;
-    deep = λ x z. refl
-  }
+  last = λ x b a d. last_expression d;
+  more = λ x z p b m a d ds. more_expressions d ds;
+  none_deep = refl;
+  deep = λ x z. refl;
+}
 
 listed_expressions : (ts : List Expression) → listed_as NoExpressions MoreExpressions ts ≡ expressions ts
 unfolding expressions
@@ -120,8 +116,8 @@ expressions_reach read h {a = a} (more_expressions {p = q} d ds) l =
 
 pub expressions_reads : {n : ℕ} (read : Reader Expression) → Primaries n read → Reads SpellsExpressions nesting_of_all n 0 (expressions_of read)
 expressions_reads read h = record {
-    sound = expressions_sound read h;
-    reach = λ ts b a d l. expressions_reach read h d l;
-    one = λ t u w a b d e. one_expressions d e;
-    short = expressions_shortens read h.short
-  }
+  sound = expressions_sound read h;
+  reach = λ ts b a d l. expressions_reach read h d l;
+  one = λ t u w a b d e. one_expressions d e;
+  short = expressions_shortens read h.short;
+}

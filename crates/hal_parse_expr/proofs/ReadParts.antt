@@ -1,5 +1,5 @@
 -- The readers of the three parts of a subscript, up to the parenthesis.
-use Rattle.std.proofs.Common.{◌≡◌, ℕ, ◌≤◌, ◌∷◌, Some, None, refl, arith}
+use Rattle.std.proofs.Common.{◌≡◌, ℕ, ◌≤◌, Some, None, arith}
 use Rattle.hal_base.specs.declared.refusal.Place.{Place}
 use Rattle.hal_words.specs.declared.word.Symbol.TheVariants as symbol
 use Rattle.hal_words.specs.declared.word.Word.TheVariants as word
@@ -7,7 +7,7 @@ use Rattle.hal_grammar.specs.Expressions.{Expression, Subscripts, NoSubscripts, 
 use Rattle.hal_grammar.specs.Words.{Words, symbol_then, begins, BeginsSymbol}
 use Rattle.hal_grammar.specs.SpellsExpressions.{SpellsCopies, copies_then, no_copies, SpellsArrays, arrays_then, no_arrays, SpellsComponents, components_then, no_components, SpellsSubscripts}
 use Rattle.hal_grammar.proofs.Beginnings.{subscripts_not_right}
-use Rattle.hal_parse_expr.specs.Reading.{Read, Reader, followed, made_of, or_else, decided, past_symbol, before_symbol}
+use Rattle.hal_parse_expr.specs.Reading.{Read, Reader, made_of, decided, past_symbol}
 use Rattle.hal_parse_expr.specs.ReadingExpressions.{subs_of, Parts, components_of, arrays_then as arrays_behind, arrays_of, copies_then as copies_behind, parts_of}
 use Rattle.hal_parse_expr.proofs.FirstWords.{PastOf, is_past, not_past, past_symbol_of, past_symbol_none, past_symbol_here}
 use Rattle.hal_parse_expr.proofs.Readings.{Holds, holds_none, holds, Phrase, weaker_holds, made_holds, followed_holds, or_holds, met, followed_equals, made_equals, made_none, or_equals, or_next, decided_equals, decided_other}

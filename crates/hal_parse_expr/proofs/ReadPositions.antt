@@ -1,20 +1,19 @@
 -- The readers of places in a subscript, of subscripts, and of subscripts that are parted by commas.
-use Rattle.std.proofs.Common.{◌≡◌, ℕ, suc, ◌<◌, ◌≤◌, List, [], ◌∷◌, length, Some, None, refl, ap, subst, arith}
+use Rattle.std.proofs.Common.{◌≡◌, ℕ, ◌≤◌, List, [], ◌∷◌, length, Some, None, refl, ap, subst, arith}
 use Rattle.hal_base.specs.declared.refusal.Place.{Place}
 use Rattle.hal_words.specs.declared.reserved.Reserved.TheVariants as reserved
 use Rattle.hal_words.specs.declared.word.Symbol.TheVariants as symbol
 use Rattle.hal_words.specs.declared.word.Word.TheVariants as word
-use Rattle.hal_grammar.specs.Expressions.{Expression, Subscripts, NoSubscripts, MoreSubscripts, Sub, EveryPlace, OnePlace, Range, Portion, Position, FromBeginning, FromEnd, nesting, nesting_of_subscripts, nesting_of_sub, nesting_of_position}
-use Rattle.hal_grammar.specs.Words.{Words, reserved_then, symbol_then, begins, BeginsReserved, BeginsSymbol}
+use Rattle.hal_grammar.specs.Expressions.{Expression, Subscripts, NoSubscripts, MoreSubscripts, Sub, EveryPlace, OnePlace, Range, Portion, Position, FromBeginning, FromEnd, nesting_of_subscripts, nesting_of_sub, nesting_of_position}
+use Rattle.hal_grammar.specs.Words.{Words, symbol_then, begins, BeginsReserved, BeginsSymbol}
 use Rattle.hal_grammar.specs.SpellsExpressions.{SpellsSum, SpellsSubscripts, last_subscript, more_subscripts, SpellsSub, every_place, one_place, range, portion, SpellsPosition, from_beginning, from_end}
-use Rattle.hal_grammar.specs.GoesOn.{strength}
 use Rattle.hal_grammar.proofs.Shorter.{subscripts_shorter}
 use Rattle.hal_grammar.proofs.Beginnings.{sum_strong, position_not_star}
 use Rattle.hal_grammar.proofs.OneExpression.{one_subscripts, one_sub, one_position}
-use Rattle.hal_parse_expr.specs.Reading.{Read, Reader, followed, made_of, past, past_symbol, all, after_comma}
-use Rattle.hal_parse_expr.specs.ReadingExpressions.{terms, subscripts, signed_term, sum_of, from_end as end_of, position_of, to_position, at_position, range_from, portion_from, every_at, sub_of, subs_of}
-use Rattle.hal_parse_expr.proofs.FirstWords.{PastOf, is_past, not_past, past_of, past_symbol_of, past_none, past_symbol_none, past_symbol_here}
-use Rattle.hal_parse_expr.proofs.Shortening.{Below, weaker, made_below}
+use Rattle.hal_parse_expr.specs.Reading.{Read, Reader, followed, made_of, all, after_comma}
+use Rattle.hal_parse_expr.specs.ReadingExpressions.{terms, subscripts, signed_term, from_end as end_of, position_of, to_position, at_position, range_from, portion_from, every_at, sub_of, subs_of}
+use Rattle.hal_parse_expr.proofs.FirstWords.{PastOf, is_past, not_past, past_symbol_of, past_none, past_symbol_none, past_symbol_here}
+use Rattle.hal_parse_expr.proofs.Shortening.{weaker, made_below}
 use Rattle.hal_parse_expr.proofs.ShorteningExpressions.{position_shortens, sub_shortens, subs_shortens}
 use Rattle.hal_parse_expr.proofs.Readings.{Holds, holds_none, holds, Reaches, reaches, Phrase, Reads, made_holds, followed_holds, tail_holds, or_holds, followed_at, followed_reaches, made_reaches, or_reaches, or_other, or_either, tail_reaches, tail_keeps, met, reached, followed_none, made_equals, made_none}
 use Rattle.hal_parse_expr.proofs.ReadRows.{Behind, behind_it, behind_reserved}
@@ -47,11 +46,11 @@ end_reach read h (from_end {p = p} {before = b} d) l = or_reaches _ (followed_at
 
 pub position_reads : {n : ℕ} (read : Reader Expression) → Primaries n read → Reads SpellsPosition nesting_of_position n 6 (position_of read)
 position_reads read h = record {
-    sound = position_sound read h;
-    reach = λ x b a d l. end_reach read h d l;
-    one = λ x y w a b d e. one_position d e;
-    short = position_shortens read h.short
-  }
+  sound = position_sound read h;
+  reach = λ x b a d l. end_reach read h d l;
+  one = λ x y w a b d e. one_position d e;
+  short = position_shortens read h.short;
+}
 
 to_reads : {n : ℕ} (read : Reader Expression) → Primaries n read → Reads (Behind (word.Reserved reserved.To) SpellsPosition) nesting_of_position n 6 (to_position read)
 unfolding to_position
@@ -143,19 +142,19 @@ sub_reach read h (portion d e) l =
 
 pub sub_reads : {n : ℕ} (read : Reader Expression) → Primaries n read → Reads SpellsSub nesting_of_sub n 1 (sub_of read)
 sub_reads read h = record {
-    sound = sub_sound read h;
-    reach = λ x b a d l. sub_reach read h d l;
-    one = λ x y w a b d e. one_sub d e;
-    short = sub_shortens read h.short
-  }
+  sound = sub_sound read h;
+  reach = λ x b a d l. sub_reach read h d l;
+  one = λ x y w a b d e. one_sub d e;
+  short = sub_shortens read h.short;
+}
 
 parted_subscripts : IsParted nesting_of_sub nesting_of_subscripts NoSubscripts MoreSubscripts SpellsSub SpellsSubscripts
 parted_subscripts = record {
-    last = λ x b a d. last_subscript d;
-    more = λ x z p b m a d ds. more_subscripts d ds;
-    none_deep = refl;
-    deep = λ x z. refl
-  }
+  last = λ x b a d. last_subscript d;
+  more = λ x z p b m a d ds. more_subscripts d ds;
+  none_deep = refl;
+  deep = λ x z. refl;
+}
 
 listed_subscripts : (xs : List Sub) → listed_as NoSubscripts MoreSubscripts xs ≡ subscripts xs
 unfolding subscripts
@@ -181,8 +180,8 @@ subs_reach read h {a = a} (more_subscripts {p = q} d ds) l =
 
 pub subs_reads : {n : ℕ} (read : Reader Expression) → Primaries n read → Reads SpellsSubscripts nesting_of_subscripts n 0 (subs_of read)
 subs_reads read h = record {
-    sound = subs_sound read h;
-    reach = λ xs b a d l. subs_reach read h d l;
-    one = λ x y w a b d e. one_subscripts d e;
-    short = subs_shortens read h.short
-  }
+  sound = subs_sound read h;
+  reach = λ xs b a d l. subs_reach read h d l;
+  one = λ x y w a b d e. one_subscripts d e;
+  short = subs_shortens read h.short;
+}

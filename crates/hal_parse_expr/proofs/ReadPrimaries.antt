@@ -1,16 +1,16 @@
 -- The reader of primaries, level by level.
-use Rattle.std.proofs.Common.{◌≡◌, ℕ, zero, suc, ◌<◌, ◌≤◌, ◌+◌, List, [], ◌∷◌, length, Option, Some, None, refl, sym, subst, arith}
+use Rattle.std.proofs.Common.{◌≡◌, ℕ, zero, suc, ◌≤◌, ◌+◌, List, [], ◌∷◌, length, Option, Some, None, refl, sym, subst, arith}
 use Rattle.hal_base.specs.declared.refusal.Place.{Place}
 use Rattle.hal_words.specs.declared.reserved.Reserved.TheVariants as reserved
 use Rattle.hal_words.specs.declared.word.Symbol.TheVariants as symbol
 use Rattle.hal_words.specs.declared.word.Word.{Word}
 use Rattle.hal_words.specs.declared.word.Word.TheVariants as word
 use Rattle.hal_grammar.specs.Leaves.{Naming, Conversion, ToInteger, ToBits, ToText, Literal}
-use Rattle.hal_grammar.specs.Expressions.{Expression, Negated, Literally, Referred, Called, Converted, Enclosed, Expressions, Reference, Refers, Subscript, nesting, nesting_of_all, nesting_of_reference}
-use Rattle.hal_grammar.specs.Words.{Words, token, reserved_then, symbol_then, name_then, begins, BeginsSymbol}
+use Rattle.hal_grammar.specs.Expressions.{Expression, Literally, Referred, Called, Converted, Enclosed, Expressions, Reference, Refers, Subscript, nesting, nesting_of_all, nesting_of_reference}
+use Rattle.hal_grammar.specs.Words.{Words, token, reserved_then, symbol_then, name_then, BeginsSymbol}
 use Rattle.hal_grammar.specs.SpellsExpressions.{SpellsLiteral, integer, text, bits, true_bit, false_bit, on_bit, off_bit, SpellsFurther, no_further, further, IsNameAlone, name_alone, SpellsExpression, SpellsPrimary, negated, literal, thousandths, referred, called, to_integer, to_bits, to_text, enclosed, SpellsExpressions, SpellsReference, refers, SpellsSubscript, unsubscripted, by_name, by_integer, by_parts}
 use Rattle.hal_grammar.proofs.OneExpression.{one_primary, one_reference}
-use Rattle.hal_parse_expr.specs.Reading.{Read, Reader, followed, made_of, past_symbol, before_symbol}
+use Rattle.hal_parse_expr.specs.Reading.{Read, Reader, followed, made_of}
 use Rattle.hal_parse_expr.specs.ReadingExpressions.{expression_of, expressions_of, reference_behind, closed, named_at, converted_at, negated_at, literal_of, conversion_of, primary_behind, primary_of, primary_at, deeper_than, reference_at}
 use Rattle.hal_parse_expr.proofs.FirstWords.{PastOf, is_past, not_past, past_symbol_of, past_symbol_none, past_symbol_here}
 use Rattle.hal_parse_expr.proofs.ShorteningPrimaries.{primary_shortens, reference_shortens}
@@ -187,17 +187,17 @@ of_reach h (enclosed d) l = made_reaches _ (expression_closed h d l)
 pub primary_reads : (n : ℕ) → Primaries n (primary_at n)
 unfolding primary_at
 primary_reads zero = record {
-    sound = λ words. of_sound lowest words;
-    reach = λ t b a d l. of_reach lowest d l;
-    one = λ t u w a b d e. one_primary d e;
-    short = primary_shortens zero
-  }
+  sound = λ words. of_sound lowest words;
+  reach = λ t b a d l. of_reach lowest d l;
+  one = λ t u w a b d e. one_primary d e;
+  short = primary_shortens zero;
+}
 primary_reads (suc n) = record {
-    sound = λ words. of_sound (lower (primary_reads n)) words;
-    reach = λ t b a d l. of_reach (lower (primary_reads n)) d l;
-    one = λ t u w a b d e. one_primary d e;
-    short = primary_shortens (suc n)
-  }
+  sound = λ words. of_sound (lower (primary_reads n)) words;
+  reach = λ t b a d l. of_reach (lower (primary_reads n)) d l;
+  one = λ t u w a b d e. one_primary d e;
+  short = primary_shortens (suc n);
+}
 
 deeper_reads : (n : ℕ) → Lower n (deeper_than n)
 unfolding deeper_than
@@ -208,8 +208,8 @@ deeper_reads (suc n) = lower (primary_reads n)
 pub reference_reads : (n : ℕ) → Reads SpellsReference nesting_of_reference n 9 (reference_at n)
 unfolding reference_at
 reference_reads n = record {
-    sound = λ words. reference_sound (deeper_reads n) words;
-    reach = λ r b a d l. reference_reach (deeper_reads n) d l;
-    one = λ r s w a b d e. one_reference d e;
-    short = reference_shortens n
-  }
+  sound = λ words. reference_sound (deeper_reads n) words;
+  reach = λ r b a d l. reference_reach (deeper_reads n) d l;
+  one = λ r s w a b d e. one_reference d e;
+  short = reference_shortens n;
+}

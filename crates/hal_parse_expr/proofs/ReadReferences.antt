@@ -1,22 +1,20 @@
 -- The readers of subscripts and references.
-use Rattle.std.proofs.Common.{◌≡◌, ℕ, zero, suc, ◌<◌, ◌≤◌, ◌⊎◌, inl, inr, List, [], ◌∷◌, length, Option, Some, None, refl, ap, sym, subst, arith}
+use Rattle.std.proofs.Common.{◌≡◌, ℕ, zero, suc, ◌≤◌, ◌⊎◌, inl, inr, List, length, Option, Some, None, refl, ap, sym, subst, arith}
 use Rattle.hal_base.specs.declared.refusal.Place.{Place}
 use Rattle.hal_words.specs.declared.word.Symbol.TheVariants as symbol
 use Rattle.hal_words.specs.declared.word.Word.TheVariants as word
 use Rattle.hal_grammar.specs.Leaves.{Naming, naming}
-use Rattle.hal_grammar.specs.Expressions.{Expression, Reference, Refers, Subscript, Unsubscripted, ByName, ByInteger, ByParts, nesting_of_reference, nesting_of_subscript}
+use Rattle.hal_grammar.specs.Expressions.{Expression, Reference, Subscript, Unsubscripted, ByName, ByInteger, ByParts, nesting_of_reference, nesting_of_subscript}
 use Rattle.hal_grammar.specs.Words.{Words, symbol_then, name_then, integer_then}
-use Rattle.hal_grammar.specs.SpellsExpressions.{SpellsPrimary, SpellsFurther, SpellsReference, refers, SpellsSubscript, unsubscripted, by_name, by_integer, by_parts}
+use Rattle.hal_grammar.specs.SpellsExpressions.{SpellsFurther, SpellsReference, refers, SpellsSubscript, unsubscripted, by_name, by_integer, by_parts}
 use Rattle.hal_grammar.specs.GoesOn.{strength}
-use Rattle.hal_grammar.proofs.Outcomes.{Ends}
 use Rattle.hal_grammar.proofs.Beginnings.{subscript_ends}
-use Rattle.hal_grammar.proofs.OneExpression.{one_reference}
-use Rattle.hal_parse_expr.specs.Reading.{Read, Reader, followed, made_of, or_else, past_symbol, name_at, integer_at, all}
+use Rattle.hal_parse_expr.specs.Reading.{Read, Reader, followed, made_of, or_else, name_at, integer_at, all}
 use Rattle.hal_parse_expr.specs.ReadingExpressions.{further_at, Parts, parts_of, enclosed_parts, subscript_behind, subscript_of, subscript_or_none, reference_behind, reference_of}
 use Rattle.hal_parse_expr.proofs.FirstWords.{PastOf, is_past, not_past, past_symbol_of, past_symbol_here}
-use Rattle.hal_parse_expr.proofs.Shortening.{Below, weaker, all_keeps}
+use Rattle.hal_parse_expr.proofs.Shortening.{Below, weaker}
 use Rattle.hal_parse_expr.proofs.ShorteningPrimaries.{ShortensIfAny, subscript_keeps}
-use Rattle.hal_parse_expr.proofs.Readings.{Holds, holds_none, holds, Reaches, reaches, Phrase, weaker_holds, made_holds, followed_holds, or_holds, followed_at, made_reaches, or_reaches, reached, followed_equals, made_equals, made_none, or_equals, or_next}
+use Rattle.hal_parse_expr.proofs.Readings.{Holds, holds_none, holds, Reaches, reaches, Phrase, made_holds, followed_holds, or_holds, followed_at, made_reaches, or_reaches, reached, followed_equals, made_equals, made_none, or_equals, or_next}
 use Rattle.hal_parse_expr.proofs.ReadLeaves.{IsName, is_name, IsInteger, is_integer, name_sound, name_here, integer_sound, names_sound, names_far, names_met}
 use Rattle.hal_parse_expr.proofs.ReadTerms.{Primaries}
 use Rattle.hal_parse_expr.proofs.ReadParts.{ClosedParts, closed_parts, parts_sound, parts_here}

@@ -1,5 +1,5 @@
 -- The readers of phrases behind a word, and of rows: phrases one after another, or one alone.
-use Rattle.std.proofs.Common.{◌≡◌, ℕ, ◌<◌, ◌≤◌, List, [], ◌∷◌, length, max, Some, None, refl, subst, arith}
+use Rattle.std.proofs.Common.{◌≡◌, ℕ, ◌≤◌, List, [], ◌∷◌, length, max, subst, arith}
 use Rattle.hal_base.specs.declared.refusal.Place.{Place}
 use Rattle.hal_words.specs.declared.reserved.Reserved.{Reserved}
 use Rattle.hal_words.specs.declared.word.Symbol.{Symbol}
@@ -11,7 +11,7 @@ use Rattle.hal_grammar.specs.GoesOn.{Outcome}
 use Rattle.hal_parse_expr.specs.Reading.{Read, Reader, followed, past, past_symbol, all}
 use Rattle.hal_parse_expr.specs.ReadingExpressions.{expressions, row_of, row_at}
 use Rattle.hal_parse_expr.proofs.FirstWords.{PastOf, is_past, not_past, past_of, past_symbol_of, past_here, past_symbol_here}
-use Rattle.hal_parse_expr.proofs.Shortening.{Shortens, weaker, followed_below, past_shortens, symbol_shortens}
+use Rattle.hal_parse_expr.proofs.Shortening.{weaker, followed_below, past_shortens, symbol_shortens}
 use Rattle.hal_parse_expr.proofs.Readings.{Holds, holds_none, holds, Reaches, Phrase, IsOneUp, Reads, weaker_holds, followed_holds, followed_at}
 use Rattle.hal_parse_expr.proofs.Rows.{all_sound}
 
@@ -43,21 +43,21 @@ symbol_reach read h s (behind_it {p = p} {before = b} d) l = followed_at _ (past
 pub behind_reserved : {X : Type 0} {R : X → Words → Words → Type 0} {depth : X → ℕ} {n c : ℕ} (read : Reader X) → Reads R depth n c read → (r : Reserved) →
     Reads (Behind (word.Reserved r) R) depth n c (λ words. followed (past r words) (λ p rest. read rest))
 behind_reserved read h r = record {
-    sound = λ words. behind_in read h.sound (past_of r words);
-    reach = λ y words rest d l. reserved_reach read h r d l;
-    one = λ x y words a b d e. one_behind h.one d e;
-    short = λ words. followed_below _ _ (past r words) _ (past_shortens r words) (λ p rest l. weaker _ _ (omega arith) (read rest) (h.short rest))
-  }
+  sound = λ words. behind_in read h.sound (past_of r words);
+  reach = λ y words rest d l. reserved_reach read h r d l;
+  one = λ x y words a b d e. one_behind h.one d e;
+  short = λ words. followed_below _ _ (past r words) _ (past_shortens r words) (λ p rest l. weaker _ _ (omega arith) (read rest) (h.short rest));
+}
 
 -- behind a symbol
 pub behind_symbol : {X : Type 0} {R : X → Words → Words → Type 0} {depth : X → ℕ} {n c : ℕ} (read : Reader X) → Reads R depth n c read → (s : Symbol) →
     Reads (Behind (word.Symbol s) R) depth n c (λ words. followed (past_symbol s words) (λ p rest. read rest))
 behind_symbol read h s = record {
-    sound = λ words. behind_in read h.sound (past_symbol_of s words);
-    reach = λ y words rest d l. symbol_reach read h s d l;
-    one = λ x y words a b d e. one_behind h.one d e;
-    short = λ words. followed_below _ _ (past_symbol s words) _ (symbol_shortens s words) (λ p rest l. weaker _ _ (omega arith) (read rest) (h.short rest))
-  }
+  sound = λ words. behind_in read h.sound (past_symbol_of s words);
+  reach = λ y words rest d l. symbol_reach read h s d l;
+  one = λ x y words a b d e. one_behind h.one d e;
+  short = λ words. followed_below _ _ (past_symbol s words) _ (symbol_shortens s words) (λ p rest l. weaker _ _ (omega arith) (read rest) (h.short rest));
+}
 
 -- a row `T`: phrases `S` and, behind the first one, a list `L` of phrases `M`, or one phrase alone
 pub record IsRow (make : Place → Expression → Expressions → Expression) (S M T : Expression → Words → Words → Type 0) (L : Expressions → Words → Words → Type 0) : Type 0 where

@@ -1,8 +1,8 @@
 -- The readers of signed terms and of sums.
-use Rattle.std.proofs.Common.{◌≡◌, ℕ, ◌<◌, ◌≤◌, List, [], ◌∷◌, length, Option, Some, None, refl, sym, subst, arith}
+use Rattle.std.proofs.Common.{◌≡◌, ℕ, ◌≤◌, List, [], ◌∷◌, length, Some, None, refl, sym, subst, arith}
 use Rattle.hal_base.specs.declared.refusal.Place.{Place}
 use Rattle.hal_grammar.specs.Leaves.{Sign}
-use Rattle.hal_grammar.specs.Expressions.{Expression, Summed, Terms, NoTerms, MoreTerms, nesting, nesting_of_terms, place_of}
+use Rattle.hal_grammar.specs.Expressions.{Expression, Summed, Terms, NoTerms, MoreTerms, nesting, nesting_of_terms}
 use Rattle.hal_grammar.specs.Words.{Words}
 use Rattle.hal_grammar.specs.SpellsExpressions.{SpellsSign, both, comparison, cat, SpellsSum, sum, term, summed, signed, SpellsTerms, no_terms, more_terms, SpellsTerm}
 use Rattle.hal_grammar.specs.GoesOn.{Outcome}
@@ -11,11 +11,11 @@ use Rattle.hal_grammar.proofs.Leaves.{one_sign}
 use Rattle.hal_grammar.proofs.Beginnings.{Opening, term_opens, terms_ends}
 use Rattle.hal_grammar.proofs.OneExpression.{one_sum, one_term}
 use Rattle.hal_grammar.proofs.PlacedExpressions.{expression_placed}
-use Rattle.hal_parse_expr.specs.Reading.{Read, Reader, followed, made_of, all}
-use Rattle.hal_parse_expr.specs.ReadingExpressions.{SignedTerm, terms, sign_at, term_of, signed_term, sum_from, unsigned_sum, signed_sum, sum_of}
+use Rattle.hal_parse_expr.specs.Reading.{Read, Reader, all}
+use Rattle.hal_parse_expr.specs.ReadingExpressions.{SignedTerm, terms, sign_at, signed_term, sum_from, unsigned_sum, signed_sum, sum_of}
 use Rattle.hal_parse_expr.proofs.Shortening.{all_keeps}
 use Rattle.hal_parse_expr.proofs.ShorteningExpressions.{signed_term_shortens, sum_shortens}
-use Rattle.hal_parse_expr.proofs.Readings.{Holds, holds_none, holds, Reaches, Phrase, Reads, made_holds, followed_holds, followed_at, made_reaches}
+use Rattle.hal_parse_expr.proofs.Readings.{Holds, holds, Reaches, Phrase, Reads, made_holds, followed_holds, followed_at, made_reaches}
 use Rattle.hal_parse_expr.proofs.Rows.{all_sound, all_step, first_then, first_alone}
 use Rattle.hal_parse_expr.proofs.ReadLeaves.{IsSign, is_sign, sign_sound, sign_here, unsigned}
 use Rattle.hal_parse_expr.proofs.ReadTerms.{Primaries, term_reads}
@@ -49,11 +49,11 @@ one_signed (signed_so s d) (signed_so z e) =
 
 pub signed_reads : {n : ℕ} (read : Reader Expression) → Primaries n read → Reads SpellsSigned signed_nesting n 7 (signed_term read)
 signed_reads read h = record {
-    sound = signed_term_sound read h;
-    reach = λ t b a d l. signed_term_reach read h d l;
-    one = λ t u w a b d e. one_signed d e;
-    short = signed_term_shortens read h.short
-  }
+  sound = signed_term_sound read h;
+  reach = λ t b a d l. signed_term_reach read h d l;
+  one = λ t u w a b d e. one_signed d e;
+  short = signed_term_shortens read h.short;
+}
 
 terms_then : {t : SignedTerm} {ts : Terms} {b m a : Words} → SpellsSigned t b m → SpellsTerms ts m a → SpellsTerms (MoreTerms t.0 t.1 t.2 ts) b a
 terms_then (signed_so s d) ds = more_terms s d ds
@@ -117,8 +117,8 @@ sum_reach read h (signed s d ds) l = with_sign read s
 
 pub sum_reads : {n : ℕ} (read : Reader Expression) → Primaries n read → Reads SpellsSum nesting n 6 (sum_of read)
 sum_reads read h = record {
-    sound = sum_sound read h;
-    reach = λ t b a d l. sum_reach read h d l;
-    one = λ t u w a b d e. one_sum d e;
-    short = sum_shortens read h.short
-  }
+  sound = sum_sound read h;
+  reach = λ t b a d l. sum_reach read h d l;
+  one = λ t u w a b d e. one_sum d e;
+  short = sum_shortens read h.short;
+}

@@ -1,27 +1,23 @@
 -- The readers of factors and terms.
-use Rattle.std.proofs.Common.{◌≡◌, ℕ, ◌<◌, ◌≤◌, List, [], ◌∷◌, length, Option, Some, None, refl, ap, sym, ◌∙◌, subst, arith}
+use Rattle.std.proofs.Common.{◌≡◌, ℕ, ◌≤◌, length, Some, None, refl, sym, subst, arith}
 use Rattle.hal_base.specs.declared.refusal.Place.{Place}
 use Rattle.hal_words.specs.declared.reserved.Reserved.TheVariants as reserved
 use Rattle.hal_words.specs.declared.word.Symbol.TheVariants as symbol
 use Rattle.hal_words.specs.declared.word.Word.TheVariants as word
-use Rattle.hal_grammar.specs.Leaves.{Sign}
-use Rattle.hal_grammar.specs.Expressions.{Expression, Summed, Multiplied, Powered, Expressions, NoExpressions, MoreExpressions, Terms, MoreTerms, nesting, nesting_of_all, nesting_of_terms, place_of}
-use Rattle.hal_grammar.specs.Words.{Words, BeginsReserved, At}
-use Rattle.hal_grammar.specs.SpellsExpressions.{SpellsSign, SpellsExpression, both, comparison, cat, SpellsSum, sum, term, summed, signed, SpellsTerms, no_terms, more_terms, SpellsTerm, factor, multiplied, SpellsFactors, no_factors, more_factors, SpellsFactor, primary, powered, SpellsPrimary}
-use Rattle.hal_grammar.specs.GoesOn.{strength, Outcome}
-use Rattle.hal_grammar.proofs.Outcomes.{made, back}
-use Rattle.hal_grammar.proofs.Leaves.{one_sign}
-use Rattle.hal_grammar.proofs.Beginnings.{term_opens, sign_strength, terms_ends, factors_ends}
-use Rattle.hal_grammar.proofs.OneExpression.{one_sum, one_term, one_factor}
+use Rattle.hal_grammar.specs.Expressions.{Expression, Multiplied, Powered, Expressions, NoExpressions, MoreExpressions, nesting, nesting_of_all, place_of}
+use Rattle.hal_grammar.specs.Words.{Words, BeginsReserved}
+use Rattle.hal_grammar.specs.SpellsExpressions.{both, comparison, cat, sum, term, SpellsTerm, factor, multiplied, SpellsFactors, no_factors, more_factors, SpellsFactor, primary, powered, SpellsPrimary}
+use Rattle.hal_grammar.specs.GoesOn.{Outcome}
+use Rattle.hal_grammar.proofs.Beginnings.{factors_ends}
+use Rattle.hal_grammar.proofs.OneExpression.{one_term, one_factor}
 use Rattle.hal_grammar.proofs.PlacedExpressions.{expression_placed}
-use Rattle.hal_parse_expr.specs.Reading.{Read, Reader, followed, made_of, with_tail, past, past_symbol, all}
-use Rattle.hal_parse_expr.specs.ReadingExpressions.{expressions, SignedTerm, terms, sign_at, factor_of, further_factor, row_of, row_at, term_of, signed_term, sum_from, unsigned_sum, signed_sum, sum_of}
+use Rattle.hal_parse_expr.specs.Reading.{Read, Reader, all}
+use Rattle.hal_parse_expr.specs.ReadingExpressions.{factor_of, further_factor, row_of, row_at, term_of}
 use Rattle.hal_parse_expr.proofs.FirstWords.{PastOf, is_past, not_past, past_of, past_none}
-use Rattle.hal_parse_expr.proofs.Shortening.{Below, Shortens, weaker, all_keeps}
-use Rattle.hal_parse_expr.proofs.ShorteningExpressions.{factor_shortens, further_factor_shortens, term_shortens, signed_term_shortens, sum_shortens}
-use Rattle.hal_parse_expr.proofs.Readings.{Holds, holds_none, holds, Reaches, reaches, Phrase, IsOneUp, Reads, weaker_holds, made_holds, followed_holds, tail_holds, followed_at, followed_reaches, made_reaches, tail_reaches, tail_keeps, met}
-use Rattle.hal_parse_expr.proofs.Rows.{all_sound, all_step, first_then, first_alone}
-use Rattle.hal_parse_expr.proofs.ReadLeaves.{IsSign, is_sign, sign_sound, sign_here, unsigned}
+use Rattle.hal_parse_expr.proofs.Shortening.{weaker, all_keeps}
+use Rattle.hal_parse_expr.proofs.ShorteningExpressions.{factor_shortens, further_factor_shortens, term_shortens}
+use Rattle.hal_parse_expr.proofs.Readings.{Holds, holds_none, Reaches, Phrase, Reads, weaker_holds, followed_holds, tail_holds, followed_at, followed_reaches, tail_reaches, tail_keeps, met}
+use Rattle.hal_parse_expr.proofs.Rows.{all_step, first_then, first_alone}
 use Rattle.hal_parse_expr.proofs.ReadRows.{Behind, behind_it, behind_symbol, IsRow, row_sound}
 
 -- the reader of primaries that are nested at most so deep
@@ -47,11 +43,11 @@ factor_reach read h (powered i d e) l =
 
 pub factor_reads : {n : ℕ} (read : Reader Expression) → Primaries n read → Reads SpellsFactor nesting n 8 (factor_of read)
 factor_reads read h = record {
-    sound = factor_sound read h;
-    reach = λ t b a d l. factor_reach read h d l;
-    one = λ t u w a b d e. one_factor d e;
-    short = factor_shortens read h.short
-  }
+  sound = factor_sound read h;
+  reach = λ t b a d l. factor_reach read h d l;
+  one = λ t u w a b d e. one_factor d e;
+  short = factor_shortens read h.short;
+}
 
 -- a factor that doesn't begin with NOT
 data FurtherFactor : Expression → Words → Words → Type 0 where
@@ -76,11 +72,11 @@ one_further_factor (not_negated m d) (not_negated k e) = one_factor d e
 
 further_reads : {n : ℕ} (read : Reader Expression) → Primaries n read → Reads FurtherFactor nesting n 8 (further_factor read)
 further_reads read h = record {
-    sound = further_sound read h;
-    reach = λ t b a d l. further_reach read h d l;
-    one = λ t u w a b d e. one_further_factor d e;
-    short = further_factor_shortens read h.short
-  }
+  sound = further_sound read h;
+  reach = λ t b a d l. further_reach read h d l;
+  one = λ t u w a b d e. one_further_factor d e;
+  short = further_factor_shortens read h.short;
+}
 
 factors_then : {t : Expression} {ts : Expressions} {b m a : Words} → FurtherFactor t b m → SpellsFactors ts m a → SpellsFactors (MoreExpressions t ts) b a
 factors_then (not_negated m d) ds = more_factors m d ds
@@ -90,13 +86,13 @@ factors_ended no_factors = refl
 
 product : IsRow Multiplied SpellsFactor FurtherFactor SpellsTerm SpellsFactors
 product = record {
-    alone = λ t b a d. factor d;
-    row = λ t u us b m a d ds. multiplied (expression_placed (both (comparison (cat (sum (term (factor d))))))) d ds;
-    deep = λ p t us. refl;
-    ended = λ b a d. factors_ended d;
-    nil = λ a. no_factors;
-    cons = λ t ts b m a d ds. factors_then d ds
-  }
+  alone = λ t b a d. factor d;
+  row = λ t u us b m a d ds. multiplied (expression_placed (both (comparison (cat (sum (term (factor d))))))) d ds;
+  deep = λ p t us. refl;
+  ended = λ b a d. factors_ended d;
+  nil = λ a. no_factors;
+  cons = λ t ts b m a d ds. factors_then d ds;
+}
 
 factors_far : {n : ℕ} (read : Reader Expression) → Primaries n read → {ts : Expressions} {b a : Words} → SpellsFactors ts b a → nesting_of_all ts ≤ n → length (all (further_factor read) b).1 ≤ length a
 factors_far read h {a = a} no_factors l = all_keeps (further_factor read) (further_factor_shortens read h.short) a
@@ -111,8 +107,8 @@ term_reach read h (multiplied i d ds) l =
 pub term_reads : {n : ℕ} (read : Reader Expression) → Primaries n read → Reads SpellsTerm nesting n 7 (term_of read)
 unfolding term_of
 term_reads read h = record {
-    sound = row_sound (factor_of read) (further_factor read) product (factor_reads read h) (further_reads read h);
-    reach = λ t b a d l. term_reach read h d l;
-    one = λ t u w a b d e. one_term d e;
-    short = term_shortens read h.short
-  }
+  sound = row_sound (factor_of read) (further_factor read) product (factor_reads read h) (further_reads read h);
+  reach = λ t b a d l. term_reach read h d l;
+  one = λ t u w a b d e. one_term d e;
+  short = term_shortens read h.short;
+}

@@ -1,7 +1,5 @@
 -- What readers find, and how far they reach.
-use Rattle.std.proofs.Common.{◌≡◌, ℕ, zero, suc, ◌<◌, ◌≤◌, ◌⊎◌, inl, inr, List, [], ◌∷◌, length, Option, Some, None, refl, ap, sym, ◌∙◌, subst, arith}
-use Rattle.hal_words.specs.declared.reserved.Reserved.{Reserved}
-use Rattle.hal_words.specs.declared.word.Symbol.{Symbol}
+use Rattle.std.proofs.Common.{◌≡◌, ℕ, suc, ◌<◌, ◌≤◌, ◌⊎◌, inl, inr, length, Some, None, ap, sym, ◌∙◌, subst, arith}
 use Rattle.hal_grammar.specs.Words.{Words}
 use Rattle.hal_grammar.specs.GoesOn.{strength, Outcome, same, sooner, later}
 use Rattle.hal_parse_expr.specs.Reading.{Read, Reader, followed, made_of, with_tail, or_else, decided}

@@ -1,5 +1,5 @@
 -- Lists: what is read as often as it can be.
-use Rattle.std.proofs.Common.{◌≡◌, ℕ, zero, suc, ◌<◌, ◌≤◌, ◌⊎◌, inl, inr, List, [], ◌∷◌, length, Option, Some, None, refl, ap, sym, ◌∙◌, subst, arith}
+use Rattle.std.proofs.Common.{◌≡◌, ℕ, zero, suc, ◌≤◌, ◌⊎◌, inl, inr, List, [], ◌∷◌, length, Some, refl, ap, arith}
 use Rattle.hal_grammar.specs.Words.{Words}
 use Rattle.hal_grammar.specs.GoesOn.{strength}
 use Rattle.hal_grammar.proofs.Outcomes.{Ends, ends_here}
