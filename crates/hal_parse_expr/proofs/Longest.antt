@@ -6,7 +6,7 @@ use Rattle.hal_grammar.specs.SpellsExpressions.{SpellsExpression, SpellsExpressi
 use Rattle.hal_parse_expr.specs.ReadingExpressions.{primary_at, expression_at, expressions_at, reference_at}
 use Rattle.hal_parse_expr.specs.Best.{BestOf}
 use Rattle.hal_parse_expr.proofs.Readings.{best}
-use Rattle.hal_parse_expr.proofs.ReadChains.{expression_reads}
+use Rattle.hal_parse_expr.proofs.ReadExpressions.{expression_reads}
 use Rattle.hal_parse_expr.proofs.ReadLists.{expressions_reads}
 use Rattle.hal_parse_expr.proofs.ReadPrimaries.{primary_reads, reference_reads}
 

@@ -9,7 +9,9 @@ use Rattle.hal_grammar.specs.Words.{Words, token, reserved_then, symbol_then}
 use Rattle.hal_grammar.specs.GoesOn.{strength}
 use Rattle.hal_parse_expr.specs.Reading.{Read, Reader, made_of, before_symbol, before}
 use Rattle.hal_parse_expr.proofs.FirstWords.{PastOf, is_past, not_past, past_of, past_symbol_of, past_here, past_symbol_here}
-use Rattle.hal_parse_expr.proofs.Readings.{Holds, holds_none, holds, Phrase, Reads, followed_holds, followed_equals, made_equals, met}
+use Rattle.hal_parse_expr.proofs.Readings.{Holds, holds_none, holds, Phrase, Reads, met}
+use Rattle.hal_parse_expr.proofs.Combining.{followed_holds}
+use Rattle.hal_parse_expr.proofs.Equations.{followed_equals, made_equals}
 
 -- such a phrase, and a word behind it
 pub data Before {X : Type 0} (w : Word) (R : X → Words → Words → Type 0) : X → Words → Words → Type 0 where

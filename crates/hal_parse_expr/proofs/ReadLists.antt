@@ -13,11 +13,12 @@ use Rattle.hal_parse_expr.specs.Reading.{Reader, all, after_comma, parted}
 use Rattle.hal_parse_expr.specs.ReadingExpressions.{expressions, expression_of, expressions_of}
 use Rattle.hal_parse_expr.proofs.Shortening.{all_keeps}
 use Rattle.hal_parse_expr.proofs.ShorteningExpressions.{expressions_shortens}
-use Rattle.hal_parse_expr.proofs.Readings.{Holds, holds, Reaches, Phrase, Reads, made_holds, followed_holds, made_reaches}
+use Rattle.hal_parse_expr.proofs.Readings.{Holds, holds, Reaches, Phrase, Reads}
+use Rattle.hal_parse_expr.proofs.Combining.{made_holds, followed_holds, made_reaches}
 use Rattle.hal_parse_expr.proofs.Rows.{all_sound, all_step, first_then, first_alone}
 use Rattle.hal_parse_expr.proofs.ReadRows.{Behind, behind_it, behind_symbol}
-use Rattle.hal_parse_expr.proofs.ReadTerms.{Primaries}
-use Rattle.hal_parse_expr.proofs.ReadChains.{expression_reads}
+use Rattle.hal_parse_expr.proofs.ReadFactors.{Primaries}
+use Rattle.hal_parse_expr.proofs.ReadExpressions.{expression_reads}
 
 pub comma_reads : {X : Type 0} {R : X → Words → Words → Type 0} {depth : X → ℕ} {n c : ℕ} (read : Reader X) → Reads R depth n c read →
     Reads (Behind (word.Symbol symbol.Comma) R) depth n c (after_comma read)

@@ -14,10 +14,14 @@ use Rattle.hal_parse_expr.specs.ReadingExpressions.{further_at, Parts, parts_of,
 use Rattle.hal_parse_expr.proofs.FirstWords.{PastOf, is_past, not_past, past_symbol_of, past_symbol_here}
 use Rattle.hal_parse_expr.proofs.Shortening.{Below, weaker}
 use Rattle.hal_parse_expr.proofs.ShorteningPrimaries.{ShortensIfAny, subscript_keeps}
-use Rattle.hal_parse_expr.proofs.Readings.{Holds, holds_none, holds, Reaches, reaches, Phrase, made_holds, followed_holds, or_holds, followed_at, made_reaches, or_reaches, reached, followed_equals, made_equals, made_none, or_equals, or_next}
-use Rattle.hal_parse_expr.proofs.ReadLeaves.{IsName, is_name, IsInteger, is_integer, name_sound, name_here, integer_sound, names_sound, names_far, names_met}
-use Rattle.hal_parse_expr.proofs.ReadTerms.{Primaries}
-use Rattle.hal_parse_expr.proofs.ReadParts.{ClosedParts, closed_parts, parts_sound, parts_here}
+use Rattle.hal_parse_expr.proofs.Readings.{Holds, holds_none, holds, Reaches, reaches, Phrase, reached}
+use Rattle.hal_parse_expr.proofs.Combining.{made_holds, followed_holds, or_holds, followed_at, made_reaches, or_reaches}
+use Rattle.hal_parse_expr.proofs.Equations.{followed_equals, made_equals, made_none, or_equals, or_next}
+use Rattle.hal_parse_expr.proofs.ReadLeaves.{IsName, is_name, IsInteger, is_integer, name_sound, name_here, integer_sound}
+use Rattle.hal_parse_expr.proofs.ReadNames.{names_sound, names_far, names_met}
+use Rattle.hal_parse_expr.proofs.ReadFactors.{Primaries}
+use Rattle.hal_parse_expr.proofs.FoundParts.{ClosedParts, closed_parts, parts_sound}
+use Rattle.hal_parse_expr.proofs.ReadParts.{parts_here}
 
 -- the reader one level deeper than this one, where there is one
 pub data Lower : ℕ → Option (Reader Expression) → Type 0 where

@@ -12,7 +12,8 @@ use Rattle.hal_parse_expr.specs.Reading.{Read, Reader, followed, past, past_symb
 use Rattle.hal_parse_expr.specs.ReadingExpressions.{expressions, row_of, row_at}
 use Rattle.hal_parse_expr.proofs.FirstWords.{PastOf, is_past, not_past, past_of, past_symbol_of, past_here, past_symbol_here}
 use Rattle.hal_parse_expr.proofs.Shortening.{weaker, followed_below, past_shortens, symbol_shortens}
-use Rattle.hal_parse_expr.proofs.Readings.{Holds, holds_none, holds, Reaches, Phrase, IsOneUp, Reads, weaker_holds, followed_holds, followed_at}
+use Rattle.hal_parse_expr.proofs.Readings.{Holds, holds_none, holds, Reaches, Phrase, IsOneUp, Reads, weaker_holds}
+use Rattle.hal_parse_expr.proofs.Combining.{followed_holds, followed_at}
 use Rattle.hal_parse_expr.proofs.Rows.{all_sound}
 
 -- a word, and such a phrase behind it

@@ -15,10 +15,12 @@ use Rattle.hal_parse_expr.specs.Reading.{Read, Reader, all}
 use Rattle.hal_parse_expr.specs.ReadingExpressions.{SignedTerm, terms, sign_at, signed_term, sum_from, unsigned_sum, signed_sum, sum_of}
 use Rattle.hal_parse_expr.proofs.Shortening.{all_keeps}
 use Rattle.hal_parse_expr.proofs.ShorteningExpressions.{signed_term_shortens, sum_shortens}
-use Rattle.hal_parse_expr.proofs.Readings.{Holds, holds, Reaches, Phrase, Reads, made_holds, followed_holds, followed_at, made_reaches}
+use Rattle.hal_parse_expr.proofs.Readings.{Holds, holds, Reaches, Phrase, Reads}
+use Rattle.hal_parse_expr.proofs.Combining.{made_holds, followed_holds, followed_at, made_reaches}
 use Rattle.hal_parse_expr.proofs.Rows.{all_sound, all_step, first_then, first_alone}
 use Rattle.hal_parse_expr.proofs.ReadLeaves.{IsSign, is_sign, sign_sound, sign_here, unsigned}
-use Rattle.hal_parse_expr.proofs.ReadTerms.{Primaries, term_reads}
+use Rattle.hal_parse_expr.proofs.ReadFactors.{Primaries}
+use Rattle.hal_parse_expr.proofs.ReadTerms.{term_reads}
 
 -- a sign and a term
 pub data SpellsSigned : SignedTerm → Words → Words → Type 0 where

@@ -5,7 +5,8 @@ use Rattle.hal_grammar.specs.GoesOn.{strength}
 use Rattle.hal_grammar.proofs.Outcomes.{Ends, ends_here}
 use Rattle.hal_parse_expr.specs.Reading.{Read, Reader, followed, listed, many, all}
 use Rattle.hal_parse_expr.proofs.Shortening.{Shortens, all_keeps, all_more}
-use Rattle.hal_parse_expr.proofs.Readings.{Holds, holds_none, holds, Reaches, reaches, Reads, followed_at, followed_reaches, met}
+use Rattle.hal_parse_expr.proofs.Readings.{Holds, holds_none, holds, Reaches, reaches, Reads, met}
+use Rattle.hal_parse_expr.proofs.Combining.{followed_at, followed_reaches}
 
 listed_sound : {X : Type 0} {Q : Words → X → Words → Type 0} (P : List X → Words → Words → Type 0) → ((a : Words) → P [] a a) →
     ((x : X) (xs : List X) (b m a : Words) → Q b x m → P xs m a → P (x ∷ xs) b a) → (others : Words → List X × Words) → ((rest : Words) → P (others rest).0 rest (others rest).1) →
