@@ -58,7 +58,7 @@ abbrev pub ShortensIfAny : Option (Reader Expression) → Type 0
 ShortensIfAny None = Unit {0}
 ShortensIfAny (Some primary) = Shortens primary
 
-subscript_keeps : (deeper : Option (Reader Expression)) → ShortensIfAny deeper → Keeps (subscript_or_none deeper)
+pub subscript_keeps : (deeper : Option (Reader Expression)) → ShortensIfAny deeper → Keeps (subscript_or_none deeper)
 unfolding subscript_or_none subscript_of
 subscript_keeps None h words = or_below _ _ _ tt (omega arith)
 subscript_keeps (Some primary) h words = or_below _ _ _
