@@ -137,22 +137,12 @@ pub enum Subscript {
 #[cycle(tree)]
 pub enum Sub {
     /// `*`
-    Every {
-        place: Place,
-    },
-    One {
-        position: Position,
-    },
+    Every { place: Place },
+    One { position: Position },
     /// `first TO last`
-    Range {
-        first: Position,
-        last: Position,
-    },
+    Range { first: Position, last: Position },
     /// `count AT first`
-    Portion {
-        count: Expr,
-        first: Position,
-    },
+    Portion { count: Expr, first: Position },
 }
 
 /// A place in an array, a structure's copies or a component.
@@ -167,4 +157,33 @@ pub enum Position {
         place: Place,
         terms: Vec<SignedTerm>,
     },
+}
+
+impl Expr {
+    ghost use Rattle.std.specs.Prelude.{◌≡◌};
+    ghost use Rattle.hal_grammar.specs.Expressions.{place_of};
+    ghost use Rattle.hal_syntax.specs.SeenExpressions.{seen_expression};
+
+    /// The place of the first word.
+    #[tactic(auto, using(crate::proofs::MadeExpressions::made_or, crate::proofs::MadeExpressions::made_and, crate::proofs::MadeExpressions::made_compare, crate::proofs::MadeExpressions::made_cat, crate::proofs::MadeExpressions::made_sum, crate::proofs::MadeExpressions::made_product, crate::proofs::MadeExpressions::made_power, crate::proofs::MadeExpressions::made_not, crate::proofs::MadeExpressions::made_literal, crate::proofs::MadeExpressions::made_decimal, crate::proofs::MadeExpressions::made_referred, crate::proofs::MadeExpressions::made_reference, crate::proofs::MadeExpressions::made_call, crate::proofs::MadeExpressions::made_convert, crate::proofs::MadeExpressions::made_parenthesis))]
+    pub fn place(&self) -> Place
+        ensures { result ≡ place_of (seen_expression self.now) }
+    {
+        match self {
+            Expr::Or { place, .. } => *place,
+            Expr::And { place, .. } => *place,
+            Expr::Compare { place, .. } => *place,
+            Expr::Cat { place, .. } => *place,
+            Expr::Sum { place, .. } => *place,
+            Expr::Product { place, .. } => *place,
+            Expr::Power { place, .. } => *place,
+            Expr::Not { place, .. } => *place,
+            Expr::Literal { place, .. } => *place,
+            Expr::Decimal { place, .. } => *place,
+            Expr::Reference(reference) => reference.place,
+            Expr::Call { place, .. } => *place,
+            Expr::Convert { place, .. } => *place,
+            Expr::Parenthesis { place, .. } => *place,
+        }
+    }
 }
