@@ -1,1 +1,2 @@
 pub mod MadeExpressions
+pub mod MadeDeclarations

@@ -1,3 +1,4 @@
 pub mod Rows
 pub mod SeenLeaves
 pub mod SeenExpressions
+pub mod SeenDeclarations

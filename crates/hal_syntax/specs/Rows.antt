@@ -3,6 +3,7 @@ use Rattle.std.specs.Prelude.{List, [], ◌∷◌}
 use Rattle.hal_base.specs.declared.refusal.Place.{Place}
 use Rattle.hal_grammar.specs.Leaves.{Sign}
 use Rattle.hal_grammar.specs.Expressions.{Expression, Expressions, NoExpressions, MoreExpressions, Terms, NoTerms, MoreTerms, Sub, Subscripts, NoSubscripts, MoreSubscripts}
+use Rattle.hal_grammar.specs.Declarations.{Initial, Initials, NoInitials, MoreInitials}
 
 -- expressions one after another
 unfoldable pub expressions : List Expression → Expressions
@@ -22,3 +23,8 @@ terms (t ∷ ts) = MoreTerms t.0 t.1 t.2 (terms ts)
 unfoldable pub subscripts : List Sub → Subscripts
 subscripts [] = NoSubscripts
 subscripts (x ∷ xs) = MoreSubscripts x (subscripts xs)
+
+-- initial values one after another
+unfoldable pub initials : List Initial → Initials
+initials [] = NoInitials
+initials (x ∷ xs) = MoreInitials x (initials xs)
