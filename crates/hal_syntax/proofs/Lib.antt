@@ -1,2 +1,3 @@
 pub mod MadeExpressions
 pub mod MadeDeclarations
+pub mod MadeStatements

@@ -2,3 +2,4 @@ pub mod Rows
 pub mod SeenLeaves
 pub mod SeenExpressions
 pub mod SeenDeclarations
+pub mod SeenStatements

@@ -1,9 +1,10 @@
 -- The lists of the grammar, from lists.
-use Rattle.std.specs.Prelude.{List, [], ◌∷◌}
+use Rattle.std.specs.Prelude.{List, [], ◌∷◌, Option, Some, None}
 use Rattle.hal_base.specs.declared.refusal.Place.{Place}
 use Rattle.hal_grammar.specs.Leaves.{Sign}
 use Rattle.hal_grammar.specs.Expressions.{Expression, Expressions, NoExpressions, MoreExpressions, Terms, NoTerms, MoreTerms, Sub, Subscripts, NoSubscripts, MoreSubscripts}
 use Rattle.hal_grammar.specs.Declarations.{Initial, Initials, NoInitials, MoreInitials}
+use Rattle.hal_grammar.specs.Statements.{Statement, Statements, NoStatements, MoreStatements, Alternative, NoAlternative, Otherwise}
 
 -- expressions one after another
 unfoldable pub expressions : List Expression → Expressions
@@ -28,3 +29,13 @@ subscripts (x ∷ xs) = MoreSubscripts x (subscripts xs)
 unfoldable pub initials : List Initial → Initials
 initials [] = NoInitials
 initials (x ∷ xs) = MoreInitials x (initials xs)
+
+-- statements one after another
+unfoldable pub statements : List Statement → Statements
+statements [] = NoStatements
+statements (x ∷ xs) = MoreStatements x (statements xs)
+
+-- what stands after ELSE, if there is one
+abbrev pub alternative : Option Statement → Alternative
+alternative None = NoAlternative
+alternative (Some x) = Otherwise x
