@@ -3,3 +3,4 @@ pub mod SeenLeaves
 pub mod SeenExpressions
 pub mod SeenDeclarations
 pub mod SeenStatements
+pub mod SeenUnits

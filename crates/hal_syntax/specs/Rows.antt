@@ -5,6 +5,7 @@ use Rattle.hal_grammar.specs.Leaves.{Sign}
 use Rattle.hal_grammar.specs.Expressions.{Expression, Expressions, NoExpressions, MoreExpressions, Terms, NoTerms, MoreTerms, Sub, Subscripts, NoSubscripts, MoreSubscripts}
 use Rattle.hal_grammar.specs.Declarations.{Initial, Initials, NoInitials, MoreInitials}
 use Rattle.hal_grammar.specs.Statements.{Statement, Statements, NoStatements, MoreStatements, Alternative, NoAlternative, Otherwise}
+use Rattle.hal_grammar.specs.Units.{Block, Elements, NoElements, StatementFirst, BlockFirst}
 
 -- expressions one after another
 unfoldable pub expressions : List Expression → Expressions
@@ -39,3 +40,14 @@ statements (x ∷ xs) = MoreStatements x (statements xs)
 abbrev pub alternative : Option Statement → Alternative
 alternative None = NoAlternative
 alternative (Some x) = Otherwise x
+
+-- a statement or a unit, as they stand in a unit
+pub data Member : Type 0 where
+  OfStatement : (statement : Statement) → Member
+  OfBlock : (block : Block) → Member
+
+-- statements and units one after another
+unfoldable pub elements : List Member → Elements
+elements [] = NoElements
+elements (OfStatement statement ∷ xs) = StatementFirst statement (elements xs)
+elements (OfBlock block ∷ xs) = BlockFirst block (elements xs)

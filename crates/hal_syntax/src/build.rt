@@ -4,6 +4,7 @@ mod declarations;
 mod expressions;
 mod statement_parts;
 mod statements;
+mod units;
 
 pub use declarations::{
     bit_type, character_type, constant, declare, declared, dimensions, initial, list_times,
@@ -22,4 +23,8 @@ pub use statements::{
     assignment, call_statement, cancel, conditional, do_case, do_for, do_group, do_loop, group,
     on_error_statement, read, return_value, schedule_statement, statement, terminate, update,
     update_priority, wait, wait_for, wait_until, write,
+};
+pub use units::{
+    file, function, procedure, statement_element, template, template_preface, typed_returns, unit,
+    unit_element,
 };
