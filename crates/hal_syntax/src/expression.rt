@@ -137,22 +137,12 @@ pub enum Subscript {
 #[cycle(tree)]
 pub enum Sub {
     /// `*`
-    Every {
-        place: Place,
-    },
-    One {
-        position: Position,
-    },
+    Every { place: Place },
+    One { position: Position },
     /// `first TO last`
-    Range {
-        first: Position,
-        last: Position,
-    },
+    Range { first: Position, last: Position },
     /// `count AT first`
-    Portion {
-        count: Expr,
-        first: Position,
-    },
+    Portion { count: Expr, first: Position },
 }
 
 /// A place in an array, a structure's copies or a component.

@@ -45,10 +45,7 @@ pub enum LiteralValue {
     Integer(u32),
     Text(Literal),
     /// The last `len` bits of the word, 1 to 32.
-    Bits {
-        len: u8,
-        word: u32,
-    },
+    Bits { len: u8, word: u32 },
     True,
     False,
     On,
