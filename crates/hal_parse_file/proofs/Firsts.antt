@@ -71,9 +71,12 @@ unfolding before
 gives_before {P = P} r g f = gives_followed g (λ x rest h. gives_made _ (past_gives r rest) (λ p after e. f x p after (rw e at h)))
 
 -- a phrase in parentheses
-pub gives_enclosed : {X : Type 0} {P : Words → X → Words → Type 0} {Q : X → Words → Type 0} (read : Reader X) (words : Words) → ((rest : Words) → Gives (P rest) (read rest)) →
-    ((p q : Place) (x : X) (rest after : Words) → words ≡ symbol_then symbol.LeftParenthesis p rest → P rest x (symbol_then symbol.RightParenthesis q after) → Q x after) →
-    Gives Q (in_parentheses read words)
+pub data Enclosed {X : Type 0} (P : X → Words → Words → Type 0) (x : X) : Words → Words → Type 0 where
+  enclosed_so : {p q : Place} {inside after : Words} → P x inside (symbol_then symbol.RightParenthesis q after) → Enclosed P x (symbol_then symbol.LeftParenthesis p inside) after
+
+pub gives_enclosed : {X : Type 0} {P : X → Words → Words → Type 0} (read : Reader X) (words : Words) → ((rest : Words) → Gives (λ x after. P x rest after) (read rest)) →
+    Gives (λ x after. Enclosed P x words after) (in_parentheses read words)
 unfolding in_parentheses
-gives_enclosed read words g f =
-    gives_followed (symbol_gives symbol.LeftParenthesis words) (λ p rest e. gives_before_symbol symbol.RightParenthesis (g rest) (λ x q after h. f p q x rest after e h))
+gives_enclosed {P = P} read words g =
+    gives_followed (symbol_gives symbol.LeftParenthesis words)
+    (λ p rest e. gives_before_symbol symbol.RightParenthesis (g rest) (λ x q after h. rw e (let r : Enclosed P x (symbol_then symbol.LeftParenthesis p rest) after = enclosed_so h in r)))

@@ -45,3 +45,8 @@ pub gives_either : {X : Type 0} {Q : X → Words → Type 0} {o other : Read X} 
 unfolding or_else
 gives_either gives_none g = g
 gives_either (gives h) g = gives h
+
+-- nothing is read where nothing has the property
+pub nothing_read : {X : Type 0} {P : X → Words → Type 0} {o : Read X} → Gives P o → ((x : X) (rest : Words) → P x rest → ⊥) → o ≡ None
+nothing_read gives_none f = refl
+nothing_read (gives {x = x} {after = rest} h) f = absurd (f x rest h)

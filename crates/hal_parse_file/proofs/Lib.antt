@@ -6,3 +6,4 @@ mod Becomes
 mod Chains
 mod Below
 mod PartedLists
+mod Leaves

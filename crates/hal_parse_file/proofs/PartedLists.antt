@@ -5,13 +5,14 @@ use Rattle.hal_words.specs.declared.word.Symbol.TheVariants as symbol
 use Rattle.hal_grammar.specs.Leaves.{most}
 use Rattle.hal_grammar.specs.Words.{Words, symbol_then, BeginsSymbol}
 use Rattle.hal_grammar.specs.SpellsDeclarations.{Parted, last, more}
-use Rattle.hal_parse_expr.specs.Reading.{Read, Reader, followed, all, after_comma, parted}
+use Rattle.hal_parse_expr.specs.Reading.{Read, Reader, followed, made_of, all, after_comma, parted}
 use Rattle.hal_parse_expr.proofs.Shortening.{Shortens, all_none, all_more}
 use Rattle.hal_parse_expr.proofs.ShorteningExpressions.{comma_shortens}
+use Rattle.hal_parse_file.specs.ReadingDeclarations.{first_and_others}
 use Rattle.hal_parse_file.proofs.FirstWords.{past_symbol_none}
-use Rattle.hal_parse_file.proofs.Gives.{Gives, gives, gives_so, gives_followed}
+use Rattle.hal_parse_file.proofs.Gives.{Gives, gives, gives_so, gives_followed, gives_made}
 use Rattle.hal_parse_file.proofs.Firsts.{symbol_gives}
-use Rattle.hal_parse_file.proofs.Becomes.{followed_is, symbol_is}
+use Rattle.hal_parse_file.proofs.Becomes.{followed_is, made_is, symbol_is}
 use Rattle.hal_parse_file.proofs.Chains.{Chain, chain_end, chain_more, all_chain}
 
 -- a comma and a phrase
@@ -71,6 +72,16 @@ parted_is read short is c (last {x = x} {before = before} {after = after} d) h n
     parted_so read before x after [] after (is x before after d h) (all_none (after_comma read) after (comma_none read after n))
 parted_is read short is c (more {p = p} {x = x} {xs = xs} {before = before} {middle = middle} {after = after} d ds) h n =
     parted_so read before x (symbol_then symbol.Comma p middle) xs after (is x before (symbol_then symbol.Comma p middle) d (c p middle)) (others_are read short is c p ds h n)
+
+-- the same as one list
+pub list_gives : {X : Type 0} {P : X → Words → Words → Type 0} (read : Reader X) → ((words : Words) → Gives (λ x rest. P x words rest) (read words)) → (words : Words) →
+    Gives (λ xs rest. Parted P xs words rest) (made_of first_and_others (parted read words))
+list_gives read g words = gives_made _ (parted_gives read g words) (λ f rest h. h)
+
+pub list_is : {X : Type 0} {P : X → Words → Words → Type 0} {E : Words → Type 0} (read : Reader X) → Shortens read → ReadsUntil P E read → ((p : Place) (words : Words) → E (symbol_then symbol.Comma p words)) →
+    {xs : List X} {before after : Words} → Parted P xs before after → E after → ¬ BeginsSymbol symbol.Comma after → made_of first_and_others (parted read before) ≡ Some (xs, after)
+list_is read short is c (last d) h n = made_is _ (parted_is read short is c (last d) h n)
+list_is read short is c (more d ds) h n = made_is _ (parted_is read short is c (more d ds) h n)
 
 -- each of them is so deep at most
 pub parted_shallow : {X : Type 0} {R : X → Words → Words → Type 0} (depth : X → ℕ) (n : ℕ) {xs : List X} {before after : Words} → Parted R xs before after → most depth xs ≤ n →
