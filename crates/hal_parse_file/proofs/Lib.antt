@@ -6,4 +6,6 @@ mod Becomes
 mod Chains
 mod Below
 mod PartedLists
-mod Leaves
+mod LeavesRead
+mod KindsRead
+mod InitialsRead
