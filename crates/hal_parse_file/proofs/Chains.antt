@@ -1,9 +1,9 @@
 -- Lists of phrases, as they are read one after another.
-use Rattle.std.proofs.Common.{◌≡◌, ℕ, zero, suc, ◌<◌, List, [], ◌∷◌, length, Option, Some, None, refl}
+use Rattle.std.proofs.Common.{◌≡◌, ℕ, zero, suc, ◌<◌, List, [], ◌∷◌, length, Option, Some, None, refl, ap, ◌∙◌, ◌≤◌, arith}
 use Rattle.hal_words.specs.declared.word.Token.{Token}
 use Rattle.hal_grammar.specs.Words.{Words}
 use Rattle.hal_parse_expr.specs.Reading.{Read, Reader, many, all, listed}
-use Rattle.hal_parse_expr.proofs.Shortening.{Below, Shortens}
+use Rattle.hal_parse_expr.proofs.Shortening.{Below, Shortens, all_more}
 use Rattle.hal_parse_file.proofs.Gives.{Gives, gives_none, gives}
 
 -- phrases one after another
@@ -37,3 +37,13 @@ below_given (gives {x = x} {after = rest} h) f = f x rest h
 pub shortens : {X : Type 0} {P : X → Words → Words → Type 0} {read : Reader X} → ((words : Words) → Gives (λ x rest. P x words rest) (read words)) →
     ((x : X) (words rest : Words) → P x words rest → length rest < length words) → Shortens read
 shortens g f words = below_given (g words) (λ x rest h. f x words rest h)
+
+pub chain_shorter : {X : Type 0} {P : X → Words → Words → Type 0} → ((x : X) (words rest : Words) → P x words rest → length rest < length words) → {xs : List X} {before after : Words} →
+    Chain P xs before after → length after ≤ length before
+chain_shorter f chain_end = omega arith
+chain_shorter f (chain_more {x = x} {before = before} {middle = middle} h c) = omega (arith, f x before middle h, chain_shorter f c)
+
+-- a list that begins with this phrase
+pub all_first : {X : Type 0} (read : Reader X) → Shortens read → {words : Words} {x : X} {rest : Words} {xs : List X} {after : Words} → read words ≡ Some (x, rest) → all read rest ≡ (xs, after) →
+    all read words ≡ (x ∷ xs, after)
+all_first read short {words = words} {x = x} {rest = rest} e f = all_more read short words x rest e ∙ ap (λ l. (x ∷ l.0, l.1)) f

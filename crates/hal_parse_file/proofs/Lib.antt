@@ -8,4 +8,6 @@ mod Below
 mod PartedLists
 mod LeavesRead
 mod KindsRead
+mod FirstWeak
 mod InitialsRead
+mod AttributesRead
