@@ -11,3 +11,5 @@ mod KindsRead
 mod FirstWeak
 mod InitialsRead
 mod AttributesRead
+mod ItemsRead
+mod DeclarationsRead
