@@ -13,3 +13,4 @@ mod InitialsRead
 mod AttributesRead
 mod ItemsRead
 mod DeclarationsRead
+mod ConditionsRead

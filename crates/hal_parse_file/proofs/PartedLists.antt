@@ -34,11 +34,17 @@ pub parted_gives : {X : Type 0} {P : X → Words → Words → Type 0} (read : R
 unfolding parted
 parted_gives read g words = gives_followed (g words) (λ x rest h. gives (parted_from h (all_chain (after_comma read) (comma_gives read g) rest)))
 
+-- a phrase, and what is read behind it
+pub others_give : {X : Type 0} {P : X → Words → Words → Type 0} (read : Reader X) → ((words : Words) → Gives (λ x rest. P x words rest) (read words)) → {x : X} {words rest : Words} → P x words rest →
+    Parted P (x ∷ (all (after_comma read) rest).0) words (all (after_comma read) rest).1
+others_give read g {rest = rest} h = parted_from h (all_chain (after_comma read) (comma_gives read g) rest)
+
 -- every phrase that ends so is the one that is read
 abbrev pub ReadsUntil : {X : Type 0} → (X → Words → Words → Type 0) → (Words → Type 0) → Reader X → Type 0
 ReadsUntil {X = X} P E read = (x : X) (before after : Words) → P x before after → E after → read before ≡ Some (x, after)
 
-comma_none : {X : Type 0} (read : Reader X) (words : Words) → ¬ BeginsSymbol symbol.Comma words → after_comma read words ≡ None
+-- where no comma follows none is read
+pub comma_none : {X : Type 0} (read : Reader X) (words : Words) → ¬ BeginsSymbol symbol.Comma words → after_comma read words ≡ None
 unfolding after_comma followed
 comma_none read words n = ap (λ o. followed o (λ p rest. read rest)) (past_symbol_none symbol.Comma words n)
 
@@ -50,7 +56,8 @@ more_read : {X : Type 0} (read : Reader X) → Shortens read → (words : Words)
     all read words ≡ (x ∷ xs, after)
 more_read read short words x rest xs after e f = all_more read short words x rest e ∙ ap (λ l. (x ∷ l.0, l.1)) f
 
-others_are : {X : Type 0} {P : X → Words → Words → Type 0} {E : Words → Type 0} (read : Reader X) → Shortens read → ReadsUntil P E read → ((p : Place) (words : Words) → E (symbol_then symbol.Comma p words)) →
+-- what is parted by commas behind a comma is read
+pub others_are : {X : Type 0} {P : X → Words → Words → Type 0} {E : Words → Type 0} (read : Reader X) → Shortens read → ReadsUntil P E read → ((p : Place) (words : Words) → E (symbol_then symbol.Comma p words)) →
     (p : Place) {xs : List X} {before after : Words} → Parted P xs before after → E after → ¬ BeginsSymbol symbol.Comma after → all (after_comma read) (symbol_then symbol.Comma p before) ≡ (xs, after)
 others_are read short is c p (last {x = x} {before = before} {after = after} d) h n =
     more_read (after_comma read) (comma_shortens read short) (symbol_then symbol.Comma p before) x after [] after (comma_is read p before (is x before after d h))
