@@ -14,3 +14,5 @@ mod AttributesRead
 mod ItemsRead
 mod DeclarationsRead
 mod ConditionsRead
+mod ErrorsRead
+mod SchedulesRead
