@@ -80,3 +80,10 @@ unfolding in_parentheses
 gives_enclosed {P = P} read words g =
     gives_followed (symbol_gives symbol.LeftParenthesis words)
     (λ p rest e. gives_before_symbol symbol.RightParenthesis (g rest) (λ x q after h. rw e (let r : Enclosed P x (symbol_then symbol.LeftParenthesis p rest) after = enclosed_so h in r)))
+
+-- a phrase and a symbol behind it
+pub data Ended {X : Type 0} (s : Symbol) (P : X → Words → Words → Type 0) (x : X) (before after : Words) : Type 0 where
+  ended : {q : Place} → P x before (symbol_then s q after) → Ended s P x before after
+
+pub gives_ended : {X : Type 0} {P : X → Words → Words → Type 0} {o : Read X} (s : Symbol) (words : Words) → Gives (λ x rest. P x words rest) o → Gives (λ x rest. Ended s P x words rest) (before_symbol s o)
+gives_ended s words g = gives_before_symbol s g (λ x q rest h. ended h)

@@ -16,3 +16,4 @@ mod DeclarationsRead
 mod ConditionsRead
 mod ErrorsRead
 mod SchedulesRead
+mod SimpleRead
