@@ -1,0 +1,3 @@
+pub mod ReadingDeclarations
+pub mod ReadingStatements
+pub mod ReadingFiles

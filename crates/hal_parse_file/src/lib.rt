@@ -1,0 +1,2 @@
+//! The parser of files: from words to declarations, statements, units and the whole file.
+#![tactic(auto)]
