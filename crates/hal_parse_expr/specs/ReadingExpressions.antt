@@ -251,9 +251,9 @@ closed read (Some primary) words = before_symbol symbol.RightParenthesis (read p
 -- behind a name: the arguments, where `(` follows, else the rest of a reference
 unfoldable pub named_at : Option (Reader Expression) → Place → List ℕ → Reader Expression
 named_at deeper p n words = elim (past_symbol symbol.LeftParenthesis words) [
-    | None ↦ made_of Referred (reference_behind deeper p n words)
-    | Some f ↦ made_of (λ ts. Called p n ts) (closed expressions_of deeper f.1)
-  ]
+  | None ↦ made_of Referred (reference_behind deeper p n words)
+  | Some f ↦ made_of (λ ts. Called p n ts) (closed expressions_of deeper f.1)
+]
 
 -- a conversion
 unfoldable pub converted_at : Option (Reader Expression) → Place → Conversion → Reader Expression
@@ -272,9 +272,9 @@ primary_behind deeper p (word.Decimal n) rest = Some (Thousandths p n, rest)
 primary_behind deeper p (word.Symbol symbol.LeftParenthesis) rest = made_of (λ t. Enclosed p t) (closed expression_of deeper rest)
 primary_behind deeper p (word.Reserved reserved.Not) rest = negated_at deeper p rest
 primary_behind deeper p other rest = elim (literal_of other) [
-    | Some l ↦ Some (Literally p l, rest)
-    | None ↦ elim (conversion_of other) [ None ↦ None | Some c ↦ converted_at deeper p c rest ]
-  ]
+  | Some l ↦ Some (Literally p l, rest)
+  | None ↦ elim (conversion_of other) [ None ↦ None | Some c ↦ converted_at deeper p c rest ]
+]
 
 -- a primary
 unfoldable pub primary_of : Option (Reader Expression) → Reader Expression
