@@ -1,7 +1,9 @@
 //! Copies of trees: what is seen of a copy is what is seen of the tree. A copy takes memory, and gives an error where there is none.
 
+mod declarations;
 mod expressions;
 
+pub use declarations::{copy_attributes, copy_declaration, copy_declarations, copy_type};
 pub use expressions::{
-    copy_expression, copy_expressions, copy_names, copy_reference, copy_references,
+    copy_expression, copy_expressions, copy_names, copy_optional, copy_reference, copy_references,
 };

@@ -1,6 +1,7 @@
 //! Copies of expressions.
 
 ghost use Rattle.std.specs.Prelude.{◌≡◌, map, IfOk};
+ghost use Rattle.std.specs.Option.{option_map};
 ghost use Rattle.hal_syntax.specs.SeenExpressions.{seen_expression, seen_position, seen_reference, seen_signed, seen_sub, seen_subscript};
 
 use crate::expression::{Expr, Position, Reference, SignedTerm, Sub, Subscript};
@@ -198,6 +199,16 @@ pub fn copy_references(alloc: Global, trees: &[Reference]) -> Result<Vec<Referen
         copied.push(copy_reference(alloc, tree)?)?;
     }
     Ok(copied)
+}
+
+/// An expression like this one, where there is one, or an error where there is no memory.
+pub fn copy_optional(alloc: Global, tree: &Option<Expr>) -> Result<Option<Expr>, AllocError>
+    ensures { IfOk result (λ copied. option_map seen_expression copied ≡ option_map seen_expression tree.now) }
+{
+    match tree {
+        None => Ok(None),
+        Some(tree) => Ok(Some(copy_expression(alloc, tree)?)),
+    }
 }
 
 /// A subscript like this one.
