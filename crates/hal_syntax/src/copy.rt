@@ -2,8 +2,11 @@
 
 mod declarations;
 mod expressions;
+mod statement_parts;
+mod statements;
 
 pub use declarations::{copy_attributes, copy_declaration, copy_declarations, copy_type};
 pub use expressions::{
     copy_expression, copy_expressions, copy_names, copy_optional, copy_reference, copy_references,
 };
+pub use statements::{copy_statement, copy_statements};
