@@ -43,12 +43,7 @@ pub fn procedure(
 
 /// `FUNCTION(A, B) INTEGER DOUBLE EXCLUSIVE;`
 #[tactic(auto, using(crate::proofs::MadeUnits::made_function))]
-pub fn function(
-    place: Place,
-    inputs: Vec<Identifier>,
-    returns: Returns,
-    mode: Option<Mode>,
-) -> Head
+pub fn function(place: Place, inputs: Vec<Identifier>, returns: Returns, mode: Option<Mode>) -> Head
     ensures { seen_head result ≡ FunctionHead place (map seen_name inputs.items) (seen_returns returns) (option_map seen_mode mode) }
 {
     Head::Function {
