@@ -17,3 +17,4 @@ mod ConditionsRead
 mod ErrorsRead
 mod SchedulesRead
 mod SimpleRead
+mod GroupsRead
