@@ -18,3 +18,4 @@ mod ErrorsRead
 mod SchedulesRead
 mod SimpleRead
 mod GroupsRead
+mod StatementsRead
