@@ -19,3 +19,4 @@ mod SchedulesRead
 mod SimpleRead
 mod GroupsRead
 mod StatementsRead
+mod HeadsRead
