@@ -20,3 +20,5 @@ mod SimpleRead
 mod GroupsRead
 mod StatementsRead
 mod HeadsRead
+mod BlocksRead
+mod FilesRead
