@@ -9,7 +9,7 @@ use Rattle.hal_words.specs.declared.word.Word.{Word}
 use Rattle.hal_words.specs.declared.word.Word.TheVariants as word
 use Rattle.hal_words.specs.declared.word.Token.{Token}
 use Rattle.hal_grammar.specs.Words.{Words}
-use Rattle.hal_parse_expr.specs.Reading.{Read, Reader, followed, made_of, with_tail, or_else, where_true, is_reserved, is_symbol, past, past_symbol, name_at, integer_at, before_symbol, before, listed, many, all, after_comma, parted}
+use Rattle.hal_parse_expr.specs.Reading.{Read, Reader, followed, made_of, with_tail, or_else, decided, where_true, is_reserved, is_symbol, past, past_symbol, name_at, integer_at, before_symbol, before, listed, many, all, after_comma, parted}
 
 -- what is left is below this length
 abbrev pub Below : {X : Type 0} → ℕ → Read X → Type 0
@@ -47,6 +47,12 @@ pub or_below : {X : Type 0} (k : ℕ) (o other : Read X) → Below k o → Below
 unfolding or_else
 or_below k None other h g = g
 or_below k (Some f) other h g = h
+
+pub decided_below : {X Y : Type 0} (k m : ℕ) (o : Read X) (next : X → Words → Read Y) (other : Read Y) → Below m o → ((x : X) (rest : Words) → length rest < m → Below k (next x rest)) → Below k other →
+    Below k (decided o next other)
+unfolding decided
+decided_below k m None next other h g i = i
+decided_below k m (Some f) next other h g i = g f.0 f.1 h
 
 where_below : {X : Type 0} (k : ℕ) (b : Bool) (o : Read X) → Below k o → Below k (where_true b o)
 unfolding where_true

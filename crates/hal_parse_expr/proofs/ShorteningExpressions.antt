@@ -93,7 +93,7 @@ pub cat_shortens : (primary : Reader Expression) → Shortens primary → Shorte
 unfolding cat_of
 cat_shortens primary h words = row_shortens _ (sum_of primary) (behind reserved.Cat (sum_of primary)) (sum_shortens primary h) (behind_shortens reserved.Cat (sum_of primary) (sum_shortens primary h)) words
 
-related_shortens : (primary : Reader Expression) → Shortens primary → Shortens (related primary)
+pub related_shortens : (primary : Reader Expression) → Shortens primary → Shortens (related primary)
 unfolding related
 related_shortens primary h words = followed_below _ _ (relation_at words) _ (relation_shortens words)
     (λ r rest l. made_below _ _ (cat_of primary rest) (weaker _ _ (omega arith) (cat_of primary rest) (cat_shortens primary h rest)))

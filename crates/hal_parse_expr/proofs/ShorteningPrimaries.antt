@@ -12,7 +12,7 @@ use Rattle.hal_grammar.specs.Expressions.{Expression, Expressions, Literally, Re
 use Rattle.hal_grammar.specs.Words.{Words}
 use Rattle.hal_parse_expr.specs.Reading.{Read, Reader, followed, made_of, past_symbol, name_at, integer_at, before_symbol, all}
 use Rattle.hal_parse_expr.specs.ReadingExpressions.{further_at, expression_of, expressions_of, subs_of, components_of, arrays_then, arrays_of, copies_then, parts_of, enclosed_parts, subscript_behind, subscript_of, subscript_or_none, reference_behind, closed, named_at, converted_at, negated_at, literal_of, conversion_of, primary_behind, primary_of, primary_at, deeper_than, reference_of, reference_at}
-use Rattle.hal_parse_expr.proofs.Shortening.{Below, Shortens, Keeps, weaker, followed_below, made_below, or_below, symbol_shortens, name_shortens, integer_shortens, before_symbol_below, all_keeps}
+use Rattle.hal_parse_expr.proofs.Shortening.{Below, Shortens, Keeps, weaker, followed_below, made_below, or_below, decided_below, symbol_shortens, name_shortens, integer_shortens, before_symbol_below, all_keeps}
 use Rattle.hal_parse_expr.proofs.ShorteningExpressions.{further_shortens, expression_shortens, expressions_shortens, subs_shortens}
 
 components_shorten : (primary : Reader Expression) → Shortens primary → Shortens (components_of primary)
@@ -22,9 +22,8 @@ components_shorten primary h words = or_below _ _ _ (made_below _ _ (past_symbol
 
 arrays_then_shorten : (primary : Reader Expression) → Shortens primary → (copies xs : Subscripts) → Shortens (arrays_then primary copies xs)
 unfolding arrays_then
-arrays_then_shorten primary h copies xs words = or_below _ _ _
-    (followed_below _ _ (past_symbol symbol.Colon words) _ (symbol_shortens symbol.Colon words)
-    (λ p after l. made_below _ _ (components_of primary after) (weaker _ _ (omega arith) (components_of primary after) (components_shorten primary h after))))
+arrays_then_shorten primary h copies xs words = decided_below _ _ (past_symbol symbol.Colon words) _ _ (symbol_shortens symbol.Colon words)
+    (λ p after l. made_below _ _ (components_of primary after) (weaker _ _ (omega arith) (components_of primary after) (components_shorten primary h after)))
     (made_below _ _ (past_symbol symbol.RightParenthesis words) (symbol_shortens symbol.RightParenthesis words))
 
 arrays_shorten : (primary : Reader Expression) → Shortens primary → (copies : Subscripts) → Shortens (arrays_of primary copies)
@@ -35,9 +34,8 @@ arrays_shorten primary h copies words = or_below _ _ _ (made_below _ _ (past_sym
 
 copies_then_shorten : (primary : Reader Expression) → Shortens primary → (xs : Subscripts) → Shortens (copies_then primary xs)
 unfolding copies_then
-copies_then_shorten primary h xs words = or_below _ _ (arrays_then primary NoSubscripts xs words)
-    (followed_below _ _ (past_symbol symbol.Semicolon words) _ (symbol_shortens symbol.Semicolon words)
-    (λ p after l. weaker _ _ (omega arith) (arrays_of primary xs after) (arrays_shorten primary h xs after)))
+copies_then_shorten primary h xs words = decided_below _ _ (past_symbol symbol.Semicolon words) _ (arrays_then primary NoSubscripts xs words) (symbol_shortens symbol.Semicolon words)
+    (λ p after l. weaker _ _ (omega arith) (arrays_of primary xs after) (arrays_shorten primary h xs after))
     (arrays_then_shorten primary h _ xs words)
 
 parts_shorten : (primary : Reader Expression) → Shortens primary → Shortens (parts_of primary)
@@ -60,7 +58,7 @@ abbrev pub ShortensIfAny : Option (Reader Expression) → Type 0
 ShortensIfAny None = Unit {0}
 ShortensIfAny (Some primary) = Shortens primary
 
-subscript_keeps : (deeper : Option (Reader Expression)) → ShortensIfAny deeper → Keeps (subscript_or_none deeper)
+pub subscript_keeps : (deeper : Option (Reader Expression)) → ShortensIfAny deeper → Keeps (subscript_or_none deeper)
 unfolding subscript_or_none subscript_of
 subscript_keeps None h words = or_below _ _ _ tt (omega arith)
 subscript_keeps (Some primary) h words = or_below _ _ _

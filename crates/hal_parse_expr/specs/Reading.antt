@@ -40,6 +40,11 @@ unfoldable pub or_else : {X : Type 0} → Read X → Read X → Read X
 or_else None other = other
 or_else (Some f) other = Some f
 
+-- what is read behind a phrase, where it is there, else the other
+unfoldable pub decided : {X Y : Type 0} → Read X → (X → Words → Read Y) → Read Y → Read Y
+decided None next other = other
+decided (Some f) next other = next f.0 f.1
+
 -- where the test holds
 unfoldable pub where_true : {X : Type 0} → Bool → Read X → Read X
 where_true true read = read

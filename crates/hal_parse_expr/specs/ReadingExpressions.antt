@@ -12,26 +12,9 @@ use Rattle.hal_words.specs.declared.word.Token.{Token}
 use Rattle.hal_grammar.specs.Leaves.{Naming, Sign, Added, Subtracted, Relation, IsEqual, IsLess, IsGreater, IsAtMost, IsAtLeast, IsNotEqual, IsNotLess, IsNotGreater, Conversion, ToInteger, ToBits, ToText, Literal, WholeNumber, QuotedText, BitPattern, TrueBit, FalseBit, OnBit, OffBit}
 use Rattle.hal_grammar.specs.Expressions.{Expression, Ors, Ands, Compared, Joined, Summed, Multiplied, Powered, Negated, Literally, Thousandths, Referred, Called, Converted, Enclosed, Expressions, NoExpressions, MoreExpressions, Terms, NoTerms, MoreTerms, Reference, Refers, Subscript, Unsubscripted, ByName, ByInteger, ByParts, Subscripts, NoSubscripts, MoreSubscripts, Sub, EveryPlace, OnePlace, Range, Portion, Position, FromBeginning, FromEnd, place_of}
 use Rattle.hal_grammar.specs.Words.{Words}
-use Rattle.hal_parse_expr.specs.Reading.{Read, Reader, followed, made_of, with_tail, or_else, where_true, past, past_symbol, is_reserved, name_at, integer_at, before_symbol, all, parted}
-
--- expressions one after another, as a list of the grammar
-unfoldable pub expressions : List Expression → Expressions
-expressions [] = NoExpressions
-expressions (t ∷ ts) = MoreExpressions t (expressions ts)
-
--- a signed term with its place
-abbrev pub SignedTerm : Type 0
-SignedTerm = Place × Sign × Expression
-
--- signed terms one after another, as a list of the grammar
-unfoldable pub terms : List SignedTerm → Terms
-terms [] = NoTerms
-terms (t ∷ ts) = MoreTerms t.0 t.1 t.2 (terms ts)
-
--- subscripts one after another, as a list of the grammar
-unfoldable pub subscripts : List Sub → Subscripts
-subscripts [] = NoSubscripts
-subscripts (x ∷ xs) = MoreSubscripts x (subscripts xs)
+unfoldable pub use Rattle.hal_syntax.specs.Rows.{expressions, terms, subscripts}
+pub use Rattle.hal_syntax.specs.Rows.{SignedTerm}
+use Rattle.hal_parse_expr.specs.Reading.{Read, Reader, followed, made_of, with_tail, or_else, decided, where_true, past, past_symbol, is_reserved, name_at, integer_at, before_symbol, all, parted}
 
 -- the sign that a word is
 unfoldable pub sign_of : Word → Option Sign
@@ -90,6 +73,10 @@ conversion_of other = None
 -- a point and a name
 unfoldable pub further_at : Reader Naming
 further_at words = followed (past_symbol symbol.Point words) (λ p rest. name_at rest)
+
+-- `**` and a primary
+unfoldable pub exponent_of : Reader Expression → Reader Expression
+exponent_of primary words = followed (past_symbol symbol.Power words) (λ p after. primary after)
 
 -- a factor: a primary, or a primary to the power of a primary
 unfoldable pub factor_of : Reader Expression → Reader Expression
@@ -211,7 +198,7 @@ components_of primary words =
 -- behind subscripts that the first part, behind its semicolon, doesn't have: a colon and the third part, or the parenthesis
 unfoldable pub arrays_then : Reader Expression → Subscripts → Subscripts → Reader Parts
 arrays_then primary copies xs rest =
-    or_else (followed (past_symbol symbol.Colon rest) (λ p after. made_of (λ ys. (copies, xs, ys)) (components_of primary after)))
+    decided (past_symbol symbol.Colon rest) (λ p after. made_of (λ ys. (copies, xs, ys)) (components_of primary after))
     (made_of (λ p. (copies, NoSubscripts, xs)) (past_symbol symbol.RightParenthesis rest))
 
 -- the second and the third part and the parenthesis
@@ -223,7 +210,7 @@ arrays_of primary copies words =
 -- behind the first subscripts: a semicolon and the other parts, or they are of a later part
 unfoldable pub copies_then : Reader Expression → Subscripts → Reader Parts
 copies_then primary xs rest =
-    or_else (followed (past_symbol symbol.Semicolon rest) (λ p after. arrays_of primary xs after)) (arrays_then primary NoSubscripts xs rest)
+    decided (past_symbol symbol.Semicolon rest) (λ p after. arrays_of primary xs after) (arrays_then primary NoSubscripts xs rest)
 
 -- the three parts and the parenthesis
 unfoldable pub parts_of : Reader Expression → Reader Parts
@@ -264,9 +251,9 @@ closed read (Some primary) words = before_symbol symbol.RightParenthesis (read p
 -- behind a name: the arguments, where `(` follows, else the rest of a reference
 unfoldable pub named_at : Option (Reader Expression) → Place → List ℕ → Reader Expression
 named_at deeper p n words = elim (past_symbol symbol.LeftParenthesis words) [
-    | None ↦ made_of Referred (reference_behind deeper p n words)
-    | Some f ↦ made_of (λ ts. Called p n ts) (closed expressions_of deeper f.1)
-  ]
+  | None ↦ made_of Referred (reference_behind deeper p n words)
+  | Some f ↦ made_of (λ ts. Called p n ts) (closed expressions_of deeper f.1)
+]
 
 -- a conversion
 unfoldable pub converted_at : Option (Reader Expression) → Place → Conversion → Reader Expression
@@ -285,9 +272,9 @@ primary_behind deeper p (word.Decimal n) rest = Some (Thousandths p n, rest)
 primary_behind deeper p (word.Symbol symbol.LeftParenthesis) rest = made_of (λ t. Enclosed p t) (closed expression_of deeper rest)
 primary_behind deeper p (word.Reserved reserved.Not) rest = negated_at deeper p rest
 primary_behind deeper p other rest = elim (literal_of other) [
-    | Some l ↦ Some (Literally p l, rest)
-    | None ↦ elim (conversion_of other) [ None ↦ None | Some c ↦ converted_at deeper p c rest ]
-  ]
+  | Some l ↦ Some (Literally p l, rest)
+  | None ↦ elim (conversion_of other) [ None ↦ None | Some c ↦ converted_at deeper p c rest ]
+]
 
 -- a primary
 unfoldable pub primary_of : Option (Reader Expression) → Reader Expression
