@@ -1,13 +1,13 @@
 -- What larger phrases give where their parts give so.
-use Rattle.std.proofs.Common.{◌≡◌, ◌∷◌, Option, Some, None, refl, ap, ◌∙◌}
+use Rattle.std.proofs.Common.{◌≡◌, Some, None, ap, ◌∙◌}
 use Rattle.hal_base.specs.declared.refusal.Place.{Place}
 use Rattle.hal_words.specs.declared.reserved.Reserved.{Reserved}
 use Rattle.hal_words.specs.declared.word.Symbol.{Symbol}
 use Rattle.hal_words.specs.declared.word.Symbol.TheVariants as symbol
 use Rattle.hal_grammar.specs.Words.{Words, reserved_then, symbol_then}
-use Rattle.hal_parse_expr.specs.Reading.{Read, Reader, followed, made_of, or_else, past, past_symbol, before_symbol, before}
-use Rattle.hal_parse_file.specs.ReadingDeclarations.{decided, in_parentheses}
-use Rattle.hal_parse_file.proofs.FirstWords.{past_here, past_symbol_here}
+use Rattle.hal_parse_expr.specs.Reading.{decided, Read, Reader, followed, made_of, or_else, past, past_symbol, before_symbol, before}
+use Rattle.hal_parse_file.specs.ReadingDeclarations.{in_parentheses}
+use Rattle.hal_parse_expr.proofs.FirstWords.{past_here, past_symbol_here}
 
 pub followed_is : {X Y : Type 0} {o : Read X} {x : X} {rest : Words} (next : X → Words → Read Y) → o ≡ Some (x, rest) → followed o next ≡ next x rest
 unfolding followed

@@ -6,7 +6,7 @@ use Rattle.hal_words.specs.declared.reserved.Reserved.TheVariants as reserved
 use Rattle.hal_grammar.specs.Leaves.{Naming, naming, most}
 use Rattle.hal_grammar.specs.Declarations.{Declaration, nesting_of_declaration}
 use Rattle.hal_grammar.specs.Statements.{Statement, nesting_of_statement}
-use Rattle.hal_grammar.specs.Units.{Head, Block, BlockOf, Elements, NoElements, StatementFirst, BlockFirst, stands_inside, holds_elements, nesting_of_head, nesting_of_block, nesting_of_elements}
+use Rattle.hal_grammar.specs.Units.{Head, Block, BlockOf, Elements, NoElements, StatementFirst, BlockFirst, stands_inside, holds_elements, nesting_of_block, nesting_of_elements}
 use Rattle.hal_grammar.specs.Words.{Words, reserved_then, BeginsReserved, begins}
 use Rattle.hal_grammar.specs.SpellsDeclarations.{SpellsNameEnd, SpellsDeclarations}
 use Rattle.hal_grammar.specs.SpellsStatements.{begins_label, no_labels, more_labels, SpellsStatement, labelled}
@@ -14,10 +14,9 @@ use Rattle.hal_grammar.specs.SpellsFiles.{SpellsHead, program_head, compool_head
 use Rattle.hal_grammar.proofs.OneStatement.{reserved_starts, starts, IsStart, statement_starts}
 use Rattle.hal_grammar.proofs.ShorterStatements.{statement_shorter}
 use Rattle.hal_grammar.proofs.ShorterFiles.{block_shorter}
-use Rattle.hal_parse_expr.specs.Reading.{Read, Reader, followed, made_of, or_else, where_true, past, all}
+use Rattle.hal_parse_expr.specs.Reading.{Read, Reader, followed, made_of, where_true, past, all}
 use Rattle.hal_parse_expr.proofs.Shortening.{Shortens, all_none}
 use Rattle.hal_parse_file.specs.ReadingDeclarations.{name_end_at}
-use Rattle.hal_parse_file.specs.ReadingStatements.{statement_at}
 use Rattle.hal_parse_file.specs.ReadingFiles.{Element, StatementElement, BlockElement, elements, head_of, inner_block, element_of, elements_of, block_close, block_behind, block_of, block_at}
 use Rattle.hal_parse_file.proofs.Gives.{Gives, gives_none, gives, gives_so, gives_followed, gives_made, gives_either, nothing_read}
 use Rattle.hal_parse_file.proofs.Firsts.{past_gives}
@@ -25,7 +24,6 @@ use Rattle.hal_parse_file.proofs.Becomes.{followed_is, made_is, either_not, eith
 use Rattle.hal_parse_file.proofs.Chains.{Chain, chain_end, chain_more, all_chain, shortens, all_first}
 use Rattle.hal_parse_file.proofs.LeavesRead.{name_end_gives, name_end_is}
 use Rattle.hal_parse_file.proofs.DeclarationsRead.{SpellsLabel, one_label, label_gives, label_is, DeclarationOf, declarations_chain, declarations_spelled, declarations_are}
-use Rattle.hal_parse_file.proofs.Below.{Reads}
 use Rattle.hal_parse_file.proofs.StatementsRead.{statement_gives, statement_is}
 use Rattle.hal_parse_file.proofs.HeadsRead.{HeadOf, head_gives, head_is}
 
@@ -59,10 +57,10 @@ inner_gives bs words = gives_followed (bs.sound words) (λ u rest d. where_gives
 inner_element : {n : ℕ} {u : Block} {b a : Words} → InnerOf n u b a → ElementOf n (BlockElement u) b a
 inner_element (inner_of d l e) = block_element d l e
 
-element_gives : Reads → {n : ℕ} {read : Reader Block} → Blocks n read → (words : Words) → Gives (λ x rest. ElementOf n x words rest) (element_of n read words)
+element_gives : {n : ℕ} {read : Reader Block} → Blocks n read → (words : Words) → Gives (λ x rest. ElementOf n x words rest) (element_of n read words)
 unfolding element_of
-element_gives rs {n = n} bs words =
-    gives_either (gives_made _ (inner_gives bs words) (λ u rest d. inner_element d)) (gives_made _ (statement_gives rs n words) (λ s rest d. statement_element d.0 d.1))
+element_gives {n = n} bs words =
+    gives_either (gives_made _ (inner_gives bs words) (λ u rest d. inner_element d)) (gives_made _ (statement_gives n words) (λ s rest d. statement_element d.0 d.1))
 
 block_first_of : {u : Block} {es : Elements} {c : Option Naming} {b m a : Words} → SpellsBlock u b m → stands_inside (head_of u) ≡ true → SpellsElements es c m a → SpellsElements (BlockFirst u es) c b a
 block_first_of (block h ds fs q) e es = block_first (block h ds fs q) e es
@@ -74,10 +72,10 @@ elements_spelled chain_end d = (closed d, omega arith)
 elements_spelled (chain_more (statement_element e l) ch) d = let r = elements_spelled ch d in (statement_first e r.0, omega (arith, l, r.1))
 elements_spelled (chain_more (block_element e l s) ch) d = let r = elements_spelled ch d in (block_first_of e s r.0, omega (arith, l, r.1))
 
-elements_chain : Reads → {n : ℕ} {read : Reader Block} → Blocks n read → (b : Bool) (words : Words) → Chain (ElementOf n) (elements_of n read b words).0 words (elements_of n read b words).1
+elements_chain : {n : ℕ} {read : Reader Block} → Blocks n read → (b : Bool) (words : Words) → Chain (ElementOf n) (elements_of n read b words).0 words (elements_of n read b words).1
 unfolding elements_of
-elements_chain rs {n = n} {read = read} bs true words = all_chain (element_of n read) (element_gives rs bs) words
-elements_chain rs bs false words = chain_end
+elements_chain {n = n} {read = read} bs true words = all_chain (element_of n read) (element_gives bs) words
+elements_chain bs false words = chain_end
 
 elements_held : (n : ℕ) (read : Reader Block) (b : Bool) (words : Words) → elements (elements_of n read b words).0 ≢ NoElements → b ≡ true
 unfolding elements_of elements
@@ -93,12 +91,12 @@ tail_so : {n : ℕ} {x : Naming} {h : Head} {ds : List Declaration} {es : List E
     SpellsNameEnd c m a → (elements es ≢ NoElements → holds_elements h ≡ true) → TailOf n x h ds (BlockOf x h ds (elements es) c) b a
 tail_so ch d f = let r = elements_spelled ch d in tail_of r.0 r.1 f
 
-close_gives : Reads → {n : ℕ} {read : Reader Block} → Blocks n read → (x : Naming) (h : Head) (ds : List Declaration) (words : Words) →
+close_gives : {n : ℕ} {read : Reader Block} → Blocks n read → (x : Naming) (h : Head) (ds : List Declaration) (words : Words) →
     Gives (λ u rest. TailOf n x h ds u words rest) (block_close n read x h ds words)
 unfolding block_close
-close_gives rs {n = n} {read = read} bs x h ds words =
+close_gives {n = n} {read = read} bs x h ds words =
     gives_followed (past_gives reserved.Close (elements_of n read (holds_elements h) words).1)
-    (λ p rest e. gives_made _ (name_end_gives rest) (λ c after d. tail_so (rw e at (elements_chain rs bs (holds_elements h) words)) d (elements_held n read (holds_elements h) words)))
+    (λ p rest e. gives_made _ (name_end_gives rest) (λ c after d. tail_so (rw e at (elements_chain bs (holds_elements h) words)) d (elements_held n read (holds_elements h) words)))
 
 not_start : {r : Reserved} {words : Words} → reserved_starts r ≡ 0 → IsStart (starts words) → ¬ BeginsReserved r words
 not_start e h begins = h.0 e
@@ -121,10 +119,10 @@ block_so : {n : ℕ} {x : Naming} {h : Head} {ds : List Declaration} {u : Block}
 block_so {n = n} one_label d ch (tail_of e l f) =
     let r = declarations_spelled n ch (elements_no_declare e) (elements_no_structure e) in (block d.0 r.0 e f, omega (arith, d.1, r.1, l))
 
-block_of_gives : Reads → {n : ℕ} {read : Reader Block} → Blocks n read → (words : Words) → Gives (λ u rest. BlockWithin (suc n) u words rest) (block_of n read words)
+block_of_gives : {n : ℕ} {read : Reader Block} → Blocks n read → (words : Words) → Gives (λ u rest. BlockWithin (suc n) u words rest) (block_of n read words)
 unfolding block_of block_behind
-block_of_gives rs {n = n} bs words =
-    gives_followed (label_gives words) (λ x r1 d. gives_followed (head_gives rs n r1) (λ h r2 e. gives_so (close_gives rs bs x h _ _) (λ u rest f. block_so d e (declarations_chain rs n r2) f)))
+block_of_gives {n = n} bs words =
+    gives_followed (label_gives words) (λ x r1 d. gives_followed (head_gives n r1) (λ h r2 e. gives_so (close_gives bs x h _ _) (λ u rest f. block_so d e (declarations_chain n r2) f)))
 
 head_starts : {h : Head} {b a : Words} → SpellsHead h b a → starts b ≡ 2
 head_starts program_head = refl
@@ -149,17 +147,17 @@ element_shorter : (n : ℕ) (x : Element) (words rest : Words) → ElementOf n x
 element_shorter n x words rest (statement_element d l) = statement_shorter d
 element_shorter n x words rest (block_element d l s) = block_shorter d
 
-element_shortens : Reads → {n : ℕ} {read : Reader Block} → Blocks n read → Shortens (element_of n read)
-element_shortens rs {n = n} bs = shortens (element_gives rs bs) (element_shorter n)
+element_shortens : {n : ℕ} {read : Reader Block} → Blocks n read → Shortens (element_of n read)
+element_shortens {n = n} bs = shortens (element_gives bs) (element_shorter n)
 
 made_none : {X Y : Type 0} {o : Read X} (make : X → Y) → o ≡ None → made_of make o ≡ None
 unfolding made_of
 made_none make e = ap (λ o. made_of make o) e
 
-statement_read : Reads → {n : ℕ} {read : Reader Block} → Blocks n read → {s : Statement} {b a : Words} → SpellsStatement s b a → nesting_of_statement s ≤ n →
+statement_read : {n : ℕ} {read : Reader Block} → Blocks n read → {s : Statement} {b a : Words} → SpellsStatement s b a → nesting_of_statement s ≤ n →
     element_of n read b ≡ Some (StatementElement s, a)
 unfolding element_of
-statement_read rs {n = n} bs {b = b} d l = either_not _ (made_none _ (nothing_read (inner_gives bs b) (λ u rest e. inner_no_statement d e))) ∙ made_is _ (statement_is rs n d l)
+statement_read {n = n} bs {b = b} d l = either_not _ (made_none _ (nothing_read (inner_gives bs b) (λ u rest e. inner_no_statement d e))) ∙ made_is _ (statement_is n d l)
 
 inner_is : {n : ℕ} {read : Reader Block} → Blocks n read → {u : Block} {b a : Words} → SpellsBlock u b a → nesting_of_block u ≤ n → stands_inside (head_of u) ≡ true → inner_block read b ≡ Some (u, a)
 unfolding inner_block where_true
@@ -192,12 +190,12 @@ unfolding elements
 more_block {n = n} {read = read} {u = u} {c = c} {b = b} {a = a} short e (reads_elements {es = es} f d) =
     let r : ReadsElements n read (elements (BlockElement u ∷ es)) c b a = reads_elements (all_first (element_of n read) short e f) d in r
 
-elements_read : Reads → {n : ℕ} {read : Reader Block} → Blocks n read → {es : Elements} {c : Option Naming} {b a : Words} → SpellsElements es c b a → nesting_of_elements es ≤ n →
+elements_read : {n : ℕ} {read : Reader Block} → Blocks n read → {es : Elements} {c : Option Naming} {b a : Words} → SpellsElements es c b a → nesting_of_elements es ≤ n →
     ReadsElements n read es c b a
-elements_read rs {n = n} {read = read} bs (closed {p = p} {before = before} d) h =
-    no_more (all_none (element_of n read) (reserved_then reserved.Close p before) (nothing_read (element_gives rs bs (reserved_then reserved.Close p before)) (λ x rest e. element_not_close e begins))) d
-elements_read rs bs (statement_first d es) h = more_statement (element_shortens rs bs) (statement_read rs bs d (omega arith)) (elements_read rs bs es (omega arith))
-elements_read rs bs (block_first d s es) h = more_block (element_shortens rs bs) (block_read bs d (omega arith) s) (elements_read rs bs es (omega arith))
+elements_read {n = n} {read = read} bs (closed {p = p} {before = before} d) h =
+    no_more (all_none (element_of n read) (reserved_then reserved.Close p before) (nothing_read (element_gives bs (reserved_then reserved.Close p before)) (λ x rest e. element_not_close e begins))) d
+elements_read bs (statement_first d es) h = more_statement (element_shortens bs) (statement_read bs d (omega arith)) (elements_read bs es (omega arith))
+elements_read bs (block_first d s es) h = more_block (element_shortens bs) (block_read bs d (omega arith) s) (elements_read bs es (omega arith))
 
 -- the same where the unit may hold them
 data ReadsHeld (n : ℕ) (read : Reader Block) (held : Bool) : Elements → Option Naming → Words → Words → Type 0 where
@@ -214,10 +212,10 @@ held_false {n = n} {read = read} {c = c} {a = a} (closed {p = p} {before = befor
 held_false (statement_first d es) h = absurd (let e : false ≡ true = h (λ q. cc) in cc)
 held_false (block_first d s es) h = absurd (let e : false ≡ true = h (λ q. cc) in cc)
 
-held_read : Reads → {n : ℕ} {read : Reader Block} → Blocks n read → (held : Bool) {es : Elements} {c : Option Naming} {b a : Words} → SpellsElements es c b a → nesting_of_elements es ≤ n →
+held_read : {n : ℕ} {read : Reader Block} → Blocks n read → (held : Bool) {es : Elements} {c : Option Naming} {b a : Words} → SpellsElements es c b a → nesting_of_elements es ≤ n →
     (es ≢ NoElements → held ≡ true) → ReadsHeld n read held es c b a
-held_read rs bs true d l h = held_true (elements_read rs bs d l)
-held_read rs bs false d l h = held_false d h
+held_read bs true d l h = held_true (elements_read bs d l)
+held_read bs false d l h = held_false d h
 
 held_close : (n : ℕ) (read : Reader Block) (x : Naming) (h : Head) (ds : List Declaration) {es : Elements} {c : Option Naming} {b a : Words} → ReadsHeld n read (holds_elements h) es c b a →
     block_close n read x h ds b ≡ Some (BlockOf x h ds es c, a)
@@ -225,23 +223,23 @@ unfolding block_close
 held_close n read x h ds (reads_held {p = p} {m = m} e d) =
     ap (λ l. followed (past reserved.Close l.1) (λ p rest. made_of (λ c. BlockOf x h ds (elements l.0) c) (name_end_at rest))) e ∙ past_is reserved.Close p m _ ∙ made_is _ (name_end_is d)
 
-behind_is : Reads → {n : ℕ} {read : Reader Block} → Blocks n read → (x : Naming) (h : Head) {ds : List Declaration} {es : Elements} {c : Option Naming} {b m a : Words} →
+behind_is : {n : ℕ} {read : Reader Block} → Blocks n read → (x : Naming) (h : Head) {ds : List Declaration} {es : Elements} {c : Option Naming} {b m a : Words} →
     SpellsDeclarations ds b m → most nesting_of_declaration ds ≤ n → SpellsElements es c m a → nesting_of_elements es ≤ n → (es ≢ NoElements → holds_elements h ≡ true) →
     block_behind n read x h b ≡ Some (BlockOf x h ds es c, a)
 unfolding block_behind
-behind_is rs {n = n} {read = read} bs x h {ds = ds} d l e k q =
-    ap (λ s. block_close n read x h s.0 s.1) (declarations_are rs n d l) ∙ held_close n read x h ds (held_read rs bs (holds_elements h) e k q)
+behind_is {n = n} {read = read} bs x h {ds = ds} d l e k q =
+    ap (λ s. block_close n read x h s.0 s.1) (declarations_are n d l) ∙ held_close n read x h ds (held_read bs (holds_elements h) e k q)
 
-block_of_is : Reads → {n : ℕ} {read : Reader Block} → Blocks n read → {u : Block} {b a : Words} → SpellsBlock u b a → nesting_of_block u ≤ suc n → block_of n read b ≡ Some (u, a)
+block_of_is : {n : ℕ} {read : Reader Block} → Blocks n read → {u : Block} {b a : Words} → SpellsBlock u b a → nesting_of_block u ≤ suc n → block_of n read b ≡ Some (u, a)
 unfolding block_of
-block_of_is rs {n = n} bs (block {p = p} {n = m} {h = h} d ds es q) l =
-    followed_is _ (label_is one_label) ∙ followed_is _ (head_is rs n d (omega (arith, l))) ∙ behind_is rs bs (naming p m) h ds (omega (arith, l)) es (omega (arith, l)) q
+block_of_is {n = n} bs (block {p = p} {n = m} {h = h} d ds es q) l =
+    followed_is _ (label_is one_label) ∙ followed_is _ (head_is n d (omega (arith, l))) ∙ behind_is bs (naming p m) h ds (omega (arith, l)) es (omega (arith, l)) q
 
 block_deep : (u : Block) → nesting_of_block u ≤ 0 → ⊥
 block_deep (BlockOf x h ds es c) l = omega (arith, l)
 
 -- units of each depth are read exactly
-pub blocks : Reads → (n : ℕ) → Blocks n (block_at n)
+pub blocks : (n : ℕ) → Blocks n (block_at n)
 unfolding block_at
-blocks rs zero = record { sound = λ words. gives_none; full = λ u b a d. absurd (block_deep u d.1) }
-blocks rs (suc n) = let bs = blocks rs n in record { sound = λ words. block_of_gives rs bs words; full = λ u b a d. block_of_is rs bs d.0 d.1 }
+blocks zero = record { sound = λ words. gives_none; full = λ u b a d. absurd (block_deep u d.1) }
+blocks (suc n) = let bs = blocks n in record { sound = λ words. block_of_gives bs words; full = λ u b a d. block_of_is bs d.0 d.1 }

@@ -1,6 +1,5 @@
 -- Lists of phrases, as they are read one after another.
-use Rattle.std.proofs.Common.{◌≡◌, ℕ, zero, suc, ◌<◌, List, [], ◌∷◌, length, Option, Some, None, refl, ap, ◌∙◌, ◌≤◌, arith}
-use Rattle.hal_words.specs.declared.word.Token.{Token}
+use Rattle.std.proofs.Common.{◌≡◌, ℕ, zero, suc, ◌<◌, List, [], ◌∷◌, length, Some, ap, ◌∙◌, ◌≤◌, arith}
 use Rattle.hal_grammar.specs.Words.{Words}
 use Rattle.hal_parse_expr.specs.Reading.{Read, Reader, many, all, listed}
 use Rattle.hal_parse_expr.proofs.Shortening.{Below, Shortens, all_more}

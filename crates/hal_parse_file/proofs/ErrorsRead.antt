@@ -1,17 +1,17 @@
 -- Which errors are meant, events and responses: what is read is spelled, and what is spelled is read.
-use Rattle.std.proofs.Common.{◌≡◌, ℕ, List, [], ◌∷◌, Option, Some, None, refl, ap, ◌∙◌}
+use Rattle.std.proofs.Common.{◌≡◌, ℕ, List, [], ◌∷◌, Option, Some, None, refl, ◌∙◌}
 use Rattle.hal_base.specs.declared.refusal.Place.{Place}
 use Rattle.hal_words.specs.declared.reserved.Reserved.TheVariants as reserved
 use Rattle.hal_words.specs.declared.word.Symbol.TheVariants as symbol
 use Rattle.hal_words.specs.declared.word.Word.{Word}
 use Rattle.hal_words.specs.declared.word.Word.TheVariants as word
-use Rattle.hal_grammar.specs.Leaves.{Naming, naming}
-use Rattle.hal_grammar.specs.Statements.{Selector, GroupErrors, OneError, EventAction, Eventful, eventful, Response, BySystem, Ignored}
+use Rattle.hal_grammar.specs.Leaves.{naming}
+use Rattle.hal_grammar.specs.Statements.{Selector, GroupErrors, OneError, EventAction, Eventful, eventful, Response}
 use Rattle.hal_grammar.specs.Words.{Words, token, symbol_then, reserved_then, name_then, integer_then}
 use Rattle.hal_grammar.specs.SpellsStatements.{SpellsSelector, every_error, group_alone, group_enclosed, group_colon, group_star, one_error, SpellsEvent, pulses, raises, lowers, SpellsResponse, by_system, ignored, SpellsEventEnd, no_event_end, event_end}
-use Rattle.hal_parse_expr.specs.Reading.{Read, past, is_reserved, where_true, past_symbol, is_symbol, name_at, integer_at, made_of}
+use Rattle.hal_parse_expr.specs.Reading.{past, is_reserved, where_true, past_symbol, is_symbol, name_at, integer_at, made_of}
 use Rattle.hal_parse_file.specs.ReadingStatements.{error_number, error_group, selector_behind, selector_at, action_of, event_behind, event_at, event_end_at, response_at}
-use Rattle.hal_parse_file.proofs.FirstWords.{past_symbol_none}
+use Rattle.hal_parse_expr.proofs.FirstWords.{past_symbol_none}
 use Rattle.hal_parse_file.proofs.Gives.{Gives, gives_none, gives, gives_so, gives_followed, gives_made, gives_decided}
 use Rattle.hal_parse_file.proofs.Firsts.{name_gives, integer_gives, past_gives, symbol_gives, not_begun_symbol, gives_before_symbol, Enclosed, enclosed_so, gives_enclosed}
 use Rattle.hal_parse_file.proofs.Becomes.{followed_is, made_is, decided_is, decided_not, before_symbol_is, enclosed_is}

@@ -1,29 +1,28 @@
 -- Templates and files: what is read is spelled, and what is spelled is read.
-use Rattle.std.proofs.Common.{◌≡◌, ℕ, ◌≤◌, List, [], ◌∷◌, Option, Some, None, refl, ap, ◌∙◌, arith}
+use Rattle.std.proofs.Common.{◌≡◌, ℕ, ◌≤◌, List, ◌∷◌, Option, Some, refl, ap, ◌∙◌, arith}
 use Rattle.hal_base.specs.declared.refusal.Place.{Place}
 use Rattle.hal_words.specs.declared.reserved.Reserved.TheVariants as reserved
 use Rattle.hal_grammar.specs.Leaves.{Naming, naming}
 use Rattle.hal_grammar.specs.Declarations.{Declaration}
-use Rattle.hal_grammar.specs.Units.{Head, Block, Template, template_of, Preface, Includes, Templates, File, file_of, nesting_of_block, nesting_of_template, nesting_of_preface, nesting_of_file}
+use Rattle.hal_grammar.specs.Units.{Head, Block, Template, template_of, Preface, File, file_of, nesting_of_block, nesting_of_template, nesting_of_preface, nesting_of_file}
 use Rattle.hal_grammar.specs.Words.{Words, reserved_then, name_then, BeginsReserved}
 use Rattle.hal_grammar.specs.SpellsDeclarations.{SpellsNameEnd}
 use Rattle.hal_grammar.specs.SpellsFiles.{SpellsHead, program_head, compool_head, task_head, procedure_head, function_head, SpellsBlock, block, SpellsTemplate, template, SpellsPreface, includes, templates, SpellsFile, block_alone, preface_first}
 use Rattle.hal_grammar.proofs.ShorterFiles.{preface_shorter}
 use Rattle.hal_grammar.proofs.OneStatement.{starts}
-use Rattle.hal_parse_expr.specs.Reading.{Read, made_of, before, all, past, is_reserved, where_true, name_at}
+use Rattle.hal_parse_expr.specs.Reading.{made_of, before, name_at}
 use Rattle.hal_parse_expr.proofs.Shortening.{Shortens, all_none}
-use Rattle.hal_parse_file.specs.ReadingDeclarations.{label_at, declarations_at}
+use Rattle.hal_parse_file.specs.ReadingDeclarations.{label_at}
 use Rattle.hal_parse_file.specs.ReadingFiles.{block_at, template_close, external_behind, template_at, preface_at, prefaces_at, file_at}
-use Rattle.hal_parse_file.proofs.FirstWords.{past_here, past_none}
-use Rattle.hal_parse_file.proofs.Gives.{Gives, gives, gives_so, gives_followed, gives_made, gives_decided, given, nothing_read}
+use Rattle.hal_parse_expr.proofs.FirstWords.{past_here, past_none}
+use Rattle.hal_parse_file.proofs.Gives.{Gives, gives_so, gives_followed, gives_made, gives_decided, nothing_read}
 use Rattle.hal_parse_file.proofs.Firsts.{past_gives, name_gives, gives_before}
 use Rattle.hal_parse_file.proofs.Becomes.{followed_is, made_is, decided_is, decided_not, before_is, past_is}
 use Rattle.hal_parse_file.proofs.Chains.{Chain, chain_end, chain_more, all_chain, shortens, all_first}
 use Rattle.hal_parse_file.proofs.LeavesRead.{name_end_gives, name_end_is}
 use Rattle.hal_parse_file.proofs.DeclarationsRead.{SpellsLabel, one_label, label_gives, label_is, DeclarationOf, declarations_chain, declarations_spelled, declarations_are}
-use Rattle.hal_parse_file.proofs.Below.{Reads}
 use Rattle.hal_parse_file.proofs.HeadsRead.{HeadOf, head_gives, head_is}
-use Rattle.hal_parse_file.proofs.BlocksRead.{Blocks, blocks}
+use Rattle.hal_parse_file.proofs.BlocksRead.{blocks}
 
 -- a template that is nested so deep at most
 abbrev TemplateOf : ℕ → Template → Words → Words → Type 0
@@ -61,33 +60,33 @@ template_ended : {n : ℕ} {x : Naming} {h : Head} {ds : List Declaration} {t : 
     TemplateOf n t b a
 template_ended d e ch (closed_by f) = template_so d e ch f
 
-template_gives : Reads → (n : ℕ) (words : Words) → Gives (λ t rest. TemplateOf n t words rest) (template_at n words)
+template_gives : (n : ℕ) (words : Words) → Gives (λ t rest. TemplateOf n t words rest) (template_at n words)
 unfolding template_at external_behind
-template_gives rs n words =
-    gives_followed (external_gives words) (λ x r1 d. gives_followed (head_gives rs n r1) (λ h r2 e. gives_so (close_gives x h _ _) (λ t rest f. template_ended d e (declarations_chain rs n r2) f)))
+template_gives n words =
+    gives_followed (external_gives words) (λ x r1 d. gives_followed (head_gives n r1) (λ h r2 e. gives_so (close_gives x h _ _) (λ t rest f. template_ended d e (declarations_chain n r2) f)))
 
-template_is : Reads → (n : ℕ) {t : Template} {b a : Words} → SpellsTemplate t b a → nesting_of_template t ≤ n → template_at n b ≡ Some (t, a)
+template_is : (n : ℕ) {t : Template} {b a : Words} → SpellsTemplate t b a → nesting_of_template t ≤ n → template_at n b ≡ Some (t, a)
 unfolding template_at external_behind template_close
-template_is rs n (template {p = p} {s = s} {n = m} {h = h} {close = close} d ds e) l =
-    followed_is _ (before_is (label_is one_label)) ∙ followed_is _ (head_is rs n d (omega (arith, l)))
-    ∙ ap (λ z. template_close (naming p m) h z.0 z.1) (declarations_are rs n ds (omega (arith, l))) ∙ past_is reserved.Close s close _ ∙ made_is _ (name_end_is e)
+template_is n (template {p = p} {s = s} {n = m} {h = h} {close = close} d ds e) l =
+    followed_is _ (before_is (label_is one_label)) ∙ followed_is _ (head_is n d (omega (arith, l)))
+    ∙ ap (λ z. template_close (naming p m) h z.0 z.1) (declarations_are n ds (omega (arith, l))) ∙ past_is reserved.Close s close _ ∙ made_is _ (name_end_is e)
 
-preface_gives : Reads → (n : ℕ) (words : Words) → Gives (λ x rest. PrefaceOf n x words rest) (preface_at n words)
+preface_gives : (n : ℕ) (words : Words) → Gives (λ x rest. PrefaceOf n x words rest) (preface_at n words)
 unfolding preface_at
-preface_gives rs n words =
+preface_gives n words =
     gives_decided (past_gives reserved.Include words) (λ p rest e. gives_made _ (name_gives rest) (λ x after f. (rw (e, f) includes, omega arith)))
-    (λ e. gives_made _ (template_gives rs n words) (λ t rest d. (templates d.0, d.1)))
+    (λ e. gives_made _ (template_gives n words) (λ t rest d. (templates d.0, d.1)))
 
 template_no_include : {t : Template} {b a : Words} → SpellsTemplate t b a → ¬ BeginsReserved reserved.Include b
 template_no_include (template h ds e) = λ q. elim q [ ]
 
-preface_is : Reads → (n : ℕ) {x : Preface} {b a : Words} → SpellsPreface x b a → nesting_of_preface x ≤ n → preface_at n b ≡ Some (x, a)
+preface_is : (n : ℕ) {x : Preface} {b a : Words} → SpellsPreface x b a → nesting_of_preface x ≤ n → preface_at n b ≡ Some (x, a)
 unfolding preface_at name_at
-preface_is rs n (includes {p = p} {q = q} {n = m} {after = after}) l = decided_is _ _ (past_here reserved.Include p (name_then m q after)) ∙ made_is _ refl
-preface_is rs n (templates {before = before} d) l = decided_not _ _ (past_none reserved.Include before (template_no_include d)) ∙ made_is _ (template_is rs n d l)
+preface_is n (includes {p = p} {q = q} {n = m} {after = after}) l = decided_is _ _ (past_here reserved.Include p (name_then m q after)) ∙ made_is _ refl
+preface_is n (templates {before = before} d) l = decided_not _ _ (past_none reserved.Include before (template_no_include d)) ∙ made_is _ (template_is n d l)
 
-preface_shortens : Reads → (n : ℕ) → Shortens (preface_at n)
-preface_shortens rs n = shortens (preface_gives rs n) (λ x words rest d. preface_shorter d.0)
+preface_shortens : (n : ℕ) → Shortens (preface_at n)
+preface_shortens n = shortens (preface_gives n) (λ x words rest d. preface_shorter d.0)
 
 -- a file that is nested so deep at most
 abbrev pub FileOf : ℕ → File → Words → Words → Type 0
@@ -97,14 +96,14 @@ file_so : {n : ℕ} {xs : List Preface} {u : Block} {b m a : Words} → Chain (P
 file_so chain_end d l = (block_alone d, omega (arith, l))
 file_so (chain_more e ch) d l = let r = file_so ch d l in (preface_first e.0 r.0, omega (arith, e.1, r.1))
 
-prefaces_chain : Reads → (n : ℕ) (words : Words) → Chain (PrefaceOf n) (prefaces_at n words).0 words (prefaces_at n words).1
+prefaces_chain : (n : ℕ) (words : Words) → Chain (PrefaceOf n) (prefaces_at n words).0 words (prefaces_at n words).1
 unfolding prefaces_at
-prefaces_chain rs n words = all_chain (preface_at n) (preface_gives rs n) words
+prefaces_chain n words = all_chain (preface_at n) (preface_gives n) words
 
 -- what is read of a file is spelled
-pub file_gives : Reads → (n : ℕ) (words : Words) → Gives (λ f rest. FileOf n f words rest) (file_at n words)
+pub file_gives : (n : ℕ) (words : Words) → Gives (λ f rest. FileOf n f words rest) (file_at n words)
 unfolding file_at
-file_gives rs n words = gives_made _ ((blocks rs n).sound (prefaces_at n words).1) (λ u rest d. file_so (prefaces_chain rs n words) d.0 d.1)
+file_gives n words = gives_made _ ((blocks n).sound (prefaces_at n words).1) (λ u rest d. file_so (prefaces_chain n words) d.0 d.1)
 
 no_external_head : {h : Head} {p : Place} {b a : Words} → SpellsHead h (reserved_then reserved.External p b) a → ⊥
 no_external_head d = go d refl
@@ -124,20 +123,20 @@ block_apart (block h ds es q) (templates (template k fs n)) = no_external_head h
 data ReadsPrefaces (n : ℕ) : File → Words → Words → Type 0 where
   reads_prefaces : {xs : List Preface} {u : Block} {b m a : Words} → prefaces_at n b ≡ (xs, m) → SpellsBlock u m a → nesting_of_block u ≤ n → ReadsPrefaces n (file_of xs u) b a
 
-more_prefaces : Reads → {n : ℕ} {x : Preface} {xs : List Preface} {u : Block} {b m a : Words} → PrefaceOf n x b m → ReadsPrefaces n (file_of xs u) m a → ReadsPrefaces n (file_of (x ∷ xs) u) b a
+more_prefaces : {n : ℕ} {x : Preface} {xs : List Preface} {u : Block} {b m a : Words} → PrefaceOf n x b m → ReadsPrefaces n (file_of xs u) m a → ReadsPrefaces n (file_of (x ∷ xs) u) b a
 unfolding prefaces_at
-more_prefaces rs {n = n} d (reads_prefaces e f l) = reads_prefaces (all_first (preface_at n) (preface_shortens rs n) (preface_is rs n d.0 d.1) e) f l
+more_prefaces {n = n} d (reads_prefaces e f l) = reads_prefaces (all_first (preface_at n) (preface_shortens n) (preface_is n d.0 d.1) e) f l
 
-prefaces_read : Reads → (n : ℕ) {f : File} {b a : Words} → SpellsFile f b a → nesting_of_file f ≤ n → ReadsPrefaces n f b a
+prefaces_read : (n : ℕ) {f : File} {b a : Words} → SpellsFile f b a → nesting_of_file f ≤ n → ReadsPrefaces n f b a
 unfolding prefaces_at
-prefaces_read rs n (block_alone {before = before} d) l =
-    reads_prefaces (all_none (preface_at n) before (nothing_read (preface_gives rs n before) (λ x rest e. block_apart d e.0))) d (omega (arith, l))
-prefaces_read rs n (preface_first d ds) l = more_prefaces rs (d, omega (arith, l)) (prefaces_read rs n ds (omega (arith, l)))
+prefaces_read n (block_alone {before = before} d) l =
+    reads_prefaces (all_none (preface_at n) before (nothing_read (preface_gives n before) (λ x rest e. block_apart d e.0))) d (omega (arith, l))
+prefaces_read n (preface_first d ds) l = more_prefaces (d, omega (arith, l)) (prefaces_read n ds (omega (arith, l)))
 
-file_found : Reads → {n : ℕ} {f : File} {b a : Words} → ReadsPrefaces n f b a → file_at n b ≡ Some (f, a)
+file_found : {n : ℕ} {f : File} {b a : Words} → ReadsPrefaces n f b a → file_at n b ≡ Some (f, a)
 unfolding file_at
-file_found rs {n = n} (reads_prefaces {u = u} {m = m} {a = a} e d l) = ap (λ z. made_of (λ u. file_of z.0 u) (block_at n z.1)) e ∙ made_is _ ((blocks rs n).full u m a (d, l))
+file_found {n = n} (reads_prefaces {u = u} {m = m} {a = a} e d l) = ap (λ z. made_of (λ u. file_of z.0 u) (block_at n z.1)) e ∙ made_is _ ((blocks n).full u m a (d, l))
 
 -- what is spelled as a file is read
-pub file_is : Reads → (n : ℕ) {f : File} {b a : Words} → SpellsFile f b a → nesting_of_file f ≤ n → file_at n b ≡ Some (f, a)
-file_is rs n d l = file_found rs (prefaces_read rs n d l)
+pub file_is : (n : ℕ) {f : File} {b a : Words} → SpellsFile f b a → nesting_of_file f ≤ n → file_at n b ≡ Some (f, a)
+file_is n d l = file_found (prefaces_read n d l)

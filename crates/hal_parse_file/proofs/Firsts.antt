@@ -1,17 +1,16 @@
 -- What the readers of first words give: the words begin so.
-use Rattle.std.proofs.Common.{◌≡◌, ℕ, [], ◌∷◌, Option, Some, None, refl, sym, ◌∙◌}
+use Rattle.std.proofs.Common.{◌≡◌, [], ◌∷◌, None, refl}
 use Rattle.hal_base.specs.declared.refusal.Place.{Place}
 use Rattle.hal_words.specs.declared.reserved.Reserved.{Reserved}
 use Rattle.hal_words.specs.declared.word.Symbol.{Symbol}
 use Rattle.hal_words.specs.declared.word.Symbol.TheVariants as symbol
 use Rattle.hal_words.specs.declared.word.Word.{Word}
 use Rattle.hal_words.specs.declared.word.Word.TheVariants as word
-use Rattle.hal_grammar.specs.Leaves.{Naming}
-use Rattle.hal_grammar.specs.Words.{Words, token, reserved_then, symbol_then, name_then, integer_then, BeginsWith, BeginsReserved, BeginsSymbol, begins}
-use Rattle.hal_parse_expr.specs.Reading.{Read, Reader, followed, past, past_symbol, name_at, integer_at, before_symbol, before}
+use Rattle.hal_grammar.specs.Words.{Words, token, reserved_then, symbol_then, name_then, integer_then, BeginsWith, BeginsReserved, BeginsSymbol}
+use Rattle.hal_parse_expr.specs.Reading.{Read, Reader, past, past_symbol, name_at, integer_at, before_symbol, before}
 use Rattle.hal_parse_file.specs.ReadingDeclarations.{in_parentheses}
-use Rattle.hal_parse_file.proofs.FirstWords.{PastOf, is_past, not_past, past_of, past_symbol_of, past_here, past_symbol_here}
-use Rattle.hal_parse_file.proofs.Gives.{Gives, gives_none, gives, gives_so, gives_followed, gives_made}
+use Rattle.hal_parse_expr.proofs.FirstWords.{PastOf, is_past, not_past, past_of, past_symbol_of}
+use Rattle.hal_parse_file.proofs.Gives.{Gives, gives_none, gives, gives_followed, gives_made}
 
 begins_so : {w : Word} {words : Words} {o : Read Place} → PastOf w words o → Gives (λ p rest. words ≡ token w p ∷ rest) o
 begins_so is_past = gives refl

@@ -1,10 +1,7 @@
 -- What is read has a property: how the readers of larger phrases keep it.
-use Rattle.std.proofs.Common.{◌≡◌, Option, Some, None, refl}
-use Rattle.hal_words.specs.declared.reserved.Reserved.{Reserved}
-use Rattle.hal_words.specs.declared.word.Symbol.{Symbol}
+use Rattle.std.proofs.Common.{◌≡◌, Some, None, refl}
 use Rattle.hal_grammar.specs.Words.{Words}
-use Rattle.hal_parse_expr.specs.Reading.{Read, followed, made_of, or_else}
-use Rattle.hal_parse_file.specs.ReadingDeclarations.{decided}
+use Rattle.hal_parse_expr.specs.Reading.{decided, Read, followed, made_of, or_else}
 
 -- nothing is read, or a phrase with this property, and the words behind it
 pub data Gives {X : Type 0} (P : X → Words → Type 0) : Read X → Type 0 where

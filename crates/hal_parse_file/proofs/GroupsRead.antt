@@ -6,29 +6,28 @@ use Rattle.hal_words.specs.declared.reserved.Reserved.TheVariants as reserved
 use Rattle.hal_words.specs.declared.word.Symbol.TheVariants as symbol
 use Rattle.hal_words.specs.declared.word.Word.{Word}
 use Rattle.hal_words.specs.declared.word.Word.TheVariants as word
-use Rattle.hal_grammar.specs.Leaves.{Naming, naming, if_any}
+use Rattle.hal_grammar.specs.Leaves.{Naming, if_any}
 use Rattle.hal_grammar.specs.Expressions.{Expression, nesting}
-use Rattle.hal_grammar.specs.Statements.{Guard, AsLong, Unless, Span, Selector, Response, Eventful, Statement, Basic, Chosen, Grouped, Selected, Looped, Ranged, Updates, Handles, Answers, Alternative, NoAlternative, Otherwise, Group, Groups, Statements, NoStatements, MoreStatements, nesting_of_guard, nesting_of_span, nesting_of_statement, nesting_of_basic, nesting_of_alternative, nesting_of_group, nesting_of_statements}
-use Rattle.hal_grammar.specs.Words.{Words, token, reserved_then, symbol_then, name_then, BeginsReserved, begins}
-use Rattle.hal_grammar.specs.GoesOn.{strength}
+use Rattle.hal_grammar.specs.Statements.{Guard, AsLong, Unless, Span, Selector, Response, Eventful, Statement, Chosen, Grouped, Selected, Looped, Ranged, Updates, Handles, Answers, Alternative, Group, Groups, Statements, NoStatements, MoreStatements, nesting_of_guard, nesting_of_span, nesting_of_statement, nesting_of_basic, nesting_of_alternative, nesting_of_group, nesting_of_statements}
+use Rattle.hal_grammar.specs.Words.{Words, token, reserved_then, symbol_then, name_then}
 use Rattle.hal_grammar.specs.SpellsExpressions.{SpellsExpression}
 use Rattle.hal_grammar.specs.SpellsDeclarations.{SpellsNameEnd}
-use Rattle.hal_grammar.specs.SpellsStatements.{SpellsGuard, SpellsSpan, SpellsTemporary, SpellsSelector, SpellsResponse, SpellsEventEnd, SpellsStatement, SpellsBasic, chosen, grouped, selected, looped_while, looped_until, ranged, updates, handles, answers, SpellsAlternative, no_alternative, otherwise, SpellsGroup, groups, SpellsStatements, statements_end, statements_close, statements_more}
+use Rattle.hal_grammar.specs.SpellsStatements.{SpellsGuard, SpellsSpan, SpellsTemporary, SpellsSelector, SpellsResponse, SpellsEventEnd, SpellsStatement, chosen, grouped, selected, looped_while, looped_until, ranged, updates, handles, answers, SpellsAlternative, no_alternative, otherwise, SpellsGroup, groups, SpellsStatements, statements_end, statements_close, statements_more}
 use Rattle.hal_grammar.proofs.Options.{guard_weak}
-use Rattle.hal_grammar.proofs.OneStatement.{starts, response_starts, statement_starts}
+use Rattle.hal_grammar.proofs.OneStatement.{response_starts, statement_starts}
 use Rattle.hal_grammar.proofs.ShorterStatements.{statement_shorter}
-use Rattle.hal_parse_expr.specs.Reading.{Read, Reader, past, is_reserved, where_true, past_symbol, is_symbol, name_at, before_symbol, before, followed, made_of, all}
+use Rattle.hal_parse_expr.specs.Reading.{Reader, past, name_at, before_symbol, before, followed, made_of, all}
 use Rattle.hal_parse_expr.specs.ReadingExpressions.{expression_at}
 use Rattle.hal_parse_expr.proofs.Shortening.{Shortens, all_none}
 use Rattle.hal_parse_file.specs.ReadingDeclarations.{where_left, name_end_at}
-use Rattle.hal_parse_file.specs.ReadingStatements.{statements, alternative_of, statements_of, group_of, chosen_of, if_of, case_of, loop_of, range_of, for_of, do_behind, do_of, body_of, updates_of, update_of, handled_of, on_of, guard_at}
-use Rattle.hal_parse_file.proofs.FirstWords.{past_here, past_none, past_symbol_here}
+use Rattle.hal_parse_file.specs.ReadingStatements.{statements, alternative_of, statements_of, group_of, chosen_of, if_of, case_of, loop_of, range_of, for_of, do_behind, do_of, body_of, updates_of, update_of, handled_of, on_of}
+use Rattle.hal_parse_expr.proofs.FirstWords.{past_here, past_none, past_symbol_here}
 use Rattle.hal_parse_file.proofs.Gives.{Gives, gives_none, gives, gives_so, gives_followed, gives_made, gives_decided, nothing_read}
 use Rattle.hal_parse_file.proofs.Firsts.{name_gives, past_gives, symbol_gives, not_begun, gives_before, Ended, ended, gives_ended}
-use Rattle.hal_parse_file.proofs.Becomes.{followed_is, made_is, decided_is, decided_not, before_symbol_is, before_is, past_is, symbol_is}
+use Rattle.hal_parse_file.proofs.Becomes.{followed_is, made_is, decided_is, decided_not, before_symbol_is, before_is, past_is}
 use Rattle.hal_parse_file.proofs.Chains.{Chain, chain_end, chain_more, all_chain, shortens, all_first}
 use Rattle.hal_parse_file.proofs.LeavesRead.{name_end_gives, name_end_is}
-use Rattle.hal_parse_file.proofs.Below.{Reads, expression_gives, expression_is}
+use Rattle.hal_parse_file.proofs.Below.{expression_gives, expression_is}
 use Rattle.hal_parse_file.proofs.ConditionsRead.{guard_gives, guard_is, span_gives, span_is}
 use Rattle.hal_parse_file.proofs.ErrorsRead.{selector_gives, selector_is, response_gives, response_is, event_end_gives, event_end_is}
 use Rattle.hal_parse_file.proofs.SimpleRead.{BasicOf, ExpressionOf, expression_end_gives, expression_end_is, temporary_gives, temporary_is, prioritizes_gives}
@@ -152,61 +151,61 @@ alternative_is ins (otherwise {p = p} {s = s} {before = before} {after = after} 
 data BeforeThen (n : ℕ) (t : Expression) (b a : Words) : Type 0 where
   before_then : {q : Place} → SpellsExpression t b (reserved_then reserved.Then q a) → nesting t ≤ n → BeforeThen n t b a
 
-then_gives : Reads → (n : ℕ) (words : Words) → Gives (λ t rest. BeforeThen n t words rest) (before reserved.Then (expression_at n words))
-then_gives rs n words = gives_before reserved.Then (expression_gives rs n words) (λ t q rest d. before_then d.0 d.1)
+then_gives : (n : ℕ) (words : Words) → Gives (λ t rest. BeforeThen n t words rest) (before reserved.Then (expression_at n words))
+then_gives n words = gives_before reserved.Then (expression_gives n words) (λ t q rest d. before_then d.0 d.1)
 
 if_spelled : {n : ℕ} {t : Expression} {s : Statement} {x : Alternative} {p : Place} {b m c a : Words} → BeforeThen n t b m → StatementIn n s m c → AlternativeOf n x c a →
     BasicOf n (Chosen p t s x) (reserved_then reserved.If p b) a
 if_spelled (before_then d l) e f = (chosen d e.0 f.0, omega (arith, l, e.1, f.1))
 
-pub if_gives : Reads → {n : ℕ} {inner : Option (Reader Statement)} → Inside n inner → (p : Place) (words : Words) → Gives (λ x rest. BasicOf n x (reserved_then reserved.If p words) rest) (if_of n inner p words)
+pub if_gives : {n : ℕ} {inner : Option (Reader Statement)} → Inside n inner → (p : Place) (words : Words) → Gives (λ x rest. BasicOf n x (reserved_then reserved.If p words) rest) (if_of n inner p words)
 unfolding if_of chosen_of
-if_gives rs {n = n} ins p words =
-    gives_followed (then_gives rs n words) (λ t r1 d. gives_followed (ins.sound r1) (λ s r2 e. gives_made _ (alternative_gives ins r2) (λ x rest f. if_spelled d e f)))
+if_gives {n = n} ins p words =
+    gives_followed (then_gives n words) (λ t r1 d. gives_followed (ins.sound r1) (λ s r2 e. gives_made _ (alternative_gives ins r2) (λ x rest f. if_spelled d e f)))
 
-pub if_is : Reads → {n : ℕ} {inner : Option (Reader Statement)} → Inside n inner → (p : Place) {t : Expression} {s : Statement} {x : Alternative} {b : Words} {q : Place} {m c a : Words} →
+pub if_is : {n : ℕ} {inner : Option (Reader Statement)} → Inside n inner → (p : Place) {t : Expression} {s : Statement} {x : Alternative} {b : Words} {q : Place} {m c a : Words} →
     SpellsExpression t b (reserved_then reserved.Then q m) → SpellsStatement s m c → SpellsAlternative x c a → nesting_of_basic (Chosen p t s x) ≤ n → if_of n inner p b ≡ Some (Chosen p t s x, a)
 unfolding if_of chosen_of
-if_is rs {n = n} ins p {s = s} {m = m} {c = c} d e f h =
-    followed_is _ (before_is (expression_is rs n d (omega arith) (omega arith))) ∙ followed_is _ (ins.full s m c (e, omega arith)) ∙ made_is _ (alternative_is ins f (omega arith))
+if_is {n = n} ins p {s = s} {m = m} {c = c} d e f h =
+    followed_is _ (before_is (expression_is n d (omega arith) (omega arith))) ∙ followed_is _ (ins.full s m c (e, omega arith)) ∙ made_is _ (alternative_is ins f (omega arith))
 
 case_spelled : {n : ℕ} {t : Expression} {x : Alternative} {g : Group} {p q : Place} {b m c a : Words} → Ended symbol.Semicolon (ExpressionOf n) t b m → AlternativeOf n x m c → GroupOf n g c a →
     BasicOf n (Selected p t x g) (reserved_then reserved.Do p (reserved_then reserved.Case q b)) a
 case_spelled (ended d) e f = (selected d.0 e.0 f.0, omega (arith, d.1, e.1, f.1))
 
-case_gives : Reads → {n : ℕ} {inner : Option (Reader Statement)} → Inside n inner → (p q : Place) (words : Words) →
+case_gives : {n : ℕ} {inner : Option (Reader Statement)} → Inside n inner → (p q : Place) (words : Words) →
     Gives (λ x rest. BasicOf n x (reserved_then reserved.Do p (reserved_then reserved.Case q words)) rest) (case_of n inner p words)
 unfolding case_of
-case_gives rs {n = n} ins p q words =
-    gives_followed (expression_end_gives rs n words) (λ t r1 d. gives_followed (alternative_gives ins r1) (λ x r2 e. gives_made _ (group_gives ins r2) (λ g rest f. case_spelled d e f)))
+case_gives {n = n} ins p q words =
+    gives_followed (expression_end_gives n words) (λ t r1 d. gives_followed (alternative_gives ins r1) (λ x r2 e. gives_made _ (group_gives ins r2) (λ g rest f. case_spelled d e f)))
 
-case_is : Reads → {n : ℕ} {inner : Option (Reader Statement)} → Inside n inner → (p : Place) {t : Expression} {x : Alternative} {g : Group} {b : Words} {q : Place} {m c a : Words} →
+case_is : {n : ℕ} {inner : Option (Reader Statement)} → Inside n inner → (p : Place) {t : Expression} {x : Alternative} {g : Group} {b : Words} {q : Place} {m c a : Words} →
     SpellsExpression t b (symbol_then symbol.Semicolon q m) → SpellsAlternative x m c → SpellsGroup g c a → nesting_of_basic (Selected p t x g) ≤ n → case_of n inner p b ≡ Some (Selected p t x g, a)
 unfolding case_of
-case_is rs {n = n} ins p d e f h = followed_is _ (expression_end_is rs n d (omega arith)) ∙ followed_is _ (alternative_is ins e (omega arith)) ∙ made_is _ (group_is ins f (omega arith))
+case_is {n = n} ins p d e f h = followed_is _ (expression_end_is n d (omega arith)) ∙ followed_is _ (alternative_is ins e (omega arith)) ∙ made_is _ (group_is ins f (omega arith))
 
 while_spelled : {n : ℕ} {t : Expression} {g : Group} {p q : Place} {b m a : Words} → Ended symbol.Semicolon (ExpressionOf n) t b m → GroupOf n g m a →
     BasicOf n (Looped p (AsLong q t) g) (reserved_then reserved.Do p (reserved_then reserved.While q b)) a
 while_spelled (ended d) e = (looped_while d.0 e.0, omega (arith, d.1, e.1))
 
-while_gives : Reads → {n : ℕ} {inner : Option (Reader Statement)} → Inside n inner → (p q : Place) (words : Words) →
+while_gives : {n : ℕ} {inner : Option (Reader Statement)} → Inside n inner → (p q : Place) (words : Words) →
     Gives (λ x rest. BasicOf n x (reserved_then reserved.Do p (reserved_then reserved.While q words)) rest) (loop_of n inner p (λ t. AsLong q t) words)
 unfolding loop_of
-while_gives rs {n = n} ins p q words = gives_followed (expression_end_gives rs n words) (λ t rest d. gives_made _ (group_gives ins rest) (λ g after e. while_spelled d e))
+while_gives {n = n} ins p q words = gives_followed (expression_end_gives n words) (λ t rest d. gives_made _ (group_gives ins rest) (λ g after e. while_spelled d e))
 
 until_spelled : {n : ℕ} {t : Expression} {g : Group} {p q : Place} {b m a : Words} → Ended symbol.Semicolon (ExpressionOf n) t b m → GroupOf n g m a →
     BasicOf n (Looped p (Unless q t) g) (reserved_then reserved.Do p (reserved_then reserved.Until q b)) a
 until_spelled (ended d) e = (looped_until d.0 e.0, omega (arith, d.1, e.1))
 
-until_gives : Reads → {n : ℕ} {inner : Option (Reader Statement)} → Inside n inner → (p q : Place) (words : Words) →
+until_gives : {n : ℕ} {inner : Option (Reader Statement)} → Inside n inner → (p q : Place) (words : Words) →
     Gives (λ x rest. BasicOf n x (reserved_then reserved.Do p (reserved_then reserved.Until q words)) rest) (loop_of n inner p (λ t. Unless q t) words)
 unfolding loop_of
-until_gives rs {n = n} ins p q words = gives_followed (expression_end_gives rs n words) (λ t rest d. gives_made _ (group_gives ins rest) (λ g after e. until_spelled d e))
+until_gives {n = n} ins p q words = gives_followed (expression_end_gives n words) (λ t rest d. gives_made _ (group_gives ins rest) (λ g after e. until_spelled d e))
 
-loop_is : Reads → {n : ℕ} {inner : Option (Reader Statement)} → Inside n inner → (p : Place) (make : Expression → Guard) {t : Expression} {g : Group} {b : Words} {q : Place} {m a : Words} →
+loop_is : {n : ℕ} {inner : Option (Reader Statement)} → Inside n inner → (p : Place) (make : Expression → Guard) {t : Expression} {g : Group} {b : Words} {q : Place} {m a : Words} →
     SpellsExpression t b (symbol_then symbol.Semicolon q m) → SpellsGroup g m a → nesting t ≤ n → nesting_of_group g ≤ n → loop_of n inner p make b ≡ Some (Looped p (make t) g, a)
 unfolding loop_of
-loop_is rs {n = n} ins p make d e h l = followed_is _ (expression_end_is rs n d h) ∙ made_is _ (group_is ins e l)
+loop_is {n = n} ins p make d e h l = followed_is _ (expression_end_is n d h) ∙ made_is _ (group_is ins e l)
 
 -- a condition that is nested so deep at most
 abbrev GuardOf : ℕ → Option Guard → Words → Words → Type 0
@@ -231,68 +230,68 @@ range_spelled : {n : ℕ} {d : Bool} {x : Naming} {s : Span} {c : Option Guard} 
     BasicOf n (Ranged p d x s c g) (reserved_then reserved.Do p (reserved_then reserved.For q b)) a
 range_spelled t variable s l (ended c) g = (ranged t s c.0 g.0, omega (arith, l, c.1, g.1))
 
-for_gives : Reads → {n : ℕ} {inner : Option (Reader Statement)} → Inside n inner → (p q : Place) (words : Words) →
+for_gives : {n : ℕ} {inner : Option (Reader Statement)} → Inside n inner → (p q : Place) (words : Words) →
     Gives (λ x rest. BasicOf n x (reserved_then reserved.Do p (reserved_then reserved.For q words)) rest) (for_of n inner p words)
 unfolding for_of range_of
-for_gives rs {n = n} ins p q words =
-    gives_followed (temporary_gives words) (λ d r1 e1. gives_followed (variable_gives r1) (λ x r2 e2. gives_followed (span_gives rs n r2) (λ s r3 e3.
-    gives_followed (gives_ended symbol.Semicolon r3 (guard_gives rs n r3)) (λ c r4 e4. gives_made _ (group_gives ins r4) (λ g r5 e5. range_spelled e1 e2 e3.0 e3.1 e4 e5)))))
+for_gives {n = n} ins p q words =
+    gives_followed (temporary_gives words) (λ d r1 e1. gives_followed (variable_gives r1) (λ x r2 e2. gives_followed (span_gives n r2) (λ s r3 e3.
+    gives_followed (gives_ended symbol.Semicolon r3 (guard_gives n r3)) (λ c r4 e4. gives_made _ (group_gives ins r4) (λ g r5 e5. range_spelled e1 e2 e3.0 e3.1 e4 e5)))))
 
-for_is : Reads → {n : ℕ} {inner : Option (Reader Statement)} → Inside n inner → (p : Place) {d : Bool} (x : Naming) {s : Span} {c : Option Guard} {g : Group} {b : Words} {e : Place} {span guard : Words} {q : Place} {body a : Words} →
+for_is : {n : ℕ} {inner : Option (Reader Statement)} → Inside n inner → (p : Place) {d : Bool} (x : Naming) {s : Span} {c : Option Guard} {g : Group} {b : Words} {e : Place} {span guard : Words} {q : Place} {body a : Words} →
     SpellsTemporary d b (name_then x.name x.place (symbol_then symbol.Equals e span)) → SpellsSpan s span guard → SpellsGuard c guard (symbol_then symbol.Semicolon q body) → SpellsGroup g body a →
     nesting_of_basic (Ranged p d x s c g) ≤ n → for_of n inner p b ≡ Some (Ranged p d x s c g, a)
 unfolding for_of range_of name_at
-for_is rs {n = n} ins p x t s c g h =
-    followed_is _ (temporary_is t) ∙ followed_is _ (before_symbol_is refl) ∙ followed_is _ (span_is rs n s (omega arith) (guard_weak c (omega arith)))
-    ∙ followed_is _ (before_symbol_is (guard_is rs n c (omega arith) (omega arith))) ∙ made_is _ (group_is ins g (omega arith))
+for_is {n = n} ins p x t s c g h =
+    followed_is _ (temporary_is t) ∙ followed_is _ (before_symbol_is refl) ∙ followed_is _ (span_is n s (omega arith) (guard_weak c (omega arith)))
+    ∙ followed_is _ (before_symbol_is (guard_is n c (omega arith) (omega arith))) ∙ made_is _ (group_is ins g (omega arith))
 
 -- a group is as deep as its statement
 grouped_spelled : {n : ℕ} {g : Group} {p q : Place} {b a : Words} → GroupOf n g b a → BasicOf n (Grouped p g) (reserved_then reserved.Do p (symbol_then symbol.Semicolon q b)) a
 grouped_spelled d = (grouped d.0, d.1)
 
-do_behind_gives : Reads → {n : ℕ} {inner : Option (Reader Statement)} → Inside n inner → (p q : Place) (w : Word) (words : Words) →
+do_behind_gives : {n : ℕ} {inner : Option (Reader Statement)} → Inside n inner → (p q : Place) (w : Word) (words : Words) →
     Gives (λ x rest. BasicOf n x (reserved_then reserved.Do p (token w q ∷ words)) rest) (do_behind n inner p q w words)
 unfolding do_behind
-do_behind_gives rs ins p q (word.Symbol symbol.Semicolon) words = gives_made _ (group_gives ins words) (λ g rest d. grouped_spelled d)
-do_behind_gives rs ins p q (word.Reserved reserved.Case) words = case_gives rs ins p q words
-do_behind_gives rs ins p q (word.Reserved reserved.While) words = while_gives rs ins p q words
-do_behind_gives rs ins p q (word.Reserved reserved.Until) words = until_gives rs ins p q words
-do_behind_gives rs ins p q (word.Reserved reserved.For) words = for_gives rs ins p q words
-do_behind_gives rs ins p q other words = gives_none
+do_behind_gives ins p q (word.Symbol symbol.Semicolon) words = gives_made _ (group_gives ins words) (λ g rest d. grouped_spelled d)
+do_behind_gives ins p q (word.Reserved reserved.Case) words = case_gives ins p q words
+do_behind_gives ins p q (word.Reserved reserved.While) words = while_gives ins p q words
+do_behind_gives ins p q (word.Reserved reserved.Until) words = until_gives ins p q words
+do_behind_gives ins p q (word.Reserved reserved.For) words = for_gives ins p q words
+do_behind_gives ins p q other words = gives_none
 
-pub do_gives : Reads → {n : ℕ} {inner : Option (Reader Statement)} → Inside n inner → (p : Place) (words : Words) → Gives (λ x rest. BasicOf n x (reserved_then reserved.Do p words) rest) (do_of n inner p words)
+pub do_gives : {n : ℕ} {inner : Option (Reader Statement)} → Inside n inner → (p : Place) (words : Words) → Gives (λ x rest. BasicOf n x (reserved_then reserved.Do p words) rest) (do_of n inner p words)
 unfolding do_of
-do_gives rs ins p [] = gives_none
-do_gives rs ins p (first ∷ rest) = do_behind_gives rs ins p first.place first.word rest
+do_gives ins p [] = gives_none
+do_gives ins p (first ∷ rest) = do_behind_gives ins p first.place first.word rest
 
 pub group_done : {n : ℕ} {inner : Option (Reader Statement)} → Inside n inner → (p q : Place) {g : Group} {b a : Words} → SpellsGroup g b a → nesting_of_group g ≤ n →
     do_of n inner p (symbol_then symbol.Semicolon q b) ≡ Some (Grouped p g, a)
 unfolding do_of do_behind
 group_done ins p q d h = made_is _ (group_is ins d h)
 
-pub case_done : Reads → {n : ℕ} {inner : Option (Reader Statement)} → Inside n inner → (p q : Place) {t : Expression} {x : Alternative} {g : Group} {b : Words} {r : Place} {m c a : Words} →
+pub case_done : {n : ℕ} {inner : Option (Reader Statement)} → Inside n inner → (p q : Place) {t : Expression} {x : Alternative} {g : Group} {b : Words} {r : Place} {m c a : Words} →
     SpellsExpression t b (symbol_then symbol.Semicolon r m) → SpellsAlternative x m c → SpellsGroup g c a → nesting_of_basic (Selected p t x g) ≤ n →
     do_of n inner p (reserved_then reserved.Case q b) ≡ Some (Selected p t x g, a)
 unfolding do_of do_behind
-case_done rs ins p q d e f h = case_is rs ins p d e f h
+case_done ins p q d e f h = case_is ins p d e f h
 
-pub while_done : Reads → {n : ℕ} {inner : Option (Reader Statement)} → Inside n inner → (p q : Place) {t : Expression} {g : Group} {b : Words} {r : Place} {m a : Words} →
+pub while_done : {n : ℕ} {inner : Option (Reader Statement)} → Inside n inner → (p q : Place) {t : Expression} {g : Group} {b : Words} {r : Place} {m a : Words} →
     SpellsExpression t b (symbol_then symbol.Semicolon r m) → SpellsGroup g m a → nesting t ≤ n → nesting_of_group g ≤ n →
     do_of n inner p (reserved_then reserved.While q b) ≡ Some (Looped p (AsLong q t) g, a)
 unfolding do_of do_behind
-while_done rs ins p q d e h l = loop_is rs ins p (λ t. AsLong q t) d e h l
+while_done ins p q d e h l = loop_is ins p (λ t. AsLong q t) d e h l
 
-pub until_done : Reads → {n : ℕ} {inner : Option (Reader Statement)} → Inside n inner → (p q : Place) {t : Expression} {g : Group} {b : Words} {r : Place} {m a : Words} →
+pub until_done : {n : ℕ} {inner : Option (Reader Statement)} → Inside n inner → (p q : Place) {t : Expression} {g : Group} {b : Words} {r : Place} {m a : Words} →
     SpellsExpression t b (symbol_then symbol.Semicolon r m) → SpellsGroup g m a → nesting t ≤ n → nesting_of_group g ≤ n →
     do_of n inner p (reserved_then reserved.Until q b) ≡ Some (Looped p (Unless q t) g, a)
 unfolding do_of do_behind
-until_done rs ins p q d e h l = loop_is rs ins p (λ t. Unless q t) d e h l
+until_done ins p q d e h l = loop_is ins p (λ t. Unless q t) d e h l
 
-pub for_done : Reads → {n : ℕ} {inner : Option (Reader Statement)} → Inside n inner → (p q : Place) {d : Bool} (x : Naming) {s : Span} {c : Option Guard} {g : Group} {b : Words} {e : Place} {span guard : Words} {r : Place} {body a : Words} →
+pub for_done : {n : ℕ} {inner : Option (Reader Statement)} → Inside n inner → (p q : Place) {d : Bool} (x : Naming) {s : Span} {c : Option Guard} {g : Group} {b : Words} {e : Place} {span guard : Words} {r : Place} {body a : Words} →
     SpellsTemporary d b (name_then x.name x.place (symbol_then symbol.Equals e span)) → SpellsSpan s span guard → SpellsGuard c guard (symbol_then symbol.Semicolon r body) → SpellsGroup g body a →
     nesting_of_basic (Ranged p d x s c g) ≤ n → do_of n inner p (reserved_then reserved.For q b) ≡ Some (Ranged p d x s c g, a)
 unfolding do_of do_behind
-for_done rs ins p q x t s c g h = for_is rs ins p x t s c g h
+for_done ins p q x t s c g h = for_is ins p x t s c g h
 
 updates_spelled : {n : ℕ} {ss : List Statement} {x : Option Naming} {p q r : Place} {b m a : Words} → Chain (StatementIn n) ss b (reserved_then reserved.Close r m) → SpellsNameEnd x m a → 1 ≤ n →
     BasicOf n (Updates p (statements ss) x) (reserved_then reserved.Update p (symbol_then symbol.Semicolon q b)) a
@@ -310,12 +309,12 @@ unfolding updates_of where_left
 updates_gives None ins p q words = gives_none
 updates_gives (Some read) ins p q words = body_gives read ins.level ins.sound p q words
 
-pub update_gives : Reads → {n : ℕ} {inner : Option (Reader Statement)} → Inside n inner → (p : Place) (words : Words) →
+pub update_gives : {n : ℕ} {inner : Option (Reader Statement)} → Inside n inner → (p : Place) (words : Words) →
     Gives (λ x rest. BasicOf n x (reserved_then reserved.Update p words) rest) (update_of n inner p words)
 unfolding update_of
-update_gives rs {n = n} {inner = inner} ins p words =
+update_gives {n = n} {inner = inner} ins p words =
     gives_decided (symbol_gives symbol.Semicolon words) (λ q rest e. gives_so (updates_gives inner ins p q rest) (λ x after d. rw e d))
-    (λ e. gives_followed (past_gives reserved.Priority words) (λ q rest f. gives_so (prioritizes_gives rs n p q rest) (λ x after d. rw f d)))
+    (λ e. gives_followed (past_gives reserved.Priority words) (λ q rest f. gives_so (prioritizes_gives n p q rest) (λ x after d. rw f d)))
 
 row_body : {read : Reader Statement} {ss : Statements} {x : Option Naming} (p : Place) {r : Place} {b m a : Words} → ReadsRow read ss b (reserved_then reserved.Close r m) → SpellsNameEnd x m a →
     body_of read p b ≡ Some (Updates p ss x, a)

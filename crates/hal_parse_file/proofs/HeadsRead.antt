@@ -1,5 +1,5 @@
 -- Heads of units: what is read is spelled, and what is spelled is read.
-use Rattle.std.proofs.Common.{◌≡◌, ℕ, ◌≤◌, List, [], ◌∷◌, Option, Some, None, refl, ap, ◌∙◌, arith}
+use Rattle.std.proofs.Common.{◌≡◌, ℕ, ◌≤◌, List, [], ◌∷◌, Option, Some, None, refl, ◌∙◌, arith}
 use Rattle.hal_base.specs.declared.refusal.Place.{Place}
 use Rattle.hal_words.specs.declared.reserved.Reserved.TheVariants as reserved
 use Rattle.hal_words.specs.declared.word.Symbol.TheVariants as symbol
@@ -11,16 +11,15 @@ use Rattle.hal_grammar.specs.Units.{Mode, Reenters, Excludes, Precision, SingleP
 use Rattle.hal_grammar.specs.Words.{Words, token, reserved_then, symbol_then}
 use Rattle.hal_grammar.specs.SpellsDeclarations.{SpellsNames, SpellsKind}
 use Rattle.hal_grammar.specs.SpellsFiles.{SpellsInputs, no_inputs, input_names, SpellsOutputs, no_outputs, output_names, SpellsModeEnd, no_mode_end, reenters_end, excludes_end, SpellsPrecisionEnd, no_precision, single_precision, double_precision, SpellsReturnsEnd, no_kind, has_kind, SpellsHead, program_head, compool_head, task_head, procedure_head, function_head}
-use Rattle.hal_parse_expr.specs.Reading.{Read, past, is_reserved, where_true, past_symbol, is_symbol, made_of}
-use Rattle.hal_parse_file.specs.ReadingDeclarations.{decided, names_at, kind_behind, kind_at}
+use Rattle.hal_parse_expr.specs.Reading.{decided, past, is_reserved, where_true, past_symbol, is_symbol, made_of}
+use Rattle.hal_parse_file.specs.ReadingDeclarations.{names_at, kind_behind, kind_at}
 use Rattle.hal_parse_file.specs.ReadingFiles.{inputs_at, outputs_at, mode_at, mode_end_at, precision_at, precision_option, returns_at, procedure_behind, returns_end_at, function_behind, head_behind, head_at}
-use Rattle.hal_parse_file.proofs.FirstWords.{past_here, past_none, past_symbol_here, past_symbol_none}
+use Rattle.hal_parse_expr.proofs.FirstWords.{past_here, past_none, past_symbol_here, past_symbol_none}
 use Rattle.hal_parse_file.proofs.Gives.{Gives, gives_none, gives, gives_so, gives_followed, gives_made, gives_decided}
 use Rattle.hal_parse_file.proofs.Firsts.{past_gives, symbol_gives, not_begun, not_begun_symbol, Enclosed, enclosed_so, gives_enclosed, Ended, ended, gives_ended}
 use Rattle.hal_parse_file.proofs.Becomes.{followed_is, made_is, decided_is, decided_not, before_symbol_is, enclosed_is}
 use Rattle.hal_parse_file.proofs.LeavesRead.{names_give, names_are}
 use Rattle.hal_parse_file.proofs.KindsRead.{kind_gives, kind_is}
-use Rattle.hal_parse_file.proofs.Below.{Reads}
 
 inputs_spelled : {ns : List Naming} {p : Place} {b a : Words} → Ended symbol.RightParenthesis SpellsNames ns b a → SpellsInputs ns (symbol_then symbol.LeftParenthesis p b) a
 inputs_spelled (ended d) = input_names d
@@ -101,17 +100,17 @@ data ReturnsOf (n : ℕ) : Returns → Words → Words → Type 0 where
   none_of : {a : Words} → ReturnsOf n NoKind a a
   kind_of : {k : Kind} {x : Option Precision} {b m a : Words} → SpellsKind k b m → nesting_of_kind k ≤ n → PrecisionOr x m a → ReturnsOf n (HasKind k x) b a
 
-returns_gives : Reads → (n : ℕ) (words : Words) → Gives (λ r rest. ReturnsOf n r words rest) (returns_at n words)
+returns_gives : (n : ℕ) (words : Words) → Gives (λ r rest. ReturnsOf n r words rest) (returns_at n words)
 unfolding returns_at
-returns_gives rs n words = gives_decided (kind_gives rs n words) (λ k rest d. gives_made _ (precision_gives rest) (λ x after e. kind_of d.0 d.1 e)) (λ e. gives none_of)
+returns_gives n words = gives_decided (kind_gives n words) (λ k rest d. gives_made _ (precision_gives rest) (λ x after e. kind_of d.0 d.1 e)) (λ e. gives none_of)
 
 returns_ended : {n : ℕ} {r : Returns} {m : Option Mode} {b c a : Words} → ReturnsOf n r b c → SpellsModeEnd m c a → SpellsReturnsEnd r m b a × (nesting_of_returns r ≤ n)
 returns_ended none_of d = (no_kind d, omega arith)
 returns_ended (kind_of e l f) d = (has_kind e (precision_ended f d), l)
 
-returns_end_gives : Reads → (n : ℕ) (words : Words) → Gives (λ f rest. SpellsReturnsEnd f.0 f.1 words rest × (nesting_of_returns f.0 ≤ n)) (returns_end_at n words)
+returns_end_gives : (n : ℕ) (words : Words) → Gives (λ f rest. SpellsReturnsEnd f.0 f.1 words rest × (nesting_of_returns f.0 ≤ n)) (returns_end_at n words)
 unfolding returns_end_at
-returns_end_gives rs n words = gives_followed (returns_gives rs n words) (λ r rest d. gives_made _ (mode_end_gives rest) (λ m after e. returns_ended d e))
+returns_end_gives n words = gives_followed (returns_gives n words) (λ r rest d. gives_made _ (mode_end_gives rest) (λ m after e. returns_ended d e))
 
 mode_no_kind : (n : ℕ) {m : Option Mode} {b a : Words} → SpellsModeEnd m b a → kind_at n b ≡ None
 unfolding kind_at kind_behind
@@ -133,21 +132,21 @@ double_is : (p : Place) (words : Words) → precision_option (reserved_then rese
 unfolding precision_option precision_at decided made_of past is_reserved where_true
 double_is p words = refl
 
-kind_ended : Reads → (n : ℕ) {k : Kind} {x : Option Precision} {m : Option Mode} {b c w a : Words} → SpellsKind k b c → nesting_of_kind k ≤ n → precision_option c ≡ Some (x, w) → SpellsModeEnd m w a →
+kind_ended : (n : ℕ) {k : Kind} {x : Option Precision} {m : Option Mode} {b c w a : Words} → SpellsKind k b c → nesting_of_kind k ≤ n → precision_option c ≡ Some (x, w) → SpellsModeEnd m w a →
     returns_end_at n b ≡ Some ((HasKind k x, m), a)
 unfolding returns_end_at returns_at
-kind_ended rs n d l e f = followed_is _ (decided_is _ _ (kind_is rs n d l) ∙ made_is _ e) ∙ made_is _ (mode_end_is f)
+kind_ended n d l e f = followed_is _ (decided_is _ _ (kind_is n d l) ∙ made_is _ e) ∙ made_is _ (mode_end_is f)
 
-kind_end_is : Reads → (n : ℕ) {k : Kind} {x : Option Precision} {m : Option Mode} {b c a : Words} → SpellsKind k b c → nesting_of_kind k ≤ n → SpellsPrecisionEnd x m c a →
+kind_end_is : (n : ℕ) {k : Kind} {x : Option Precision} {m : Option Mode} {b c a : Words} → SpellsKind k b c → nesting_of_kind k ≤ n → SpellsPrecisionEnd x m c a →
     returns_end_at n b ≡ Some ((HasKind k x, m), a)
-kind_end_is rs n d l (no_precision e) = kind_ended rs n d l (mode_no_precision e) e
-kind_end_is rs n d l (single_precision {p = p} {before = before} e) = kind_ended rs n d l (single_is p before) e
-kind_end_is rs n d l (double_precision {p = p} {before = before} e) = kind_ended rs n d l (double_is p before) e
+kind_end_is n d l (no_precision e) = kind_ended n d l (mode_no_precision e) e
+kind_end_is n d l (single_precision {p = p} {before = before} e) = kind_ended n d l (single_is p before) e
+kind_end_is n d l (double_precision {p = p} {before = before} e) = kind_ended n d l (double_is p before) e
 
-returns_end_is : Reads → (n : ℕ) {r : Returns} {m : Option Mode} {b a : Words} → SpellsReturnsEnd r m b a → nesting_of_returns r ≤ n → returns_end_at n b ≡ Some ((r, m), a)
+returns_end_is : (n : ℕ) {r : Returns} {m : Option Mode} {b a : Words} → SpellsReturnsEnd r m b a → nesting_of_returns r ≤ n → returns_end_at n b ≡ Some ((r, m), a)
 unfolding returns_end_at returns_at
-returns_end_is rs n (no_kind d) h = followed_is _ (decided_not _ _ (mode_no_kind n d)) ∙ made_is _ (mode_end_is d)
-returns_end_is rs n (has_kind d e) h = kind_end_is rs n d h e
+returns_end_is n (no_kind d) h = followed_is _ (decided_not _ _ (mode_no_kind n d)) ∙ made_is _ (mode_end_is d)
+returns_end_is n (has_kind d e) h = kind_end_is n d h e
 
 -- a head that is nested so deep at most
 abbrev pub HeadOf : ℕ → Head → Words → Words → Type 0
@@ -158,31 +157,31 @@ unfolding procedure_behind
 procedure_gives n p words =
     gives_followed (inputs_give words) (λ ins r1 d. gives_followed (outputs_give r1) (λ outs r2 e. gives_made _ (mode_end_gives r2) (λ m rest f. (procedure_head d e f, omega arith))))
 
-function_gives : Reads → (n : ℕ) (p : Place) (words : Words) → Gives (λ h rest. HeadOf n h (reserved_then reserved.Function p words) rest) (function_behind n p words)
+function_gives : (n : ℕ) (p : Place) (words : Words) → Gives (λ h rest. HeadOf n h (reserved_then reserved.Function p words) rest) (function_behind n p words)
 unfolding function_behind
-function_gives rs n p words =
-    gives_followed (inputs_give words) (λ ins r1 d. gives_followed (outputs_give r1) (λ outs r2 e. gives_made _ (returns_end_gives rs n r2) (λ f rest g. (function_head d e g.0, g.1))))
+function_gives n p words =
+    gives_followed (inputs_give words) (λ ins r1 d. gives_followed (outputs_give r1) (λ outs r2 e. gives_made _ (returns_end_gives n r2) (λ f rest g. (function_head d e g.0, g.1))))
 
-behind_gives : Reads → (n : ℕ) (p : Place) (w : Word) (words : Words) → Gives (λ h rest. HeadOf n h (token w p ∷ words) rest) (head_behind n p w words)
+behind_gives : (n : ℕ) (p : Place) (w : Word) (words : Words) → Gives (λ h rest. HeadOf n h (token w p ∷ words) rest) (head_behind n p w words)
 unfolding head_behind
-behind_gives rs n p (word.Reserved reserved.Program) words = gives_made _ (symbol_gives symbol.Semicolon words) (λ q rest e. (rw e program_head, omega arith))
-behind_gives rs n p (word.Reserved reserved.Compool) words = gives_made _ (symbol_gives symbol.Semicolon words) (λ q rest e. (rw e compool_head, omega arith))
-behind_gives rs n p (word.Reserved reserved.Task) words = gives_made _ (symbol_gives symbol.Semicolon words) (λ q rest e. (rw e task_head, omega arith))
-behind_gives rs n p (word.Reserved reserved.Procedure) words = procedure_gives n p words
-behind_gives rs n p (word.Reserved reserved.Function) words = function_gives rs n p words
-behind_gives rs n p other words = gives_none
+behind_gives n p (word.Reserved reserved.Program) words = gives_made _ (symbol_gives symbol.Semicolon words) (λ q rest e. (rw e program_head, omega arith))
+behind_gives n p (word.Reserved reserved.Compool) words = gives_made _ (symbol_gives symbol.Semicolon words) (λ q rest e. (rw e compool_head, omega arith))
+behind_gives n p (word.Reserved reserved.Task) words = gives_made _ (symbol_gives symbol.Semicolon words) (λ q rest e. (rw e task_head, omega arith))
+behind_gives n p (word.Reserved reserved.Procedure) words = procedure_gives n p words
+behind_gives n p (word.Reserved reserved.Function) words = function_gives n p words
+behind_gives n p other words = gives_none
 
 -- what is read of a head is spelled
-pub head_gives : Reads → (n : ℕ) (words : Words) → Gives (λ h rest. HeadOf n h words rest) (head_at n words)
+pub head_gives : (n : ℕ) (words : Words) → Gives (λ h rest. HeadOf n h words rest) (head_at n words)
 unfolding head_at
-head_gives rs n [] = gives_none
-head_gives rs n (first ∷ rest) = behind_gives rs n first.place first.word rest
+head_gives n [] = gives_none
+head_gives n (first ∷ rest) = behind_gives n first.place first.word rest
 
 -- what is spelled as a head is read
-pub head_is : Reads → (n : ℕ) {h : Head} {b a : Words} → SpellsHead h b a → nesting_of_head h ≤ n → head_at n b ≡ Some (h, a)
+pub head_is : (n : ℕ) {h : Head} {b a : Words} → SpellsHead h b a → nesting_of_head h ≤ n → head_at n b ≡ Some (h, a)
 unfolding head_at head_behind procedure_behind function_behind past_symbol is_symbol where_true
-head_is rs n program_head h = made_is _ refl
-head_is rs n compool_head h = made_is _ refl
-head_is rs n task_head h = made_is _ refl
-head_is rs n (procedure_head d e f) h = followed_is _ (inputs_are d) ∙ followed_is _ (outputs_are e) ∙ made_is _ (mode_end_is f)
-head_is rs n (function_head d e f) h = followed_is _ (inputs_are d) ∙ followed_is _ (outputs_are e) ∙ made_is _ (returns_end_is rs n f h)
+head_is n program_head h = made_is _ refl
+head_is n compool_head h = made_is _ refl
+head_is n task_head h = made_is _ refl
+head_is n (procedure_head d e f) h = followed_is _ (inputs_are d) ∙ followed_is _ (outputs_are e) ∙ made_is _ (mode_end_is f)
+head_is n (function_head d e f) h = followed_is _ (inputs_are d) ∙ followed_is _ (outputs_are e) ∙ made_is _ (returns_end_is n f h)

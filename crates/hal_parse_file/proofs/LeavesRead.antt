@@ -1,22 +1,22 @@
 -- Names, literals, signs: what is read is spelled, and what is spelled is read.
-use Rattle.std.proofs.Common.{◌≡◌, ℕ, List, [], ◌∷◌, Option, Some, None, refl, ap, ◌∙◌}
+use Rattle.std.proofs.Common.{◌≡◌, ℕ, List, [], ◌∷◌, Option, Some, None, refl, ◌∙◌}
 use Rattle.hal_base.specs.declared.refusal.Place.{Place}
 use Rattle.hal_words.specs.declared.reserved.Reserved.TheVariants as reserved
 use Rattle.hal_words.specs.declared.word.Symbol.TheVariants as symbol
 use Rattle.hal_words.specs.declared.word.Word.{Word}
 use Rattle.hal_words.specs.declared.word.Word.TheVariants as word
 use Rattle.hal_grammar.specs.Leaves.{Naming, naming, Sign, Literal}
-use Rattle.hal_grammar.specs.Words.{Words, token, reserved_then, symbol_then, name_then, integer_then, BeginsSymbol, begins}
+use Rattle.hal_grammar.specs.Words.{Words, token, name_then, BeginsSymbol, begins}
 use Rattle.hal_grammar.specs.SpellsExpressions.{SpellsSign, plus, minus, SpellsLiteral, integer, text, bits, true_bit, false_bit, on_bit, off_bit}
 use Rattle.hal_grammar.specs.SpellsDeclarations.{Parted, last, more, SpellsNames, last_name, more_names, SpellsNameEnd, no_name_end, name_end, SpellsOpening, no_opening, opening}
-use Rattle.hal_parse_expr.specs.Reading.{Read, name_at, integer_at, past_symbol}
+use Rattle.hal_parse_expr.specs.Reading.{name_at}
 use Rattle.hal_parse_expr.specs.ReadingExpressions.{sign_of, sign_at, literal_of}
 use Rattle.hal_parse_expr.proofs.Shortening.{name_shortens}
-use Rattle.hal_parse_file.specs.ReadingDeclarations.{names_at, name_end_at, literal_at, opening_at, count_at, label_at}
-use Rattle.hal_parse_file.proofs.FirstWords.{past_symbol_here}
-use Rattle.hal_parse_file.proofs.Gives.{Gives, gives_none, gives, gives_so, gives_followed, gives_made, gives_decided, nothing_read}
-use Rattle.hal_parse_file.proofs.Firsts.{name_gives, integer_gives, symbol_gives}
-use Rattle.hal_parse_file.proofs.Becomes.{followed_is, made_is, decided_is, decided_not}
+use Rattle.hal_parse_file.specs.ReadingDeclarations.{names_at, name_end_at, literal_at, opening_at}
+use Rattle.hal_parse_expr.proofs.FirstWords.{past_symbol_here}
+use Rattle.hal_parse_file.proofs.Gives.{Gives, gives_none, gives, gives_so, gives_made, gives_decided, nothing_read}
+use Rattle.hal_parse_file.proofs.Firsts.{name_gives, symbol_gives}
+use Rattle.hal_parse_file.proofs.Becomes.{made_is, decided_is, decided_not}
 use Rattle.hal_parse_file.proofs.PartedLists.{list_gives, list_is}
 
 -- one name
@@ -139,4 +139,3 @@ pub opening_is : {s : Option Sign} {b a : Words} → SpellsOpening s b a → ope
 unfolding opening_at
 opening_is (no_opening {after = after} n m) = decided_not _ _ (nothing_read (sign_gives after) (λ s rest d. not_signed n m d))
 opening_is (opening d) = decided_is _ _ (sign_is d)
-

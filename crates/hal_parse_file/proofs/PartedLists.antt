@@ -1,5 +1,5 @@
 -- Phrases parted by commas.
-use Rattle.std.proofs.Common.{◌≡◌, ℕ, ◌<◌, ◌≤◌, List, [], ◌∷◌, length, max, Option, Some, None, refl, ap, ◌∙◌, arith}
+use Rattle.std.proofs.Common.{◌≡◌, ℕ, ◌≤◌, List, [], ◌∷◌, Some, None, ap, ◌∙◌, arith}
 use Rattle.hal_base.specs.declared.refusal.Place.{Place}
 use Rattle.hal_words.specs.declared.word.Symbol.TheVariants as symbol
 use Rattle.hal_grammar.specs.Leaves.{most}
@@ -9,7 +9,7 @@ use Rattle.hal_parse_expr.specs.Reading.{Read, Reader, followed, made_of, all, a
 use Rattle.hal_parse_expr.proofs.Shortening.{Shortens, all_none, all_more}
 use Rattle.hal_parse_expr.proofs.ShorteningExpressions.{comma_shortens}
 use Rattle.hal_parse_file.specs.ReadingDeclarations.{first_and_others}
-use Rattle.hal_parse_file.proofs.FirstWords.{past_symbol_none}
+use Rattle.hal_parse_expr.proofs.FirstWords.{past_symbol_none}
 use Rattle.hal_parse_file.proofs.Gives.{Gives, gives, gives_so, gives_followed, gives_made}
 use Rattle.hal_parse_file.proofs.Firsts.{symbol_gives}
 use Rattle.hal_parse_file.proofs.Becomes.{followed_is, made_is, symbol_is}
