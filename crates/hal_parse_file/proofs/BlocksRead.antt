@@ -147,7 +147,7 @@ element_shorter : (n : ℕ) (x : Element) (words rest : Words) → ElementOf n x
 element_shorter n x words rest (statement_element d l) = statement_shorter d
 element_shorter n x words rest (block_element d l s) = block_shorter d
 
-element_shortens : {n : ℕ} {read : Reader Block} → Blocks n read → Shortens (element_of n read)
+pub element_shortens : {n : ℕ} {read : Reader Block} → Blocks n read → Shortens (element_of n read)
 element_shortens {n = n} bs = shortens (element_gives bs) (element_shorter n)
 
 made_none : {X Y : Type 0} {o : Read X} (make : X → Y) → o ≡ None → made_of make o ≡ None

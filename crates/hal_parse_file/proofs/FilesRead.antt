@@ -85,7 +85,7 @@ unfolding preface_at name_at
 preface_is n (includes {p = p} {q = q} {n = m} {after = after}) l = decided_is _ _ (past_here reserved.Include p (name_then m q after)) ∙ made_is _ refl
 preface_is n (templates {before = before} d) l = decided_not _ _ (past_none reserved.Include before (template_no_include d)) ∙ made_is _ (template_is n d l)
 
-preface_shortens : (n : ℕ) → Shortens (preface_at n)
+pub preface_shortens : (n : ℕ) → Shortens (preface_at n)
 preface_shortens n = shortens (preface_gives n) (λ x words rest d. preface_shorter d.0)
 
 -- a file that is nested so deep at most

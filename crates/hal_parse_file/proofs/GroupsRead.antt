@@ -47,7 +47,7 @@ pub record Inside (n : ℕ) (inner : Option (Reader Statement)) : Type 0 where
   pub sound : (words : Words) → Gives (λ s rest. StatementIn n s words rest) (where_left inner words)
   pub full : (s : Statement) (b a : Words) → StatementIn n s b a → where_left inner b ≡ Some (s, a)
 
-inside_shortens : {n : ℕ} {inner : Option (Reader Statement)} → Inside n inner → Shortens (where_left inner)
+pub inside_shortens : {n : ℕ} {inner : Option (Reader Statement)} → Inside n inner → Shortens (where_left inner)
 inside_shortens ins = shortens ins.sound (λ s words rest d. statement_shorter d.0)
 
 -- the words with which statements end

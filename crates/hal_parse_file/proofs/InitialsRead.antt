@@ -179,7 +179,7 @@ unfolding initials
 listing_of n (last_initial d) l = listing (last (d, omega arith))
 listing_of n (more_initials d ds) l = listing_more n (d, omega arith) (listing_of n ds (omega arith))
 
-initial_shortens : (n : ℕ) (inner : Option (Reader Initials)) → ((words : Words) → Gives (λ ts rest. InitialsIn n ts words rest) (where_left inner words)) → Shortens (initial_of n inner)
+pub initial_shortens : (n : ℕ) (inner : Option (Reader Initials)) → ((words : Words) → Gives (λ ts rest. InitialsIn n ts words rest) (where_left inner words)) → Shortens (initial_of n inner)
 initial_shortens n inner g = shortens (initial_gives n inner g) (λ t words rest d. initial_shorter d.0)
 
 listing_is : (n : ℕ) (inner : Option (Reader Initials)) → ((words : Words) → Gives (λ ts rest. InitialsIn n ts words rest) (where_left inner words)) → ReadsInner n inner →

@@ -7,6 +7,7 @@ use Rattle.hal_grammar.specs.Declarations.{Attribute, Declared, declared_of, Par
 use Rattle.hal_grammar.specs.Words.{Words, symbol_then, name_then, integer_then, begins}
 use Rattle.hal_grammar.specs.SpellsDeclarations.{Parted, last, more, SpellsDeclared, declared, SpellsPart, part}
 use Rattle.hal_grammar.proofs.ShorterDeclarations.{attribute_shorter}
+use Rattle.hal_parse_expr.proofs.Shortening.{Shortens}
 use Rattle.hal_parse_expr.specs.Reading.{name_at, integer_at}
 use Rattle.hal_parse_file.specs.ReadingDeclarations.{attribute_at, attributes_at, declared_at, part_at, items_at, parts_at}
 use Rattle.hal_parse_file.proofs.Gives.{Gives, gives, gives_followed}
@@ -42,6 +43,12 @@ name_of_shorter n x words rest (name_of c) = omega (arith, chain_shorter (λ y b
 
 level_of_shorter : (n : ℕ) (x : Part) (words rest : Words) → PartOf n x words rest → length rest < length words
 level_of_shorter n x words rest (level_of c) = omega (arith, chain_shorter (λ y b a d. attribute_shorter d.0) c)
+
+pub declared_shortens : (n : ℕ) → Shortens (declared_at n)
+declared_shortens n = shortens (declared_gives n) (name_of_shorter n)
+
+pub part_shortens : (n : ℕ) → Shortens (part_at n)
+part_shortens n = shortens (part_gives n) (level_of_shorter n)
 
 names_spelled : (n : ℕ) {xs : List Declared} {b a : Words} → Parted (NameOf n) xs b a → EndsAttributes a → Parted SpellsDeclared xs b a × (most nesting_of_declared xs ≤ n)
 names_spelled n (last (name_of c)) e = let r = attributes_spelled n c e in (last (declared r.0), omega (arith, r.1))
@@ -89,12 +96,12 @@ pub items_are : (n : ℕ) {xs : List Declared} {b : Words} {q : Place} {a : Word
     items_at n b ≡ Some (xs, a)
 unfolding items_at
 items_are n d h =
-    before_symbol_is (list_is {E = λ w. Unit {0}} (declared_at n) (shortens (declared_gives n) (name_of_shorter n)) (λ x b a e u. declared_is n e.0 e.1) (λ p words. tt)
+    before_symbol_is (list_is {E = λ w. Unit {0}} (declared_at n) (declared_shortens n) (λ x b a e u. declared_is n e.0 e.1) (λ p words. tt)
     (parted_shallow nesting_of_declared n d h) tt (λ e. elim e [ ]))
 
 pub parts_are : (n : ℕ) {xs : List Part} {b : Words} {q : Place} {a : Words} → Parted SpellsPart xs b (symbol_then symbol.Semicolon q a) → most nesting_of_part xs ≤ n →
     parts_at n b ≡ Some (xs, a)
 unfolding parts_at
 parts_are n d h =
-    before_symbol_is (list_is {E = λ w. Unit {0}} (part_at n) (shortens (part_gives n) (level_of_shorter n)) (λ x b a e u. part_is n e.0 e.1) (λ p words. tt)
+    before_symbol_is (list_is {E = λ w. Unit {0}} (part_at n) (part_shortens n) (λ x b a e u. part_is n e.0 e.1) (λ p words. tt)
     (parted_shallow nesting_of_part n d h) tt (λ e. elim e [ ]))

@@ -21,3 +21,4 @@ pub mod HeadsRead
 pub mod BlocksRead
 pub mod FilesRead
 pub mod ExactReadings
+pub mod ReadersShorten

@@ -13,7 +13,7 @@ use Rattle.hal_grammar.specs.Words.{Words, token, reserved_then, symbol_then}
 use Rattle.hal_grammar.specs.SpellsStatements.{SpellsNameOption, SpellsEvent, pulses, raises, lowers, BeginsLabel, begins_label, SpellsLabels, no_labels, more_labels, SpellsStatement, labelled, SpellsBasic, empty, assigned, chosen, grouped, selected, looped_while, looped_until, ranged, left, repeated, returned, returned_value, calls, inputs, outputs_nothing, outputs, updates, scheduled, cancelled_itself, cancelled, terminated_itself, terminated, waits, waits_until, waits_for_dependents, waits_for, acts, prioritizes, handles, answers, forgets, sends}
 use Rattle.hal_grammar.proofs.LeftOut.{basic_no_label}
 use Rattle.hal_parse_expr.specs.Reading.{Reader, past, is_reserved, where_true, past_symbol, is_symbol, made_of}
-use Rattle.hal_parse_expr.proofs.Shortening.{all_none}
+use Rattle.hal_parse_expr.proofs.Shortening.{Shortens, all_none}
 use Rattle.hal_parse_file.specs.ReadingDeclarations.{where_left, label_at}
 use Rattle.hal_parse_file.specs.ReadingStatements.{labels_at, update_of, reserved_behind, basic_behind, basic_of, statement_of, statement_at, statement_below}
 use Rattle.hal_parse_file.proofs.Gives.{Gives, gives_none, gives, gives_so, gives_made, nothing_read}
@@ -140,10 +140,13 @@ label_begins one_label = begins_label
 label_shorter : (x : Naming) (words rest : Words) → SpellsLabel x words rest → length rest < length words
 label_shorter x words rest one_label = omega arith
 
+pub label_shortens : Shortens label_at
+label_shortens = shortens label_gives label_shorter
+
 labels_are : {ns : List Naming} {b a : Words} → SpellsLabels ns b a → labels_at b ≡ (ns, a)
 unfolding labels_at
 labels_are (no_labels {after = after} h) = all_none label_at after (nothing_read (label_gives after) (λ x rest d. h (label_begins d)))
-labels_are (more_labels ds) = all_first label_at (shortens label_gives label_shorter) (label_is one_label) (labels_are ds)
+labels_are (more_labels ds) = all_first label_at label_shortens (label_is one_label) (labels_are ds)
 
 -- a statement that is nested so deep at most
 abbrev pub StatementOf : ℕ → Statement → Words → Words → Type 0
