@@ -18,10 +18,13 @@ use Rattle.hal_parse_expr.specs.ReadingExpressions.{expressions_at}
 use Rattle.hal_parse_expr.proofs.Shortening.{Shortens, all_none}
 use Rattle.hal_parse_file.specs.ReadingDeclarations.{kind_behind, kind_at, initials_at, mark_of, lock_inside, marked_or_typed, attribute_behind, attribute_at, attributes_at}
 use Rattle.hal_parse_expr.proofs.FirstWords.{past_symbol_here}
-use Rattle.hal_parse_file.proofs.Gives.{Gives, gives_none, gives, gives_so, gives_made, gives_decided}
+use Rattle.hal_parse_expr.proofs.Readings.{Holds, holds_none, holds, weaker_holds}
+use Rattle.hal_parse_expr.proofs.Combining.{made_holds}
+use Rattle.hal_parse_file.proofs.Decided.{decided_holds}
 use Rattle.hal_parse_file.proofs.Firsts.{symbol_gives, Enclosed, enclosed_so, gives_enclosed}
 use Rattle.hal_parse_file.proofs.FirstWeak.{no_weak_symbol}
-use Rattle.hal_parse_file.proofs.Becomes.{made_is, decided_is, decided_not, enclosed_is}
+use Rattle.hal_parse_expr.proofs.Equations.{made_equals}
+use Rattle.hal_parse_file.proofs.Becomes.{decided_is, decided_not, enclosed_is}
 use Rattle.hal_parse_file.proofs.Chains.{Chain, chain_end, chain_more, shortens, all_first}
 use Rattle.hal_parse_file.proofs.Below.{expression_gives, expressions_gives, expression_is, expressions_are}
 use Rattle.hal_parse_file.proofs.KindsRead.{kind_behind_gives, kind_is}
@@ -48,11 +51,11 @@ mark_view (word.Reserved reserved.Aligned) = mark_so (λ p rest. aligned_mark)
 mark_view other = no_mark
 
 marked_so : (n : ℕ) (p : Place) (w : Word) (words : Words) {o : Option Mark} → MarkOf w o →
-    Gives (λ x rest. AttributeOf n x (token w p ∷ words) rest) (elim o [ None ↦ made_of (λ k. Typed k) (kind_behind n p w words) | Some m ↦ Some (Marked p m, words) ])
-marked_so n p w words (mark_so f) = gives (marked (f p words), omega arith)
-marked_so n p w words no_mark = gives_made _ (kind_behind_gives n p w words) (λ k rest d. (typed d.0, d.1))
+    Holds (λ x rest. AttributeOf n x (token w p ∷ words) rest) (elim o [ None ↦ made_of (λ k. Typed k) (kind_behind n p w words) | Some m ↦ Some (Marked p m, words) ])
+marked_so n p w words (mark_so f) = holds (marked (f p words), omega arith)
+marked_so n p w words no_mark = made_holds _ (kind_behind_gives n p w words) (λ k rest d. (typed d.0, d.1))
 
-marked_gives : (n : ℕ) (p : Place) (w : Word) (words : Words) → Gives (λ x rest. AttributeOf n x (token w p ∷ words) rest) (marked_or_typed n p w words)
+marked_gives : (n : ℕ) (p : Place) (w : Word) (words : Words) → Holds (λ x rest. AttributeOf n x (token w p ∷ words) rest) (marked_or_typed n p w words)
 unfolding marked_or_typed
 marked_gives n p w words = marked_so n p w words (mark_view w)
 
@@ -75,23 +78,23 @@ lock_spelled : {n : ℕ} {x : Attribute} {p : Place} {b a : Words} → Enclosed 
 lock_spelled (enclosed_so locked_any) = (lock_any, omega arith)
 lock_spelled (enclosed_so (locked_group d l)) = (lock_group d, l)
 
-lock_gives : (n : ℕ) (p : Place) (words : Words) → Gives (λ x rest. Locked n p x words rest) (lock_inside n p words)
+lock_gives : (n : ℕ) (p : Place) (words : Words) → Holds (λ x rest. Locked n p x words rest) (lock_inside n p words)
 unfolding lock_inside
 lock_gives n p words =
-    gives_decided (symbol_gives symbol.Star words) (λ q rest e. gives (rw e locked_any)) (λ e. gives_made _ (expression_gives n words) (λ t rest d. locked_group d.0 d.1))
+    decided_holds (symbol_gives symbol.Star words) (λ q rest e. holds (rw e locked_any)) (λ e. made_holds _ (expression_gives n words) (λ t rest d. locked_group d.0 d.1))
 
-behind_gives : (n : ℕ) (p : Place) (w : Word) (words : Words) → Gives (λ x rest. AttributeOf n x (token w p ∷ words) rest) (attribute_behind n p w words)
+behind_gives : (n : ℕ) (p : Place) (w : Word) (words : Words) → Holds (λ x rest. AttributeOf n x (token w p ∷ words) rest) (attribute_behind n p w words)
 unfolding attribute_behind
-behind_gives n p (word.Reserved reserved.Array) words = gives_made _ (gives_enclosed (expressions_at n) words (expressions_gives n)) (λ ts rest d. dimensions_spelled d)
-behind_gives n p (word.Reserved reserved.Lock) words = gives_so (gives_enclosed (lock_inside n p) words (lock_gives n p)) (λ x rest d. lock_spelled d)
-behind_gives n p (word.Reserved reserved.Initial) words = gives_made _ (gives_enclosed (initials_at n) words (initials_at_gives n)) (λ ts rest d. initial_spelled d)
-behind_gives n p (word.Reserved reserved.Constant) words = gives_made _ (gives_enclosed (initials_at n) words (initials_at_gives n)) (λ ts rest d. constant_spelled d)
+behind_gives n p (word.Reserved reserved.Array) words = made_holds _ (gives_enclosed (expressions_at n) words (expressions_gives n)) (λ ts rest d. dimensions_spelled d)
+behind_gives n p (word.Reserved reserved.Lock) words = weaker_holds (gives_enclosed (lock_inside n p) words (lock_gives n p)) (λ x rest d. lock_spelled d)
+behind_gives n p (word.Reserved reserved.Initial) words = made_holds _ (gives_enclosed (initials_at n) words (initials_at_gives n)) (λ ts rest d. initial_spelled d)
+behind_gives n p (word.Reserved reserved.Constant) words = made_holds _ (gives_enclosed (initials_at n) words (initials_at_gives n)) (λ ts rest d. constant_spelled d)
 behind_gives n p other words = marked_gives n p other words
 
 -- what is read of an attribute is spelled
-pub attribute_gives : (n : ℕ) (words : Words) → Gives (λ x rest. AttributeOf n x words rest) (attribute_at n words)
+pub attribute_gives : (n : ℕ) (words : Words) → Holds (λ x rest. AttributeOf n x words rest) (attribute_at n words)
 unfolding attribute_at
-attribute_gives n [] = gives_none
+attribute_gives n [] = holds_none
 attribute_gives n (first ∷ rest) = behind_gives n first.place first.word rest
 
 pub attribute_shortens : (n : ℕ) → Shortens (attribute_at n)
@@ -119,7 +122,7 @@ mark_is n aligned_mark = refl
 group_is : (n : ℕ) (p : Place) {t : Expression} {b : Words} {r : Place} {a : Words} → SpellsExpression t b (symbol_then symbol.RightParenthesis r a) → nesting t ≤ n →
     lock_inside n p b ≡ Some (LockGroup p t, symbol_then symbol.RightParenthesis r a)
 unfolding lock_inside
-group_is n p {b = b} d h = decided_not _ _ (no_weak_symbol symbol.Star b (omega arith) (expression_strong d)) ∙ made_is _ (expression_is n d h (omega arith))
+group_is n p {b = b} d h = decided_not _ _ (no_weak_symbol symbol.Star b (omega arith) (expression_strong d)) ∙ made_equals _ (expression_is n d h (omega arith))
 
 any_is : (n : ℕ) (p s : Place) (words : Words) → lock_inside n p (symbol_then symbol.Star s words) ≡ Some (LockAny p, words)
 unfolding lock_inside
@@ -128,16 +131,16 @@ any_is n p s words = decided_is _ _ (past_symbol_here symbol.Star s words)
 -- what is spelled as an attribute is read
 pub attribute_is : (n : ℕ) {x : Attribute} {b a : Words} → SpellsAttribute x b a → nesting_of_attribute x ≤ n → attribute_at n b ≡ Some (x, a)
 unfolding attribute_at attribute_behind
-attribute_is n (dimensions {q = q} {before = before} d) h = made_is _ (enclosed_is (expressions_at n) q before (expressions_are n d h (omega arith)))
-attribute_is n (typed d) h = typed_way n d ∙ made_is _ (kind_is n d h)
+attribute_is n (dimensions {q = q} {before = before} d) h = made_equals _ (enclosed_is (expressions_at n) q before (expressions_are n d h (omega arith)))
+attribute_is n (typed d) h = typed_way n d ∙ made_equals _ (kind_is n d h)
 attribute_is n (marked d) h = mark_is n d
 attribute_is n (lock_group {p = p} {q = q} {before = before} d) h = enclosed_is (lock_inside n p) q before (group_is n p d h)
 attribute_is n (lock_any {p = p} {q = q} {r = r} {s = s} {after = after}) h =
     enclosed_is (lock_inside n p) q (symbol_then symbol.Star s (symbol_then symbol.RightParenthesis r after)) (any_is n p s (symbol_then symbol.RightParenthesis r after))
 attribute_is n (initial_values {q = q} {r = r} {ts = ts} {before = before} {after = after} d) h =
-    made_is _ (enclosed_is (initials_at n) q before (initials_at_is n ts before (symbol_then symbol.RightParenthesis r after) (d, h) ((omega arith, λ e. elim e [ ]), λ e. elim e [ ])))
+    made_equals _ (enclosed_is (initials_at n) q before (initials_at_is n ts before (symbol_then symbol.RightParenthesis r after) (d, h) ((omega arith, λ e. elim e [ ]), λ e. elim e [ ])))
 attribute_is n (constant_values {q = q} {r = r} {ts = ts} {before = before} {after = after} d) h =
-    made_is _ (enclosed_is (initials_at n) q before (initials_at_is n ts before (symbol_then symbol.RightParenthesis r after) (d, h) ((omega arith, λ e. elim e [ ]), λ e. elim e [ ])))
+    made_equals _ (enclosed_is (initials_at n) q before (initials_at_is n ts before (symbol_then symbol.RightParenthesis r after) (d, h) ((omega arith, λ e. elim e [ ]), λ e. elim e [ ])))
 
 -- the words with which attributes end
 abbrev pub EndsAttributes : Words → Type 0

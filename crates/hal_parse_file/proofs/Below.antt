@@ -8,12 +8,12 @@ use Rattle.hal_parse_expr.specs.Reading.{Read}
 use Rattle.hal_parse_expr.specs.ReadingExpressions.{expression_at, expressions_at, reference_at}
 use Rattle.hal_parse_expr.proofs.Longest.{expression_best, expressions_best, reference_best}
 use Rattle.hal_parse_expr.specs.Best.{BestOf, nothing, found}
-use Rattle.hal_parse_file.proofs.Gives.{Gives, gives_none, gives}
+use Rattle.hal_parse_expr.proofs.Readings.{Holds, holds_none, holds}
 
 best_gives : {X : Type 0} {R : X → Words → Words → Type 0} {depth : X → ℕ} {n c : ℕ} {words : Words} {o : Read X} → BestOf R depth n c words o →
-    Gives (λ x rest. R x words rest × (depth x ≤ n)) o
-best_gives (nothing f) = gives_none
-best_gives (found b) = gives (b.reads, b.shallow)
+    Holds (λ x rest. R x words rest × (depth x ≤ n)) o
+best_gives (nothing f) = holds_none
+best_gives (found b) = holds (b.reads, b.shallow)
 
 best_is : {X : Type 0} {R : X → Words → Words → Type 0} {depth : X → ℕ} {n c : ℕ} {words : Words} {o : Read X} {x : X} {rest : Words} → BestOf R depth n c words o → R x words rest →
     depth x ≤ n → strength rest ≤ c → o ≡ Some (x, rest)
@@ -25,13 +25,13 @@ best_is {X = X} {c = c} {x = x} {rest = rest} (found {f = f} b) d l h = go (b.on
     go (inr e) = absurd (omega (arith, e.0, h))
 
 -- what is read is spelled, and nested so deep at most
-pub expression_gives : (n : ℕ) (words : Words) → Gives (λ t rest. SpellsExpression t words rest × (nesting t ≤ n)) (expression_at n words)
+pub expression_gives : (n : ℕ) (words : Words) → Holds (λ t rest. SpellsExpression t words rest × (nesting t ≤ n)) (expression_at n words)
 expression_gives n words = best_gives (expression_best n words)
 
-pub expressions_gives : (n : ℕ) (words : Words) → Gives (λ ts rest. SpellsExpressions ts words rest × (nesting_of_all ts ≤ n)) (expressions_at n words)
+pub expressions_gives : (n : ℕ) (words : Words) → Holds (λ ts rest. SpellsExpressions ts words rest × (nesting_of_all ts ≤ n)) (expressions_at n words)
 expressions_gives n words = best_gives (expressions_best n words)
 
-pub reference_gives : (n : ℕ) (words : Words) → Gives (λ x rest. SpellsReference x words rest × (nesting_of_reference x ≤ n)) (reference_at n words)
+pub reference_gives : (n : ℕ) (words : Words) → Holds (λ x rest. SpellsReference x words rest × (nesting_of_reference x ≤ n)) (reference_at n words)
 reference_gives n words = best_gives (reference_best n words)
 
 -- a phrase that ends where none of its kind goes on is the one that is read

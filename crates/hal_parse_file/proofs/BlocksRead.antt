@@ -18,9 +18,12 @@ use Rattle.hal_parse_expr.specs.Reading.{Read, Reader, followed, made_of, where_
 use Rattle.hal_parse_expr.proofs.Shortening.{Shortens, all_none}
 use Rattle.hal_parse_file.specs.ReadingDeclarations.{name_end_at}
 use Rattle.hal_parse_file.specs.ReadingFiles.{Element, StatementElement, BlockElement, elements, head_of, inner_block, element_of, elements_of, block_close, block_behind, block_of, block_at}
-use Rattle.hal_parse_file.proofs.Gives.{Gives, gives_none, gives, gives_so, gives_followed, gives_made, gives_either, nothing_read}
+use Rattle.hal_parse_expr.proofs.Readings.{Holds, holds_none, holds, weaker_holds}
+use Rattle.hal_parse_expr.proofs.Combining.{followed_holds, made_holds, or_holds}
+use Rattle.hal_parse_file.proofs.Decided.{nothing_read}
 use Rattle.hal_parse_file.proofs.Firsts.{past_gives}
-use Rattle.hal_parse_file.proofs.Becomes.{followed_is, made_is, either_not, either_is, past_is}
+use Rattle.hal_parse_expr.proofs.Equations.{made_equals, made_none}
+use Rattle.hal_parse_file.proofs.Becomes.{followed_is, either_not, either_is, past_is}
 use Rattle.hal_parse_file.proofs.Chains.{Chain, chain_end, chain_more, all_chain, shortens, all_first}
 use Rattle.hal_parse_file.proofs.LeavesRead.{name_end_gives, name_end_is}
 use Rattle.hal_parse_file.proofs.DeclarationsRead.{SpellsLabel, one_label, label_gives, label_is, DeclarationOf, declarations_chain, declarations_spelled, declarations_are}
@@ -33,7 +36,7 @@ BlockWithin n u b a = SpellsBlock u b a × (nesting_of_block u ≤ n)
 
 -- units are read exactly
 pub record Blocks (n : ℕ) (read : Reader Block) : Type 0 where
-  pub sound : (words : Words) → Gives (λ u rest. BlockWithin n u words rest) (read words)
+  pub sound : (words : Words) → Holds (λ u rest. BlockWithin n u words rest) (read words)
   pub full : (u : Block) (b a : Words) → BlockWithin n u b a → read b ≡ Some (u, a)
 
 -- what stands in a unit, nested so deep at most
@@ -41,26 +44,26 @@ data ElementOf (n : ℕ) : Element → Words → Words → Type 0 where
   statement_element : {s : Statement} {b a : Words} → SpellsStatement s b a → nesting_of_statement s ≤ n → ElementOf n (StatementElement s) b a
   block_element : {u : Block} {b a : Words} → SpellsBlock u b a → nesting_of_block u ≤ n → stands_inside (head_of u) ≡ true → ElementOf n (BlockElement u) b a
 
-where_gives : {X : Type 0} {P : X → Words → Type 0} (x : X) (rest : Words) (b : Bool) → (b ≡ true → P x rest) → Gives P (where_true b (Some (x, rest)))
+where_gives : {X : Type 0} {P : X → Words → Type 0} (x : X) (rest : Words) (b : Bool) → (b ≡ true → P x rest) → Holds P (where_true b (Some (x, rest)))
 unfolding where_true
-where_gives x rest true f = gives (f refl)
-where_gives x rest false f = gives_none
+where_gives x rest true f = holds (f refl)
+where_gives x rest false f = holds_none
 
 -- a unit that may stand inside another one
 data InnerOf (n : ℕ) (u : Block) (b a : Words) : Type 0 where
   inner_of : SpellsBlock u b a → nesting_of_block u ≤ n → stands_inside (head_of u) ≡ true → InnerOf n u b a
 
-inner_gives : {n : ℕ} {read : Reader Block} → Blocks n read → (words : Words) → Gives (λ u rest. InnerOf n u words rest) (inner_block read words)
+inner_gives : {n : ℕ} {read : Reader Block} → Blocks n read → (words : Words) → Holds (λ u rest. InnerOf n u words rest) (inner_block read words)
 unfolding inner_block
-inner_gives bs words = gives_followed (bs.sound words) (λ u rest d. where_gives u rest (stands_inside (head_of u)) (λ e. inner_of d.0 d.1 e))
+inner_gives bs words = followed_holds (bs.sound words) (λ u rest d. where_gives u rest (stands_inside (head_of u)) (λ e. inner_of d.0 d.1 e))
 
 inner_element : {n : ℕ} {u : Block} {b a : Words} → InnerOf n u b a → ElementOf n (BlockElement u) b a
 inner_element (inner_of d l e) = block_element d l e
 
-element_gives : {n : ℕ} {read : Reader Block} → Blocks n read → (words : Words) → Gives (λ x rest. ElementOf n x words rest) (element_of n read words)
+element_gives : {n : ℕ} {read : Reader Block} → Blocks n read → (words : Words) → Holds (λ x rest. ElementOf n x words rest) (element_of n read words)
 unfolding element_of
 element_gives {n = n} bs words =
-    gives_either (gives_made _ (inner_gives bs words) (λ u rest d. inner_element d)) (gives_made _ (statement_gives n words) (λ s rest d. statement_element d.0 d.1))
+    or_holds (made_holds _ (inner_gives bs words) (λ u rest d. inner_element d)) (made_holds _ (statement_gives n words) (λ s rest d. statement_element d.0 d.1))
 
 block_first_of : {u : Block} {es : Elements} {c : Option Naming} {b m a : Words} → SpellsBlock u b m → stands_inside (head_of u) ≡ true → SpellsElements es c m a → SpellsElements (BlockFirst u es) c b a
 block_first_of (block h ds fs q) e es = block_first (block h ds fs q) e es
@@ -92,11 +95,11 @@ tail_so : {n : ℕ} {x : Naming} {h : Head} {ds : List Declaration} {es : List E
 tail_so ch d f = let r = elements_spelled ch d in tail_of r.0 r.1 f
 
 close_gives : {n : ℕ} {read : Reader Block} → Blocks n read → (x : Naming) (h : Head) (ds : List Declaration) (words : Words) →
-    Gives (λ u rest. TailOf n x h ds u words rest) (block_close n read x h ds words)
+    Holds (λ u rest. TailOf n x h ds u words rest) (block_close n read x h ds words)
 unfolding block_close
 close_gives {n = n} {read = read} bs x h ds words =
-    gives_followed (past_gives reserved.Close (elements_of n read (holds_elements h) words).1)
-    (λ p rest e. gives_made _ (name_end_gives rest) (λ c after d. tail_so (rw e at (elements_chain bs (holds_elements h) words)) d (elements_held n read (holds_elements h) words)))
+    followed_holds (past_gives reserved.Close (elements_of n read (holds_elements h) words).1)
+    (λ p rest e. made_holds _ (name_end_gives rest) (λ c after d. tail_so (rw e at (elements_chain bs (holds_elements h) words)) d (elements_held n read (holds_elements h) words)))
 
 not_start : {r : Reserved} {words : Words} → reserved_starts r ≡ 0 → IsStart (starts words) → ¬ BeginsReserved r words
 not_start e h begins = h.0 e
@@ -119,10 +122,10 @@ block_so : {n : ℕ} {x : Naming} {h : Head} {ds : List Declaration} {u : Block}
 block_so {n = n} one_label d ch (tail_of e l f) =
     let r = declarations_spelled n ch (elements_no_declare e) (elements_no_structure e) in (block d.0 r.0 e f, omega (arith, d.1, r.1, l))
 
-block_of_gives : {n : ℕ} {read : Reader Block} → Blocks n read → (words : Words) → Gives (λ u rest. BlockWithin (suc n) u words rest) (block_of n read words)
+block_of_gives : {n : ℕ} {read : Reader Block} → Blocks n read → (words : Words) → Holds (λ u rest. BlockWithin (suc n) u words rest) (block_of n read words)
 unfolding block_of block_behind
 block_of_gives {n = n} bs words =
-    gives_followed (label_gives words) (λ x r1 d. gives_followed (head_gives n r1) (λ h r2 e. gives_so (close_gives bs x h _ _) (λ u rest f. block_so d e (declarations_chain n r2) f)))
+    followed_holds (label_gives words) (λ x r1 d. followed_holds (head_gives n r1) (λ h r2 e. weaker_holds (close_gives bs x h _ _) (λ u rest f. block_so d e (declarations_chain n r2) f)))
 
 head_starts : {h : Head} {b a : Words} → SpellsHead h b a → starts b ≡ 2
 head_starts program_head = refl
@@ -150,14 +153,10 @@ element_shorter n x words rest (block_element d l s) = block_shorter d
 pub element_shortens : {n : ℕ} {read : Reader Block} → Blocks n read → Shortens (element_of n read)
 element_shortens {n = n} bs = shortens (element_gives bs) (element_shorter n)
 
-made_none : {X Y : Type 0} {o : Read X} (make : X → Y) → o ≡ None → made_of make o ≡ None
-unfolding made_of
-made_none make e = ap (λ o. made_of make o) e
-
 statement_read : {n : ℕ} {read : Reader Block} → Blocks n read → {s : Statement} {b a : Words} → SpellsStatement s b a → nesting_of_statement s ≤ n →
     element_of n read b ≡ Some (StatementElement s, a)
 unfolding element_of
-statement_read {n = n} bs {b = b} d l = either_not _ (made_none _ (nothing_read (inner_gives bs b) (λ u rest e. inner_no_statement d e))) ∙ made_is _ (statement_is n d l)
+statement_read {n = n} bs {b = b} d l = either_not _ (made_none _ (nothing_read (inner_gives bs b) (λ u rest e. inner_no_statement d e))) ∙ made_equals _ (statement_is n d l)
 
 inner_is : {n : ℕ} {read : Reader Block} → Blocks n read → {u : Block} {b a : Words} → SpellsBlock u b a → nesting_of_block u ≤ n → stands_inside (head_of u) ≡ true → inner_block read b ≡ Some (u, a)
 unfolding inner_block where_true
@@ -166,7 +165,7 @@ inner_is bs {u = u} {b = b} {a = a} d l e = followed_is _ (bs.full u b a (d, l))
 block_read : {n : ℕ} {read : Reader Block} → Blocks n read → {u : Block} {b a : Words} → SpellsBlock u b a → nesting_of_block u ≤ n → stands_inside (head_of u) ≡ true →
     element_of n read b ≡ Some (BlockElement u, a)
 unfolding element_of
-block_read bs d l e = either_is _ (made_is _ (inner_is bs d l e))
+block_read bs d l e = either_is _ (made_equals _ (inner_is bs d l e))
 
 -- these elements are read, and the end of the unit
 data ReadsElements (n : ℕ) (read : Reader Block) : Elements → Option Naming → Words → Words → Type 0 where
@@ -221,7 +220,7 @@ held_close : (n : ℕ) (read : Reader Block) (x : Naming) (h : Head) (ds : List 
     block_close n read x h ds b ≡ Some (BlockOf x h ds es c, a)
 unfolding block_close
 held_close n read x h ds (reads_held {p = p} {m = m} e d) =
-    ap (λ l. followed (past reserved.Close l.1) (λ p rest. made_of (λ c. BlockOf x h ds (elements l.0) c) (name_end_at rest))) e ∙ past_is reserved.Close p m _ ∙ made_is _ (name_end_is d)
+    ap (λ l. followed (past reserved.Close l.1) (λ p rest. made_of (λ c. BlockOf x h ds (elements l.0) c) (name_end_at rest))) e ∙ past_is reserved.Close p m _ ∙ made_equals _ (name_end_is d)
 
 behind_is : {n : ℕ} {read : Reader Block} → Blocks n read → (x : Naming) (h : Head) {ds : List Declaration} {es : Elements} {c : Option Naming} {b m a : Words} →
     SpellsDeclarations ds b m → most nesting_of_declaration ds ≤ n → SpellsElements es c m a → nesting_of_elements es ≤ n → (es ≢ NoElements → holds_elements h ≡ true) →
@@ -241,5 +240,5 @@ block_deep (BlockOf x h ds es c) l = omega (arith, l)
 -- units of each depth are read exactly
 pub blocks : (n : ℕ) → Blocks n (block_at n)
 unfolding block_at
-blocks zero = record { sound = λ words. gives_none; full = λ u b a d. absurd (block_deep u d.1) }
+blocks zero = record { sound = λ words. holds_none; full = λ u b a d. absurd (block_deep u d.1) }
 blocks (suc n) = let bs = blocks n in record { sound = λ words. block_of_gives bs words; full = λ u b a d. block_of_is bs d.0 d.1 }

@@ -19,9 +19,12 @@ use Rattle.hal_parse_expr.proofs.ShorteningExpressions.{expression_shortens}
 use Rattle.hal_parse_expr.proofs.ShorteningPrimaries.{primary_shortens, reference_shortens}
 use Rattle.hal_parse_file.specs.ReadingStatements.{references_at, references_closed, arguments_at, receivers_at, until_at, guard_at, step_at, stepped_from, listed_from, span_at}
 use Rattle.hal_parse_expr.proofs.FirstWords.{past_here, past_none, past_symbol_here, past_symbol_none}
-use Rattle.hal_parse_file.proofs.Gives.{Gives, gives_none, gives, gives_so, gives_followed, gives_made, gives_decided}
+use Rattle.hal_parse_expr.proofs.Readings.{Holds, holds_none, holds, weaker_holds}
+use Rattle.hal_parse_expr.proofs.Combining.{followed_holds, made_holds}
+use Rattle.hal_parse_file.proofs.Decided.{decided_holds}
 use Rattle.hal_parse_file.proofs.Firsts.{past_gives, symbol_gives, not_begun, not_begun_symbol, gives_before_symbol}
-use Rattle.hal_parse_file.proofs.Becomes.{followed_is, made_is, decided_is, decided_not, before_symbol_is, symbol_is}
+use Rattle.hal_parse_expr.proofs.Equations.{made_equals}
+use Rattle.hal_parse_file.proofs.Becomes.{followed_is, decided_is, decided_not, before_symbol_is, symbol_is}
 use Rattle.hal_parse_file.proofs.PartedLists.{list_gives, list_is, others_give, others_are, comma_none, parted_shallow, parted_deep}
 use Rattle.hal_parse_file.proofs.Below.{expression_gives, expressions_gives, reference_gives, expression_is, expressions_are, reference_is}
 
@@ -29,9 +32,9 @@ use Rattle.hal_parse_file.proofs.Below.{expression_gives, expressions_gives, ref
 abbrev pub ReferencesOf : ℕ → List Reference → Words → Words → Type 0
 ReferencesOf n xs b a = Parted SpellsReference xs b a × (most nesting_of_reference xs ≤ n)
 
-pub references_give : (n : ℕ) (words : Words) → Gives (λ xs rest. ReferencesOf n xs words rest) (references_at n words)
+pub references_give : (n : ℕ) (words : Words) → Holds (λ xs rest. ReferencesOf n xs words rest) (references_at n words)
 unfolding references_at
-references_give n words = gives_so (list_gives (reference_at n) (reference_gives n) words) (λ xs rest d. parted_deep nesting_of_reference n d)
+references_give n words = weaker_holds (list_gives (reference_at n) (reference_gives n) words) (λ xs rest d. parted_deep nesting_of_reference n d)
 
 pub references_are : (n : ℕ) {xs : List Reference} {b a : Words} → Parted SpellsReference xs b a → most nesting_of_reference xs ≤ n → strength a ≤ 9 → ¬ BeginsSymbol symbol.Comma a →
     references_at n b ≡ Some (xs, a)
@@ -44,9 +47,9 @@ references_are n d h l k =
 data ClosedList (n : ℕ) (ts : Expressions) (b a : Words) : Type 0 where
   closed_list : {q : Place} → SpellsExpressions ts b (symbol_then symbol.RightParenthesis q a) → nesting_of_all ts + 1 ≤ n → ClosedList n ts b a
 
-closed_gives : (n : ℕ) (words : Words) → Gives (λ ts rest. ClosedList n ts words rest) (closed expressions_of (deeper_than n) words)
+closed_gives : (n : ℕ) (words : Words) → Holds (λ ts rest. ClosedList n ts words rest) (closed expressions_of (deeper_than n) words)
 unfolding closed deeper_than expressions_at
-closed_gives zero words = gives_none
+closed_gives zero words = holds_none
 closed_gives (suc n) words = gives_before_symbol symbol.RightParenthesis (expressions_gives n words) (λ ts q after d. closed_list d.0 (omega (arith, d.1)))
 
 closed_are : (n : ℕ) {ts : Expressions} {b : Words} {q : Place} {a : Words} → SpellsExpressions ts b (symbol_then symbol.RightParenthesis q a) → nesting_of_all ts + 1 ≤ n →
@@ -62,11 +65,11 @@ arguments_depth (more_expressions d ds) = refl
 arguments_spelled : {n : ℕ} {ts : Expressions} {p : Place} {b a : Words} → ClosedList n ts b a → SpellsArguments ts (symbol_then symbol.LeftParenthesis p b) a × (nesting_of_arguments ts ≤ n)
 arguments_spelled (closed_list d h) = (arguments d, omega (arith, arguments_depth d, h))
 
-pub arguments_give : (n : ℕ) (words : Words) → Gives (λ ts rest. SpellsArguments ts words rest × (nesting_of_arguments ts ≤ n)) (arguments_at n words)
+pub arguments_give : (n : ℕ) (words : Words) → Holds (λ ts rest. SpellsArguments ts words rest × (nesting_of_arguments ts ≤ n)) (arguments_at n words)
 unfolding arguments_at
 arguments_give n words =
-    gives_decided (symbol_gives symbol.LeftParenthesis words) (λ p rest e. gives_so (closed_gives n rest) (λ ts after d. rw e (arguments_spelled d)))
-    (λ e. gives (no_arguments (not_begun_symbol symbol.LeftParenthesis words e), omega arith))
+    decided_holds (symbol_gives symbol.LeftParenthesis words) (λ p rest e. weaker_holds (closed_gives n rest) (λ ts after d. rw e (arguments_spelled d)))
+    (λ e. holds (no_arguments (not_begun_symbol symbol.LeftParenthesis words e), omega arith))
 
 pub arguments_are : (n : ℕ) {ts : Expressions} {b a : Words} → SpellsArguments ts b a → nesting_of_arguments ts ≤ n → arguments_at n b ≡ Some (ts, a)
 unfolding arguments_at
@@ -77,9 +80,9 @@ arguments_are n (arguments {p = p} {before = before} d) h = decided_is _ _ (past
 data ClosedReferences (n : ℕ) (xs : List Reference) (b a : Words) : Type 0 where
   closed_references : {q : Place} → Parted SpellsReference xs b (symbol_then symbol.RightParenthesis q a) → most nesting_of_reference xs + 1 ≤ n → ClosedReferences n xs b a
 
-references_closed_give : (n : ℕ) (words : Words) → Gives (λ xs rest. ClosedReferences n xs words rest) (references_closed n words)
+references_closed_give : (n : ℕ) (words : Words) → Holds (λ xs rest. ClosedReferences n xs words rest) (references_closed n words)
 unfolding references_closed
-references_closed_give zero words = gives_none
+references_closed_give zero words = holds_none
 references_closed_give (suc n) words = gives_before_symbol symbol.RightParenthesis (references_give n words) (λ xs q after d. closed_references d.0 (omega (arith, d.1)))
 
 references_closed_are : (n : ℕ) {xs : List Reference} {b : Words} {q : Place} {a : Words} → Parted SpellsReference xs b (symbol_then symbol.RightParenthesis q a) →
@@ -96,12 +99,12 @@ receivers_spelled : {n : ℕ} {xs : List Reference} {p q : Place} {b a : Words} 
     SpellsReceivers xs (reserved_then reserved.Assign p (symbol_then symbol.LeftParenthesis q b)) a × (nesting_of_receivers xs ≤ n)
 receivers_spelled (closed_references d h) = (receivers d, omega (arith, receivers_depth d, h))
 
-pub receivers_give : (n : ℕ) (words : Words) → Gives (λ xs rest. SpellsReceivers xs words rest × (nesting_of_receivers xs ≤ n)) (receivers_at n words)
+pub receivers_give : (n : ℕ) (words : Words) → Holds (λ xs rest. SpellsReceivers xs words rest × (nesting_of_receivers xs ≤ n)) (receivers_at n words)
 unfolding receivers_at
 receivers_give n words =
-    gives_decided (past_gives reserved.Assign words)
-    (λ p rest e. gives_followed (symbol_gives symbol.LeftParenthesis rest) (λ q after f. gives_so (references_closed_give n after) (λ xs end d. rw (e, f) (receivers_spelled d))))
-    (λ e. gives (no_receivers (not_begun reserved.Assign words e), omega arith))
+    decided_holds (past_gives reserved.Assign words)
+    (λ p rest e. followed_holds (symbol_gives symbol.LeftParenthesis rest) (λ q after f. weaker_holds (references_closed_give n after) (λ xs end d. rw (e, f) (receivers_spelled d))))
+    (λ e. holds (no_receivers (not_begun reserved.Assign words e), omega arith))
 
 pub receivers_are : (n : ℕ) {xs : List Reference} {b a : Words} → SpellsReceivers xs b a → nesting_of_receivers xs ≤ n → receivers_at n b ≡ Some (xs, a)
 unfolding receivers_at
@@ -110,34 +113,34 @@ receivers_are n (receivers {p = p} {q = q} {before = before} d) h =
     decided_is _ _ (past_here reserved.Assign p (symbol_then symbol.LeftParenthesis q before)) ∙ symbol_is symbol.LeftParenthesis q before _
     ∙ references_closed_are n d (omega (arith, receivers_depth d, h))
 
-until_gives : (n : ℕ) (words : Words) → ¬ BeginsReserved reserved.While words → Gives (λ g rest. SpellsGuard g words rest × (if_any nesting_of_guard g ≤ n)) (until_at n words)
+until_gives : (n : ℕ) (words : Words) → ¬ BeginsReserved reserved.While words → Holds (λ g rest. SpellsGuard g words rest × (if_any nesting_of_guard g ≤ n)) (until_at n words)
 unfolding until_at
 until_gives n words m =
-    gives_decided (past_gives reserved.Until words) (λ p rest e. gives_made _ (expression_gives n rest) (λ t after d. (rw e (unless d.0), d.1)))
-    (λ e. gives (no_guard m (not_begun reserved.Until words e), omega arith))
+    decided_holds (past_gives reserved.Until words) (λ p rest e. made_holds _ (expression_gives n rest) (λ t after d. (rw e (unless d.0), d.1)))
+    (λ e. holds (no_guard m (not_begun reserved.Until words e), omega arith))
 
-pub guard_gives : (n : ℕ) (words : Words) → Gives (λ g rest. SpellsGuard g words rest × (if_any nesting_of_guard g ≤ n)) (guard_at n words)
+pub guard_gives : (n : ℕ) (words : Words) → Holds (λ g rest. SpellsGuard g words rest × (if_any nesting_of_guard g ≤ n)) (guard_at n words)
 unfolding guard_at
 guard_gives n words =
-    gives_decided (past_gives reserved.While words) (λ p rest e. gives_made _ (expression_gives n rest) (λ t after d. (rw e (as_long d.0), d.1)))
+    decided_holds (past_gives reserved.While words) (λ p rest e. made_holds _ (expression_gives n rest) (λ t after d. (rw e (as_long d.0), d.1)))
     (λ e. until_gives n words (not_begun reserved.While words e))
 
 pub guard_is : (n : ℕ) {g : Option Guard} {b a : Words} → SpellsGuard g b a → if_any nesting_of_guard g ≤ n → strength a ≤ 2 → guard_at n b ≡ Some (g, a)
 unfolding guard_at until_at past is_reserved where_true
 guard_is n (no_guard {after = after} m o) h l = decided_not _ _ (past_none reserved.While after m) ∙ decided_not _ _ (past_none reserved.Until after o)
-guard_is n (as_long d) h l = decided_is _ _ refl ∙ made_is _ (expression_is n d h l)
-guard_is n (unless d) h l = decided_not _ _ refl ∙ decided_is _ _ refl ∙ made_is _ (expression_is n d h l)
+guard_is n (as_long d) h l = decided_is _ _ refl ∙ made_equals _ (expression_is n d h l)
+guard_is n (unless d) h l = decided_not _ _ refl ∙ decided_is _ _ refl ∙ made_equals _ (expression_is n d h l)
 
-step_gives : (n : ℕ) (words : Words) → Gives (λ s rest. SpellsStep s words rest × (if_any nesting s ≤ n)) (step_at n words)
+step_gives : (n : ℕ) (words : Words) → Holds (λ s rest. SpellsStep s words rest × (if_any nesting s ≤ n)) (step_at n words)
 unfolding step_at
 step_gives n words =
-    gives_decided (past_gives reserved.By words) (λ p rest e. gives_made _ (expression_gives n rest) (λ t after d. (rw e (step d.0), d.1)))
-    (λ e. gives (no_step (not_begun reserved.By words e), omega arith))
+    decided_holds (past_gives reserved.By words) (λ p rest e. made_holds _ (expression_gives n rest) (λ t after d. (rw e (step d.0), d.1)))
+    (λ e. holds (no_step (not_begun reserved.By words e), omega arith))
 
 step_is : (n : ℕ) {s : Option Expression} {b a : Words} → SpellsStep s b a → if_any nesting s ≤ n → strength a ≤ 2 → step_at n b ≡ Some (s, a)
 unfolding step_at past is_reserved where_true
 step_is n (no_step {after = after} m) h l = decided_not _ _ (past_none reserved.By after m)
-step_is n (step d) h l = decided_is _ _ refl ∙ made_is _ (expression_is n d h l)
+step_is n (step d) h l = decided_is _ _ refl ∙ made_equals _ (expression_is n d h l)
 
 -- an expression that is nested so deep at most
 abbrev ExpressionOf : ℕ → Expression → Words → Words → Type 0
@@ -153,12 +156,12 @@ listed_spelled : (n : ℕ) {t : Expression} {ts : List Expression} {b a : Words}
 unfolding expressions
 listed_spelled n d = let r = list_spelled n d in (listed r.0, r.1)
 
-pub span_gives : (n : ℕ) (words : Words) → Gives (λ x rest. SpellsSpan x words rest × (nesting_of_span x ≤ n)) (span_at n words)
+pub span_gives : (n : ℕ) (words : Words) → Holds (λ x rest. SpellsSpan x words rest × (nesting_of_span x ≤ n)) (span_at n words)
 unfolding span_at stepped_from listed_from
 span_gives n words =
-    gives_followed (expression_gives n words) (λ t rest d. gives_decided (past_gives reserved.To rest)
-    (λ p after e. gives_followed (expression_gives n after) (λ u last f. gives_made _ (step_gives n last) (λ s end g. (stepped (rw e at d.0) f.0 g.0, omega (arith, d.1, f.1, g.1)))))
-    (λ e. gives (listed_spelled n (others_give (expression_at n) (expression_gives n) d))))
+    followed_holds (expression_gives n words) (λ t rest d. decided_holds (past_gives reserved.To rest)
+    (λ p after e. followed_holds (expression_gives n after) (λ u last f. made_holds _ (step_gives n last) (λ s end g. (stepped (rw e at d.0) f.0 g.0, omega (arith, d.1, f.1, g.1)))))
+    (λ e. holds (listed_spelled n (others_give (expression_at n) (expression_gives n) d))))
 
 -- expressions as a list
 data ListOf (n : ℕ) : Expressions → Words → Words → Type 0 where
@@ -208,5 +211,5 @@ pub span_is : (n : ℕ) {x : Span} {b a : Words} → SpellsSpan x b a → nestin
 unfolding span_at stepped_from
 span_is n (stepped {p = p} {left = left} d e s) h l =
     followed_is _ (expression_is n d (omega arith) (omega arith)) ∙ decided_is _ _ (past_here reserved.To p left)
-    ∙ followed_is _ (expression_is n e (omega arith) (omega (arith, step_weak s l))) ∙ made_is _ (step_is n s (omega arith) (omega (arith, l)))
+    ∙ followed_is _ (expression_is n e (omega arith) (omega (arith, step_weak s l))) ∙ made_equals _ (step_is n s (omega arith) (omega (arith, l)))
 span_is n (listed d) h l = listed_span n d h l

@@ -13,9 +13,12 @@ use Rattle.hal_parse_expr.specs.Reading.{name_at, followed, made_of}
 use Rattle.hal_parse_expr.proofs.Shortening.{Shortens, all_none}
 use Rattle.hal_parse_file.specs.ReadingDeclarations.{kind_behind, structure_behind, mark_of, marked_or_typed, attribute_behind, attribute_at, attributes_at, items_behind, declare_behind, label_at, template_behind, declaration_at, declarations_at}
 use Rattle.hal_parse_expr.proofs.FirstWords.{past_here, past_none, past_symbol_here, past_symbol_none}
-use Rattle.hal_parse_file.proofs.Gives.{Gives, gives_so, gives_followed, gives_made, gives_decided}
+use Rattle.hal_parse_expr.proofs.Readings.{Holds, weaker_holds}
+use Rattle.hal_parse_expr.proofs.Combining.{followed_holds, made_holds}
+use Rattle.hal_parse_file.proofs.Decided.{decided_holds}
 use Rattle.hal_parse_file.proofs.Firsts.{name_gives, past_gives, symbol_gives}
-use Rattle.hal_parse_file.proofs.Becomes.{followed_is, made_is, decided_is, decided_not, past_is, symbol_is}
+use Rattle.hal_parse_expr.proofs.Equations.{made_equals}
+use Rattle.hal_parse_file.proofs.Becomes.{followed_is, decided_is, decided_not, past_is, symbol_is}
 use Rattle.hal_parse_file.proofs.Chains.{Chain, chain_end, chain_more, all_chain, shortens, all_first}
 use Rattle.hal_parse_file.proofs.AttributesRead.{AttributeOf, attribute_gives, attributes_spelled, attributes_are}
 use Rattle.hal_parse_file.proofs.ItemsRead.{ItemsOf, items_of, PartsOf, parts_of, items_give, parts_give, items_are, parts_are}
@@ -24,13 +27,13 @@ use Rattle.hal_parse_file.proofs.ItemsRead.{ItemsOf, items_of, PartsOf, parts_of
 pub data SpellsLabel : Naming → Words → Words → Type 0 where
   one_label : {p q : Place} {n : List ℕ} {after : Words} → SpellsLabel (naming p n) (name_then n p (symbol_then symbol.Colon q after)) after
 
-pub label_gives : (words : Words) → Gives (λ x rest. SpellsLabel x words rest) (label_at words)
+pub label_gives : (words : Words) → Holds (λ x rest. SpellsLabel x words rest) (label_at words)
 unfolding label_at
-label_gives words = gives_followed (name_gives words) (λ x rest e. gives_made _ (symbol_gives symbol.Colon rest) (λ p after f. rw (e, f) one_label))
+label_gives words = followed_holds (name_gives words) (λ x rest e. made_holds _ (symbol_gives symbol.Colon rest) (λ p after f. rw (e, f) one_label))
 
 pub label_is : {x : Naming} {b a : Words} → SpellsLabel x b a → label_at b ≡ Some (x, a)
 unfolding label_at name_at
-label_is (one_label {q = q} {after = after}) = followed_is _ refl ∙ made_is _ (past_symbol_here symbol.Colon q after)
+label_is (one_label {q = q} {after = after}) = followed_is _ refl ∙ made_equals _ (past_symbol_here symbol.Colon q after)
 
 -- a declaration that is nested so deep at most
 abbrev pub DeclarationOf : ℕ → Declaration → Words → Words → Type 0
@@ -44,29 +47,29 @@ all_spelled : {n : ℕ} {p q : Place} {x : Attribute} {xs : List Attribute} {ys 
 all_spelled {n = n} c (items_of d l) = let r = attributes_spelled n c (inl begins) in (declares_all r.0 d, omega (arith, r.1, l))
 
 items_behind_gives : (n : ℕ) (p : Place) {xs : List Attribute} {words rest : Words} → Chain (AttributeOf n) xs words rest →
-    Gives (λ x after. DeclarationOf n x (reserved_then reserved.Declare p words) after) (items_behind n p xs rest)
+    Holds (λ x after. DeclarationOf n x (reserved_then reserved.Declare p words) after) (items_behind n p xs rest)
 unfolding items_behind
-items_behind_gives n p (chain_end {after = words}) = gives_made _ (items_give n words) (λ items rest d. alone_spelled d)
+items_behind_gives n p (chain_end {after = words}) = made_holds _ (items_give n words) (λ items rest d. alone_spelled d)
 items_behind_gives n p {rest = rest} (chain_more h c) =
-    gives_followed (symbol_gives symbol.Comma rest) (λ q after e. gives_made _ (items_give n after) (λ items last d. all_spelled (rw e at (chain_more h c)) d))
+    followed_holds (symbol_gives symbol.Comma rest) (λ q after e. made_holds _ (items_give n after) (λ items last d. all_spelled (rw e at (chain_more h c)) d))
 
-declare_gives : (n : ℕ) (p : Place) (words : Words) → Gives (λ x rest. DeclarationOf n x (reserved_then reserved.Declare p words) rest) (declare_behind n p words)
+declare_gives : (n : ℕ) (p : Place) (words : Words) → Holds (λ x rest. DeclarationOf n x (reserved_then reserved.Declare p words) rest) (declare_behind n p words)
 unfolding declare_behind attributes_at
 declare_gives n p words = items_behind_gives n p (all_chain (attribute_at n) (attribute_gives n) words)
 
 structure_spelled : {n : ℕ} {p : Place} {x : Naming} {xs : List Part} {b m a : Words} → SpellsLabel x b m → PartsOf n xs m a → DeclarationOf n (Structures p x xs) (reserved_then reserved.Structure p b) a
 structure_spelled one_label (parts_of d l) = (structures d, l)
 
-template_gives : (n : ℕ) (p : Place) (words : Words) → Gives (λ x rest. DeclarationOf n x (reserved_then reserved.Structure p words) rest) (template_behind n p words)
+template_gives : (n : ℕ) (p : Place) (words : Words) → Holds (λ x rest. DeclarationOf n x (reserved_then reserved.Structure p words) rest) (template_behind n p words)
 unfolding template_behind
-template_gives n p words = gives_followed (label_gives words) (λ x rest e. gives_made _ (parts_give n rest) (λ xs after d. structure_spelled e d))
+template_gives n p words = followed_holds (label_gives words) (λ x rest e. made_holds _ (parts_give n rest) (λ xs after d. structure_spelled e d))
 
 -- what is read of a declaration is spelled
-pub declaration_gives : (n : ℕ) (words : Words) → Gives (λ x rest. DeclarationOf n x words rest) (declaration_at n words)
+pub declaration_gives : (n : ℕ) (words : Words) → Holds (λ x rest. DeclarationOf n x words rest) (declaration_at n words)
 unfolding declaration_at
 declaration_gives n words =
-    gives_decided (past_gives reserved.Declare words) (λ p rest e. gives_so (declare_gives n p rest) (λ x after d. rw e d))
-    (λ e. gives_followed (past_gives reserved.Structure words) (λ p rest f. gives_so (template_gives n p rest) (λ x after d. rw f d)))
+    decided_holds (past_gives reserved.Declare words) (λ p rest e. weaker_holds (declare_gives n p rest) (λ x after d. rw e d))
+    (λ e. followed_holds (past_gives reserved.Structure words) (λ p rest f. weaker_holds (template_gives n p rest) (λ x after d. rw f d)))
 
 attributes_not_minus : {xs : List Attribute} {b a : Words} → SpellsAttributes xs b a → ¬ BeginsSymbol symbol.Minus b
 attributes_not_minus attributes_comma = λ d. elim d [ ]
@@ -95,17 +98,17 @@ no_attributes n {b = b} d = all_none (attribute_at n) b (items_no_attribute n d)
 declares_is : (n : ℕ) (p : Place) {xs : List Declared} {b : Words} {q : Place} {a : Words} → Parted SpellsDeclared xs b (symbol_then symbol.Semicolon q a) → most nesting_of_declared xs ≤ n →
     declare_behind n p b ≡ Some (Declares p [] xs, a)
 unfolding declare_behind items_behind
-declares_is n p d h = ap (λ l. items_behind n p l.0 l.1) (no_attributes n d) ∙ made_is _ (items_are n d h)
+declares_is n p d h = ap (λ l. items_behind n p l.0 l.1) (no_attributes n d) ∙ made_equals _ (items_are n d h)
 
 declares_all_is : (n : ℕ) (p : Place) {x : Attribute} {xs : List Attribute} {ys : List Declared} {b m : Words} {r q : Place} {a : Words} →
     SpellsAttributes (x ∷ xs) b (symbol_then symbol.Comma r m) → most nesting_of_attribute (x ∷ xs) ≤ n → Parted SpellsDeclared ys m (symbol_then symbol.Semicolon q a) →
     most nesting_of_declared ys ≤ n → declare_behind n p b ≡ Some (Declares p (x ∷ xs) ys, a)
 unfolding declare_behind items_behind
-declares_all_is n p {m = m} {r = r} d h e l = ap (λ l. items_behind n p l.0 l.1) (attributes_are n d h) ∙ symbol_is symbol.Comma r m _ ∙ made_is _ (items_are n e l)
+declares_all_is n p {m = m} {r = r} d h e l = ap (λ l. items_behind n p l.0 l.1) (attributes_are n d h) ∙ symbol_is symbol.Comma r m _ ∙ made_equals _ (items_are n e l)
 
 structures_is : (n : ℕ) (p : Place) {x : Naming} {xs : List Part} {b m a : Words} → SpellsLabel x b m → PartsOf n xs m a → template_behind n p b ≡ Some (Structures p x xs, a)
 unfolding template_behind
-structures_is n p e (parts_of d h) = followed_is _ (label_is e) ∙ made_is _ (parts_are n d h)
+structures_is n p e (parts_of d h) = followed_is _ (label_is e) ∙ made_equals _ (parts_are n d h)
 
 -- what is spelled as a declaration is read
 pub declaration_is : (n : ℕ) {x : Declaration} {b a : Words} → SpellsDeclaration x b a → nesting_of_declaration x ≤ n → declaration_at n b ≡ Some (x, a)

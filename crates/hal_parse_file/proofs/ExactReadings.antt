@@ -10,7 +10,7 @@ use Rattle.hal_grammar.specs.SpellsFiles.{SpellsBlock, SpellsFile}
 use Rattle.hal_parse_file.specs.ReadingDeclarations.{declaration_at}
 use Rattle.hal_parse_file.specs.ReadingStatements.{statement_at}
 use Rattle.hal_parse_file.specs.ReadingFiles.{block_at, file_at}
-use Rattle.hal_parse_file.proofs.Gives.{given}
+use Rattle.hal_parse_file.proofs.Decided.{given}
 use Rattle.hal_parse_file.proofs.DeclarationsRead.{declaration_gives, declaration_is}
 use Rattle.hal_parse_file.proofs.StatementsRead.{statement_gives, statement_is}
 use Rattle.hal_parse_file.proofs.BlocksRead.{blocks}

@@ -15,9 +15,12 @@ use Rattle.hal_parse_expr.proofs.Shortening.{Shortens, all_none}
 use Rattle.hal_parse_file.specs.ReadingDeclarations.{label_at}
 use Rattle.hal_parse_file.specs.ReadingFiles.{block_at, template_close, external_behind, template_at, preface_at, prefaces_at, file_at}
 use Rattle.hal_parse_expr.proofs.FirstWords.{past_here, past_none}
-use Rattle.hal_parse_file.proofs.Gives.{Gives, gives_so, gives_followed, gives_made, gives_decided, nothing_read}
+use Rattle.hal_parse_expr.proofs.Readings.{Holds, weaker_holds}
+use Rattle.hal_parse_expr.proofs.Combining.{followed_holds, made_holds}
+use Rattle.hal_parse_file.proofs.Decided.{decided_holds, nothing_read}
 use Rattle.hal_parse_file.proofs.Firsts.{past_gives, name_gives, gives_before}
-use Rattle.hal_parse_file.proofs.Becomes.{followed_is, made_is, decided_is, decided_not, before_is, past_is}
+use Rattle.hal_parse_expr.proofs.Equations.{made_equals}
+use Rattle.hal_parse_file.proofs.Becomes.{followed_is, decided_is, decided_not, before_is, past_is}
 use Rattle.hal_parse_file.proofs.Chains.{Chain, chain_end, chain_more, all_chain, shortens, all_first}
 use Rattle.hal_parse_file.proofs.LeavesRead.{name_end_gives, name_end_is}
 use Rattle.hal_parse_file.proofs.DeclarationsRead.{SpellsLabel, one_label, label_gives, label_is, DeclarationOf, declarations_chain, declarations_spelled, declarations_are}
@@ -36,7 +39,7 @@ PrefaceOf n x b a = SpellsPreface x b a × (nesting_of_preface x ≤ n)
 data External (x : Naming) (b a : Words) : Type 0 where
   external : {p : Place} → SpellsLabel x b (reserved_then reserved.External p a) → External x b a
 
-external_gives : (words : Words) → Gives (λ x rest. External x words rest) (before reserved.External (label_at words))
+external_gives : (words : Words) → Holds (λ x rest. External x words rest) (before reserved.External (label_at words))
 external_gives words = gives_before reserved.External (label_gives words) (λ x p rest d. external d)
 
 -- CLOSE, a name or none, and a semicolon
@@ -52,38 +55,38 @@ template_so {n = n} (external one_label) d ch (closes e) =
 data ClosedBy (x : Naming) (h : Head) (ds : List Declaration) : Template → Words → Words → Type 0 where
   closed_by : {c : Option Naming} {b a : Words} → Closes c b a → ClosedBy x h ds (template_of x h ds c) b a
 
-close_gives : (x : Naming) (h : Head) (ds : List Declaration) (words : Words) → Gives (λ t rest. ClosedBy x h ds t words rest) (template_close x h ds words)
+close_gives : (x : Naming) (h : Head) (ds : List Declaration) (words : Words) → Holds (λ t rest. ClosedBy x h ds t words rest) (template_close x h ds words)
 unfolding template_close
-close_gives x h ds words = gives_followed (past_gives reserved.Close words) (λ p rest e. gives_made _ (name_end_gives rest) (λ c after d. closed_by (rw e (closes d))))
+close_gives x h ds words = followed_holds (past_gives reserved.Close words) (λ p rest e. made_holds _ (name_end_gives rest) (λ c after d. closed_by (rw e (closes d))))
 
 template_ended : {n : ℕ} {x : Naming} {h : Head} {ds : List Declaration} {t : Template} {b m w v a : Words} → External x b m → HeadOf n h m w → Chain (DeclarationOf n) ds w v → ClosedBy x h ds t v a →
     TemplateOf n t b a
 template_ended d e ch (closed_by f) = template_so d e ch f
 
-template_gives : (n : ℕ) (words : Words) → Gives (λ t rest. TemplateOf n t words rest) (template_at n words)
+template_gives : (n : ℕ) (words : Words) → Holds (λ t rest. TemplateOf n t words rest) (template_at n words)
 unfolding template_at external_behind
 template_gives n words =
-    gives_followed (external_gives words) (λ x r1 d. gives_followed (head_gives n r1) (λ h r2 e. gives_so (close_gives x h _ _) (λ t rest f. template_ended d e (declarations_chain n r2) f)))
+    followed_holds (external_gives words) (λ x r1 d. followed_holds (head_gives n r1) (λ h r2 e. weaker_holds (close_gives x h _ _) (λ t rest f. template_ended d e (declarations_chain n r2) f)))
 
 template_is : (n : ℕ) {t : Template} {b a : Words} → SpellsTemplate t b a → nesting_of_template t ≤ n → template_at n b ≡ Some (t, a)
 unfolding template_at external_behind template_close
 template_is n (template {p = p} {s = s} {n = m} {h = h} {close = close} d ds e) l =
     followed_is _ (before_is (label_is one_label)) ∙ followed_is _ (head_is n d (omega (arith, l)))
-    ∙ ap (λ z. template_close (naming p m) h z.0 z.1) (declarations_are n ds (omega (arith, l))) ∙ past_is reserved.Close s close _ ∙ made_is _ (name_end_is e)
+    ∙ ap (λ z. template_close (naming p m) h z.0 z.1) (declarations_are n ds (omega (arith, l))) ∙ past_is reserved.Close s close _ ∙ made_equals _ (name_end_is e)
 
-preface_gives : (n : ℕ) (words : Words) → Gives (λ x rest. PrefaceOf n x words rest) (preface_at n words)
+preface_gives : (n : ℕ) (words : Words) → Holds (λ x rest. PrefaceOf n x words rest) (preface_at n words)
 unfolding preface_at
 preface_gives n words =
-    gives_decided (past_gives reserved.Include words) (λ p rest e. gives_made _ (name_gives rest) (λ x after f. (rw (e, f) includes, omega arith)))
-    (λ e. gives_made _ (template_gives n words) (λ t rest d. (templates d.0, d.1)))
+    decided_holds (past_gives reserved.Include words) (λ p rest e. made_holds _ (name_gives rest) (λ x after f. (rw (e, f) includes, omega arith)))
+    (λ e. made_holds _ (template_gives n words) (λ t rest d. (templates d.0, d.1)))
 
 template_no_include : {t : Template} {b a : Words} → SpellsTemplate t b a → ¬ BeginsReserved reserved.Include b
 template_no_include (template h ds e) = λ q. elim q [ ]
 
 preface_is : (n : ℕ) {x : Preface} {b a : Words} → SpellsPreface x b a → nesting_of_preface x ≤ n → preface_at n b ≡ Some (x, a)
 unfolding preface_at name_at
-preface_is n (includes {p = p} {q = q} {n = m} {after = after}) l = decided_is _ _ (past_here reserved.Include p (name_then m q after)) ∙ made_is _ refl
-preface_is n (templates {before = before} d) l = decided_not _ _ (past_none reserved.Include before (template_no_include d)) ∙ made_is _ (template_is n d l)
+preface_is n (includes {p = p} {q = q} {n = m} {after = after}) l = decided_is _ _ (past_here reserved.Include p (name_then m q after)) ∙ made_equals _ refl
+preface_is n (templates {before = before} d) l = decided_not _ _ (past_none reserved.Include before (template_no_include d)) ∙ made_equals _ (template_is n d l)
 
 pub preface_shortens : (n : ℕ) → Shortens (preface_at n)
 preface_shortens n = shortens (preface_gives n) (λ x words rest d. preface_shorter d.0)
@@ -101,9 +104,9 @@ unfolding prefaces_at
 prefaces_chain n words = all_chain (preface_at n) (preface_gives n) words
 
 -- what is read of a file is spelled
-pub file_gives : (n : ℕ) (words : Words) → Gives (λ f rest. FileOf n f words rest) (file_at n words)
+pub file_gives : (n : ℕ) (words : Words) → Holds (λ f rest. FileOf n f words rest) (file_at n words)
 unfolding file_at
-file_gives n words = gives_made _ ((blocks n).sound (prefaces_at n words).1) (λ u rest d. file_so (prefaces_chain n words) d.0 d.1)
+file_gives n words = made_holds _ ((blocks n).sound (prefaces_at n words).1) (λ u rest d. file_so (prefaces_chain n words) d.0 d.1)
 
 no_external_head : {h : Head} {p : Place} {b a : Words} → SpellsHead h (reserved_then reserved.External p b) a → ⊥
 no_external_head d = go d refl
@@ -135,7 +138,7 @@ prefaces_read n (preface_first d ds) l = more_prefaces (d, omega (arith, l)) (pr
 
 file_found : {n : ℕ} {f : File} {b a : Words} → ReadsPrefaces n f b a → file_at n b ≡ Some (f, a)
 unfolding file_at
-file_found {n = n} (reads_prefaces {u = u} {m = m} {a = a} e d l) = ap (λ z. made_of (λ u. file_of z.0 u) (block_at n z.1)) e ∙ made_is _ ((blocks n).full u m a (d, l))
+file_found {n = n} (reads_prefaces {u = u} {m = m} {a = a} e d l) = ap (λ z. made_of (λ u. file_of z.0 u) (block_at n z.1)) e ∙ made_equals _ ((blocks n).full u m a (d, l))
 
 -- what is spelled as a file is read
 pub file_is : (n : ℕ) {f : File} {b a : Words} → SpellsFile f b a → nesting_of_file f ≤ n → file_at n b ≡ Some (f, a)

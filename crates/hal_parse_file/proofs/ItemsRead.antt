@@ -10,7 +10,8 @@ use Rattle.hal_grammar.proofs.ShorterDeclarations.{attribute_shorter}
 use Rattle.hal_parse_expr.proofs.Shortening.{Shortens}
 use Rattle.hal_parse_expr.specs.Reading.{name_at, integer_at}
 use Rattle.hal_parse_file.specs.ReadingDeclarations.{attribute_at, attributes_at, declared_at, part_at, items_at, parts_at}
-use Rattle.hal_parse_file.proofs.Gives.{Gives, gives, gives_followed}
+use Rattle.hal_parse_expr.proofs.Readings.{Holds, holds}
+use Rattle.hal_parse_expr.proofs.Combining.{followed_holds}
 use Rattle.hal_parse_file.proofs.Firsts.{name_gives, integer_gives, gives_before_symbol}
 use Rattle.hal_parse_file.proofs.Becomes.{followed_is, before_symbol_is}
 use Rattle.hal_parse_file.proofs.Chains.{Chain, all_chain, shortens, chain_shorter}
@@ -30,13 +31,13 @@ attributes_chain : (n : ℕ) (words : Words) → Chain (AttributeOf n) (attribut
 unfolding attributes_at
 attributes_chain n words = all_chain (attribute_at n) (attribute_gives n) words
 
-declared_gives : (n : ℕ) (words : Words) → Gives (λ x rest. NameOf n x words rest) (declared_at n words)
+declared_gives : (n : ℕ) (words : Words) → Holds (λ x rest. NameOf n x words rest) (declared_at n words)
 unfolding declared_at
-declared_gives n words = gives_followed (name_gives words) (λ x rest e. gives (rw e (name_of (attributes_chain n rest))))
+declared_gives n words = followed_holds (name_gives words) (λ x rest e. holds (rw e (name_of (attributes_chain n rest))))
 
-part_gives : (n : ℕ) (words : Words) → Gives (λ x rest. PartOf n x words rest) (part_at n words)
+part_gives : (n : ℕ) (words : Words) → Holds (λ x rest. PartOf n x words rest) (part_at n words)
 unfolding part_at
-part_gives n words = gives_followed (integer_gives words) (λ f rest e. gives_followed (name_gives rest) (λ x after g. gives (rw (e, g) (level_of (attributes_chain n after)))))
+part_gives n words = followed_holds (integer_gives words) (λ f rest e. followed_holds (name_gives rest) (λ x after g. holds (rw (e, g) (level_of (attributes_chain n after)))))
 
 name_of_shorter : (n : ℕ) (x : Declared) (words rest : Words) → NameOf n x words rest → length rest < length words
 name_of_shorter n x words rest (name_of c) = omega (arith, chain_shorter (λ y b a d. attribute_shorter d.0) c)
@@ -76,11 +77,11 @@ items_so n d = let r = names_spelled n d (inr begins) in items_of r.0 r.1
 parts_so : (n : ℕ) {xs : List Part} {b a : Words} {q : Place} → Parted (PartOf n) xs b (symbol_then symbol.Semicolon q a) → PartsOf n xs b a
 parts_so n d = let r = levels_spelled n d (inr begins) in parts_of r.0 r.1
 
-pub items_give : (n : ℕ) (words : Words) → Gives (λ xs rest. ItemsOf n xs words rest) (items_at n words)
+pub items_give : (n : ℕ) (words : Words) → Holds (λ xs rest. ItemsOf n xs words rest) (items_at n words)
 unfolding items_at
 items_give n words = gives_before_symbol symbol.Semicolon (list_gives (declared_at n) (declared_gives n) words) (λ xs q after d. items_so n d)
 
-pub parts_give : (n : ℕ) (words : Words) → Gives (λ xs rest. PartsOf n xs words rest) (parts_at n words)
+pub parts_give : (n : ℕ) (words : Words) → Holds (λ xs rest. PartsOf n xs words rest) (parts_at n words)
 unfolding parts_at
 parts_give n words = gives_before_symbol symbol.Semicolon (list_gives (part_at n) (part_gives n) words) (λ xs q after d. parts_so n d)
 

@@ -1,4 +1,4 @@
-pub mod Gives
+pub mod Decided
 pub mod Firsts
 pub mod Becomes
 pub mod Chains

@@ -5,16 +5,16 @@ use Rattle.hal_parse_expr.proofs.Shortening.{Shortens}
 use Rattle.hal_parse_file.specs.ReadingDeclarations.{where_left, initial_of, initials_of, initials_at, initials_below}
 use Rattle.hal_parse_file.specs.ReadingStatements.{statement_of, statement_at, statement_below}
 use Rattle.hal_parse_file.specs.ReadingFiles.{element_of, block_at}
-use Rattle.hal_parse_file.proofs.Gives.{Gives, gives_none, gives_so}
+use Rattle.hal_parse_expr.proofs.Readings.{Holds, holds_none, weaker_holds}
 use Rattle.hal_parse_file.proofs.InitialsRead.{InitialsIn, initials_at_gives, initial_shortens}
 use Rattle.hal_parse_file.proofs.GroupsRead.{inside_shortens}
 use Rattle.hal_parse_file.proofs.StatementsRead.{below_inside}
 use Rattle.hal_parse_file.proofs.BlocksRead.{blocks, element_shortens}
 
-initials_below_give : (n : ℕ) (words : Words) → Gives (λ ts rest. InitialsIn n ts words rest) (where_left (initials_below n) words)
+initials_below_give : (n : ℕ) (words : Words) → Holds (λ ts rest. InitialsIn n ts words rest) (where_left (initials_below n) words)
 unfolding where_left initials_below
-initials_below_give zero words = gives_none
-initials_below_give (suc n) words = gives_so (initials_at_gives n words) (λ ts rest d. (d.0, omega (arith, d.1)))
+initials_below_give zero words = holds_none
+initials_below_give (suc n) words = weaker_holds (initials_at_gives n words) (λ ts rest d. (d.0, omega (arith, d.1)))
 
 -- initial values
 pub initial_below_shortens : (n : ℕ) → Shortens (initial_of n (initials_below n))

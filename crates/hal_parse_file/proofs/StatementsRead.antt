@@ -16,8 +16,11 @@ use Rattle.hal_parse_expr.specs.Reading.{Reader, past, is_reserved, where_true, 
 use Rattle.hal_parse_expr.proofs.Shortening.{Shortens, all_none}
 use Rattle.hal_parse_file.specs.ReadingDeclarations.{where_left, label_at}
 use Rattle.hal_parse_file.specs.ReadingStatements.{labels_at, update_of, reserved_behind, basic_behind, basic_of, statement_of, statement_at, statement_below}
-use Rattle.hal_parse_file.proofs.Gives.{Gives, gives_none, gives, gives_so, gives_made, nothing_read}
-use Rattle.hal_parse_file.proofs.Becomes.{followed_is, made_is, decided_not}
+use Rattle.hal_parse_expr.proofs.Readings.{Holds, holds_none, holds, weaker_holds}
+use Rattle.hal_parse_expr.proofs.Combining.{made_holds}
+use Rattle.hal_parse_file.proofs.Decided.{nothing_read}
+use Rattle.hal_parse_expr.proofs.Equations.{made_equals}
+use Rattle.hal_parse_file.proofs.Becomes.{followed_is, decided_not}
 use Rattle.hal_parse_file.proofs.Chains.{Chain, chain_end, chain_more, all_chain, shortens, all_first}
 use Rattle.hal_parse_file.proofs.LeavesRead.{name_end_gives, name_end_is}
 use Rattle.hal_parse_file.proofs.DeclarationsRead.{SpellsLabel, one_label, label_gives, label_is}
@@ -43,39 +46,39 @@ resets : {n : ℕ} {x : Basic} {p : Place} {b a : Words} → Acting p Lowers x b
 resets acting = (acts lowers, omega arith)
 
 reserved_gives : {n : ℕ} {inner : Option (Reader Statement)} → Inside n inner → (p : Place) (w : Word) (words : Words) →
-    Gives (λ x rest. BasicOf n x (token w p ∷ words) rest) (reserved_behind n inner p w words)
+    Holds (λ x rest. BasicOf n x (token w p ∷ words) rest) (reserved_behind n inner p w words)
 unfolding reserved_behind
 reserved_gives ins p (word.Reserved reserved.If) words = if_gives ins p words
 reserved_gives ins p (word.Reserved reserved.Do) words = do_gives ins p words
-reserved_gives ins p (word.Reserved reserved.Exit) words = gives_made _ (name_end_gives words) (λ x rest d. (left d, omega arith))
-reserved_gives ins p (word.Reserved reserved.Repeat) words = gives_made _ (name_end_gives words) (λ x rest d. (repeated d, omega arith))
+reserved_gives ins p (word.Reserved reserved.Exit) words = made_holds _ (name_end_gives words) (λ x rest d. (left d, omega arith))
+reserved_gives ins p (word.Reserved reserved.Repeat) words = made_holds _ (name_end_gives words) (λ x rest d. (repeated d, omega arith))
 reserved_gives {n = n} ins p (word.Reserved reserved.Return) words = returned_gives n p words
 reserved_gives {n = n} ins p (word.Reserved reserved.Call) words = call_gives n p words
 reserved_gives {n = n} ins p (word.Reserved reserved.Read) words = read_gives n p words
 reserved_gives {n = n} ins p (word.Reserved reserved.Write) words = write_gives n p words
 reserved_gives ins p (word.Reserved reserved.Update) words = update_gives ins p words
-reserved_gives {n = n} ins p (word.Reserved reserved.Schedule) words = gives_made _ (schedule_gives n words) (λ s rest d. (scheduled d.0, d.1))
-reserved_gives ins p (word.Reserved reserved.Cancel) words = gives_made _ (names_end_gives words) (λ ns rest d. cancels d)
-reserved_gives ins p (word.Reserved reserved.Terminate) words = gives_made _ (names_end_gives words) (λ ns rest d. terminates d)
+reserved_gives {n = n} ins p (word.Reserved reserved.Schedule) words = made_holds _ (schedule_gives n words) (λ s rest d. (scheduled d.0, d.1))
+reserved_gives ins p (word.Reserved reserved.Cancel) words = made_holds _ (names_end_gives words) (λ ns rest d. cancels d)
+reserved_gives ins p (word.Reserved reserved.Terminate) words = made_holds _ (names_end_gives words) (λ ns rest d. terminates d)
 reserved_gives {n = n} ins p (word.Reserved reserved.Wait) words = wait_gives n p words
-reserved_gives ins p (word.Reserved reserved.Signal) words = gives_so (acts_gives p Pulses words) (λ x rest d. signals d)
-reserved_gives ins p (word.Reserved reserved.Set) words = gives_so (acts_gives p Raises words) (λ x rest d. sets d)
-reserved_gives ins p (word.Reserved reserved.Reset) words = gives_so (acts_gives p Lowers words) (λ x rest d. resets d)
+reserved_gives ins p (word.Reserved reserved.Signal) words = weaker_holds (acts_gives p Pulses words) (λ x rest d. signals d)
+reserved_gives ins p (word.Reserved reserved.Set) words = weaker_holds (acts_gives p Raises words) (λ x rest d. sets d)
+reserved_gives ins p (word.Reserved reserved.Reset) words = weaker_holds (acts_gives p Lowers words) (λ x rest d. resets d)
 reserved_gives ins p (word.Reserved reserved.On) words = on_gives ins p words
 reserved_gives {n = n} ins p (word.Reserved reserved.Off) words = forgets_gives n p words
 reserved_gives {n = n} ins p (word.Reserved reserved.Send) words = sends_gives n p words
-reserved_gives ins p other words = gives_none
+reserved_gives ins p other words = holds_none
 
 behind_gives : {n : ℕ} {inner : Option (Reader Statement)} → Inside n inner → (p : Place) (w : Word) (words : Words) →
-    Gives (λ x rest. BasicOf n x (token w p ∷ words) rest) (basic_behind n inner (token w p ∷ words) p w words)
+    Holds (λ x rest. BasicOf n x (token w p ∷ words) rest) (basic_behind n inner (token w p ∷ words) p w words)
 unfolding basic_behind
-behind_gives ins p (word.Symbol symbol.Semicolon) words = gives (empty, omega arith)
+behind_gives ins p (word.Symbol symbol.Semicolon) words = holds (empty, omega arith)
 behind_gives {n = n} ins p (word.Name m) words = assigned_gives n m p words
 behind_gives ins p other words = reserved_gives ins p other words
 
-basic_gives : {n : ℕ} {inner : Option (Reader Statement)} → Inside n inner → (words : Words) → Gives (λ x rest. BasicOf n x words rest) (basic_of n inner words)
+basic_gives : {n : ℕ} {inner : Option (Reader Statement)} → Inside n inner → (words : Words) → Holds (λ x rest. BasicOf n x words rest) (basic_of n inner words)
 unfolding basic_of
-basic_gives ins [] = gives_none
+basic_gives ins [] = holds_none
 basic_gives ins (first ∷ rest) = behind_gives ins first.place first.word rest
 
 event_acts : (n : ℕ) (inner : Option (Reader Statement)) {e : Eventful} {b : Words} {q : Place} {a : Words} → SpellsEvent e b (symbol_then symbol.Semicolon q a) → basic_of n inner b ≡ Some (Acts e, a)
@@ -100,8 +103,8 @@ basic_is ins (selected {p = p} {q = q} d e f) h = case_done ins p q d e f h
 basic_is ins (looped_while {p = p} {q = q} d e) h = while_done ins p q d e (omega arith) (omega arith)
 basic_is ins (looped_until {p = p} {q = q} d e) h = until_done ins p q d e (omega arith) (omega arith)
 basic_is ins (ranged {p = p} {q = q} {r = r} {n = m} t s c g) h = for_done ins p q (naming r m) t s c g h
-basic_is ins (left d) h = made_is _ (name_end_is d)
-basic_is ins (repeated d) h = made_is _ (name_end_is d)
+basic_is ins (left d) h = made_equals _ (name_end_is d)
+basic_is ins (repeated d) h = made_equals _ (name_end_is d)
 basic_is {n = n} ins (returned {p = p} {q = q} {after = after}) h = nothing_returned n p q after
 basic_is {n = n} ins (returned_value {p = p} d) h = value_returned n p d h
 basic_is {n = n} ins (calls {p = p} {q = q} {n = m} d e) h = call_is n p q m d e (omega arith) (omega arith)
@@ -109,11 +112,11 @@ basic_is {n = n} ins (inputs {p = p} {q = q} d e) h = read_is n p q d (omega ari
 basic_is {n = n} ins (outputs_nothing {p = p} {q = q} d) h = nothing_written n p q d (omega arith)
 basic_is {n = n} ins (outputs {p = p} {q = q} d e) h = items_written n p q d (omega arith) e (omega arith)
 basic_is ins (updates {p = p} {q = q} d e) h = update_is ins p q d e h
-basic_is {n = n} ins (scheduled d) h = made_is _ (schedule_is n d h)
-basic_is ins cancelled_itself h = made_is _ (names_end_is no_names)
-basic_is ins (cancelled d) h = made_is _ (names_end_is (some_names d))
-basic_is ins terminated_itself h = made_is _ (names_end_is no_names)
-basic_is ins (terminated d) h = made_is _ (names_end_is (some_names d))
+basic_is {n = n} ins (scheduled d) h = made_equals _ (schedule_is n d h)
+basic_is ins cancelled_itself h = made_equals _ (names_end_is no_names)
+basic_is ins (cancelled d) h = made_equals _ (names_end_is (some_names d))
+basic_is ins terminated_itself h = made_equals _ (names_end_is no_names)
+basic_is ins (terminated d) h = made_equals _ (names_end_is (some_names d))
 basic_is {n = n} ins (waits {p = p} d) h = time_waited n p d h
 basic_is {n = n} ins (waits_until {p = p} {q = q} d) h = waited_until n p q d h
 basic_is {n = n} ins (waits_for_dependents {p = p} {q = q} {r = r} {s = s} {after = after}) h = dependents_waited n p q r s after
@@ -152,31 +155,31 @@ labels_are (more_labels ds) = all_first label_at label_shortens (label_is one_la
 abbrev pub StatementOf : ℕ → Statement → Words → Words → Type 0
 StatementOf n s b a = SpellsStatement s b a × (nesting_of_statement s ≤ n)
 
-statement_so : {n : ℕ} {inner : Option (Reader Statement)} → Inside n inner → (words : Words) → Gives (λ s rest. StatementOf n s words rest) (statement_of n inner words)
+statement_so : {n : ℕ} {inner : Option (Reader Statement)} → Inside n inner → (words : Words) → Holds (λ s rest. StatementOf n s words rest) (statement_of n inner words)
 unfolding statement_of
 statement_so ins words =
-    gives_made _ (basic_gives ins (labels_at words).1) (λ x rest d. (labelled (labels_spelled (labels_chain words) (λ l. basic_no_label d.0 l)) d.0, d.1))
+    made_holds _ (basic_gives ins (labels_at words).1) (λ x rest d. (labelled (labels_spelled (labels_chain words) (λ l. basic_no_label d.0 l)) d.0, d.1))
 
 statement_found : {n : ℕ} {inner : Option (Reader Statement)} → Inside n inner → {s : Statement} {b a : Words} → SpellsStatement s b a → nesting_of_statement s ≤ n →
     statement_of n inner b ≡ Some (s, a)
 unfolding statement_of
-statement_found {n = n} {inner = inner} ins (labelled ls d) h = ap (λ l. made_of (λ x. Labelled l.0 x) (basic_of n inner l.1)) (labels_are ls) ∙ made_is _ (basic_is ins d h)
+statement_found {n = n} {inner = inner} ins (labelled ls d) h = ap (λ l. made_of (λ x. Labelled l.0 x) (basic_of n inner l.1)) (labels_are ls) ∙ made_equals _ (basic_is ins d h)
 
 -- nothing stands inside at the last level
 nothing_inside : Inside 0 None
 unfolding where_left
-nothing_inside = record { level = refl; sound = λ words. gives_none; full = λ s b a d. absurd (omega (arith, d.1)) }
+nothing_inside = record { level = refl; sound = λ words. holds_none; full = λ s b a d. absurd (omega (arith, d.1)) }
 
 -- both, of one depth
 record Exactly (n : ℕ) : Type 0 where
-  sound : (words : Words) → Gives (λ s rest. StatementOf n s words rest) (statement_at n words)
+  sound : (words : Words) → Holds (λ s rest. StatementOf n s words rest) (statement_at n words)
   full : (s : Statement) (b a : Words) → StatementOf n s b a → statement_at n b ≡ Some (s, a)
 
 inside_of : (n : ℕ) → Exactly n → Inside (suc n) (Some (statement_at n))
 unfolding where_left
 inside_of n x = record {
   level = omega arith;
-  sound = λ words. gives_so (x.sound words) (λ s rest d. (d.0, omega (arith, d.1)));
+  sound = λ words. weaker_holds (x.sound words) (λ s rest d. (d.0, omega (arith, d.1)));
   full = λ s b a d. x.full s b a (d.0, omega (arith, d.1));
 }
 
@@ -186,7 +189,7 @@ exactly zero = record { sound = λ words. statement_so nothing_inside words; ful
 exactly (suc n) = let ins = inside_of n (exactly n) in record { sound = λ words. statement_so ins words; full = λ s b a d. statement_found ins d.0 d.1 }
 
 -- what is read of a statement is spelled
-pub statement_gives : (n : ℕ) (words : Words) → Gives (λ s rest. StatementOf n s words rest) (statement_at n words)
+pub statement_gives : (n : ℕ) (words : Words) → Holds (λ s rest. StatementOf n s words rest) (statement_at n words)
 statement_gives n words = (exactly n).sound words
 
 -- what is spelled as a statement is read
