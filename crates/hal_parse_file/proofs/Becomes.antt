@@ -5,7 +5,7 @@ use Rattle.hal_words.specs.declared.reserved.Reserved.{Reserved}
 use Rattle.hal_words.specs.declared.word.Symbol.{Symbol}
 use Rattle.hal_words.specs.declared.word.Symbol.TheVariants as symbol
 use Rattle.hal_grammar.specs.Words.{Words, reserved_then, symbol_then}
-use Rattle.hal_parse_expr.specs.Reading.{decided, Read, Reader, followed, made_of, or_else, past, past_symbol, before_symbol, before}
+use Rattle.hal_parse_expr.specs.Reading.{decided, Read, Reader, followed, or_else, past, past_symbol, before_symbol, before}
 use Rattle.hal_parse_expr.proofs.Equations.{made_equals}
 use Rattle.hal_parse_file.specs.ReadingDeclarations.{in_parentheses}
 use Rattle.hal_parse_expr.proofs.FirstWords.{past_here, past_symbol_here}

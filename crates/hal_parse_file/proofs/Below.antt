@@ -24,8 +24,12 @@ best_is {X = X} {c = c} {x = x} {rest = rest} (found {f = f} b) d l h = go (b.on
     go (inl e) = ap₂ (λ (y : X) (r : Words). Some (y, r)) (sym e.0) (sym e.1)
     go (inr e) = absurd (omega (arith, e.0, h))
 
+-- an expression that is nested so deep at most
+abbrev pub ExpressionOf : ℕ → Expression → Words → Words → Type 0
+ExpressionOf n t b a = SpellsExpression t b a × (nesting t ≤ n)
+
 -- what is read is spelled, and nested so deep at most
-pub expression_gives : (n : ℕ) (words : Words) → Holds (λ t rest. SpellsExpression t words rest × (nesting t ≤ n)) (expression_at n words)
+pub expression_gives : (n : ℕ) (words : Words) → Holds (λ t rest. ExpressionOf n t words rest) (expression_at n words)
 expression_gives n words = best_gives (expression_best n words)
 
 pub expressions_gives : (n : ℕ) (words : Words) → Holds (λ ts rest. SpellsExpressions ts words rest × (nesting_of_all ts ≤ n)) (expressions_at n words)

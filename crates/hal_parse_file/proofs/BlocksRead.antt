@@ -1,5 +1,5 @@
 -- Units: what is read is spelled, and what is spelled is read.
-use Rattle.std.proofs.Common.{◌≡◌, ◌≢◌, ℕ, zero, suc, ◌<◌, ◌≤◌, List, [], ◌∷◌, length, Option, Some, None, Bool, true, false, refl, ap, ◌∙◌, arith}
+use Rattle.std.proofs.Common.{◌≡◌, ◌≢◌, ℕ, zero, suc, ◌<◌, ◌≤◌, List, [], ◌∷◌, length, Option, Some, Bool, true, false, refl, ap, ◌∙◌, arith}
 use Rattle.hal_base.specs.declared.refusal.Place.{Place}
 use Rattle.hal_words.specs.declared.reserved.Reserved.{Reserved}
 use Rattle.hal_words.specs.declared.reserved.Reserved.TheVariants as reserved
@@ -14,7 +14,7 @@ use Rattle.hal_grammar.specs.SpellsFiles.{SpellsHead, program_head, compool_head
 use Rattle.hal_grammar.proofs.OneStatement.{reserved_starts, starts, IsStart, statement_starts}
 use Rattle.hal_grammar.proofs.ShorterStatements.{statement_shorter}
 use Rattle.hal_grammar.proofs.ShorterFiles.{block_shorter}
-use Rattle.hal_parse_expr.specs.Reading.{Read, Reader, followed, made_of, where_true, past, all}
+use Rattle.hal_parse_expr.specs.Reading.{Reader, followed, made_of, where_true, past, all}
 use Rattle.hal_parse_expr.proofs.Shortening.{Shortens, all_none}
 use Rattle.hal_parse_file.specs.ReadingDeclarations.{name_end_at}
 use Rattle.hal_parse_file.specs.ReadingFiles.{Element, StatementElement, BlockElement, elements, head_of, inner_block, element_of, elements_of, block_close, block_behind, block_of, block_at}

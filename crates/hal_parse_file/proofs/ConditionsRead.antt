@@ -8,7 +8,7 @@ use Rattle.hal_grammar.specs.Expressions.{Expression, Expressions, NoExpressions
 use Rattle.hal_grammar.specs.Statements.{Guard, Span, Listed, nesting_of_guard, nesting_of_span, nesting_of_arguments, nesting_of_receivers}
 use Rattle.hal_grammar.specs.Words.{Words, reserved_then, symbol_then, BeginsReserved, BeginsSymbol, begins}
 use Rattle.hal_grammar.specs.GoesOn.{strength}
-use Rattle.hal_grammar.specs.SpellsExpressions.{SpellsExpression, SpellsExpressions, last_expression, more_expressions, SpellsReference}
+use Rattle.hal_grammar.specs.SpellsExpressions.{SpellsExpressions, last_expression, more_expressions, SpellsReference}
 use Rattle.hal_grammar.specs.SpellsDeclarations.{Parted, last, more}
 use Rattle.hal_grammar.specs.SpellsStatements.{SpellsArguments, no_arguments, arguments, SpellsReceivers, no_receivers, receivers, SpellsGuard, no_guard, as_long, unless, SpellsStep, no_step, step, SpellsSpan, stepped, listed}
 use Rattle.hal_grammar.proofs.Options.{step_weak}
@@ -26,7 +26,7 @@ use Rattle.hal_parse_file.proofs.Firsts.{past_gives, symbol_gives, not_begun, no
 use Rattle.hal_parse_expr.proofs.Equations.{made_equals}
 use Rattle.hal_parse_file.proofs.Becomes.{followed_is, decided_is, decided_not, before_symbol_is, symbol_is}
 use Rattle.hal_parse_file.proofs.PartedLists.{list_gives, list_is, others_give, others_are, comma_none, parted_shallow, parted_deep}
-use Rattle.hal_parse_file.proofs.Below.{expression_gives, expressions_gives, reference_gives, expression_is, expressions_are, reference_is}
+use Rattle.hal_parse_file.proofs.Below.{ExpressionOf, expression_gives, expressions_gives, reference_gives, expression_is, expressions_are, reference_is}
 
 -- references that are nested so deep at most
 abbrev pub ReferencesOf : ℕ → List Reference → Words → Words → Type 0
@@ -141,10 +141,6 @@ step_is : (n : ℕ) {s : Option Expression} {b a : Words} → SpellsStep s b a �
 unfolding step_at past is_reserved where_true
 step_is n (no_step {after = after} m) h l = decided_not _ _ (past_none reserved.By after m)
 step_is n (step d) h l = decided_is _ _ refl ∙ made_equals _ (expression_is n d h l)
-
--- an expression that is nested so deep at most
-abbrev ExpressionOf : ℕ → Expression → Words → Words → Type 0
-ExpressionOf n t b a = SpellsExpression t b a × (nesting t ≤ n)
 
 list_spelled : (n : ℕ) {ts : List Expression} {b a : Words} → Parted (ExpressionOf n) ts b a → SpellsExpressions (expressions ts) b a × (nesting_of_all (expressions ts) ≤ n)
 unfolding expressions

@@ -25,15 +25,15 @@ use Rattle.hal_parse_expr.proofs.FirstWords.{past_here, past_none, past_symbol_h
 use Rattle.hal_parse_expr.proofs.Readings.{Holds, holds_none, holds, weaker_holds}
 use Rattle.hal_parse_expr.proofs.Combining.{followed_holds, made_holds}
 use Rattle.hal_parse_file.proofs.Decided.{decided_holds, nothing_read}
-use Rattle.hal_parse_file.proofs.Firsts.{name_gives, past_gives, symbol_gives, not_begun, gives_before, Ended, ended, gives_ended}
+use Rattle.hal_parse_file.proofs.Firsts.{past_gives, symbol_gives, not_begun, gives_before, Ended, ended, gives_ended}
 use Rattle.hal_parse_expr.proofs.Equations.{made_equals}
 use Rattle.hal_parse_file.proofs.Becomes.{followed_is, decided_is, decided_not, before_symbol_is, before_is, past_is}
 use Rattle.hal_parse_file.proofs.Chains.{Chain, chain_end, chain_more, all_chain, shortens, all_first}
-use Rattle.hal_parse_file.proofs.LeavesRead.{name_end_gives, name_end_is}
-use Rattle.hal_parse_file.proofs.Below.{expression_gives, expression_is}
+use Rattle.hal_parse_file.proofs.LeavesRead.{SpellsName, a_name, name_spelled, name_end_gives, name_end_is}
+use Rattle.hal_parse_file.proofs.Below.{ExpressionOf, expression_gives, expression_is}
 use Rattle.hal_parse_file.proofs.ConditionsRead.{guard_gives, guard_is, span_gives, span_is}
 use Rattle.hal_parse_file.proofs.ErrorsRead.{selector_gives, selector_is, response_gives, response_is, event_end_gives, event_end_is}
-use Rattle.hal_parse_file.proofs.SimpleRead.{BasicOf, ExpressionOf, expression_end_gives, expression_end_is, temporary_gives, temporary_is, prioritizes_gives}
+use Rattle.hal_parse_file.proofs.SimpleRead.{BasicOf, expression_end_gives, expression_end_is, temporary_gives, temporary_is, prioritizes_gives}
 
 -- a statement that may stand inside one that is nested so deep at most
 abbrev pub StatementIn : ℕ → Statement → Words → Words → Type 0
@@ -218,15 +218,11 @@ GuardOf n c b a = SpellsGuard c b a × (if_any nesting_of_guard c ≤ n)
 data Variable (x : Naming) : Words → Words → Type 0 where
   variable : {e : Place} {a : Words} → Variable x (name_then x.name x.place (symbol_then symbol.Equals e a)) a
 
--- a name
-data OneName (x : Naming) : Words → Words → Type 0 where
-  is_name : {a : Words} → OneName x (name_then x.name x.place a) a
-
-variable_so : {x : Naming} {b a : Words} → Ended symbol.Equals OneName x b a → Variable x b a
-variable_so (ended is_name) = variable
+variable_so : {x : Naming} {b a : Words} → Ended symbol.Equals SpellsName x b a → Variable x b a
+variable_so (ended a_name) = variable
 
 variable_gives : (words : Words) → Holds (λ x rest. Variable x words rest) (before_symbol symbol.Equals (name_at words))
-variable_gives words = weaker_holds (gives_ended symbol.Equals words (weaker_holds (name_gives words) (λ x rest e. rw e is_name))) (λ x rest d. variable_so d)
+variable_gives words = weaker_holds (gives_ended symbol.Equals words (name_spelled words)) (λ x rest d. variable_so d)
 
 range_spelled : {n : ℕ} {d : Bool} {x : Naming} {s : Span} {c : Option Guard} {g : Group} {p q : Place} {b m span guard body a : Words} → SpellsTemporary d b m → Variable x m span →
     SpellsSpan s span guard → nesting_of_span s ≤ n → Ended symbol.Semicolon (GuardOf n) c guard body → GroupOf n g body a →

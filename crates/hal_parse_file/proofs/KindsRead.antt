@@ -9,7 +9,6 @@ use Rattle.hal_grammar.specs.Leaves.{if_any}
 use Rattle.hal_grammar.specs.Expressions.{Expression, nesting}
 use Rattle.hal_grammar.specs.Declarations.{Kind, BitKind, CharacterKind, StructureKind, nesting_of_kind}
 use Rattle.hal_grammar.specs.Words.{Words, token, reserved_then, name_then}
-use Rattle.hal_grammar.specs.SpellsExpressions.{SpellsExpression}
 use Rattle.hal_grammar.specs.SpellsDeclarations.{SpellsCopyCount, no_copy_count, copy_count, SpellsKind, integer_kind, bit_kind, boolean_kind, character_kind, event_kind, structure_kind}
 use Rattle.hal_parse_expr.specs.ReadingExpressions.{expression_at}
 use Rattle.hal_parse_file.specs.ReadingDeclarations.{copy_count_at, structure_behind, kind_behind, kind_at}
@@ -20,7 +19,7 @@ use Rattle.hal_parse_file.proofs.Decided.{decided_holds}
 use Rattle.hal_parse_file.proofs.Firsts.{past_gives, symbol_gives, not_begun_symbol, gives_before_symbol, Enclosed, enclosed_so, gives_enclosed}
 use Rattle.hal_parse_expr.proofs.Equations.{made_equals}
 use Rattle.hal_parse_file.proofs.Becomes.{decided_is, decided_not, before_symbol_is, past_is, symbol_is, enclosed_is}
-use Rattle.hal_parse_file.proofs.Below.{expression_gives, expression_is}
+use Rattle.hal_parse_file.proofs.Below.{ExpressionOf, expression_gives, expression_is}
 
 pub copy_count_gives : (n : ℕ) (words : Words) → Holds (λ c rest. SpellsCopyCount c words rest × (if_any nesting c ≤ n)) (copy_count_at n words)
 unfolding copy_count_at
@@ -35,11 +34,11 @@ unfolding copy_count_at
 copy_count_is n (no_copy_count {after = after} m) h = decided_not _ _ (past_symbol_none symbol.LeftParenthesis after m)
 copy_count_is n (copy_count {p = p} {before = before} d) h = decided_is _ _ (past_symbol_here symbol.LeftParenthesis p before) ∙ made_equals _ (before_symbol_is (expression_is n d h (omega arith)))
 
-bit_spelled : {n : ℕ} {t : Expression} {p : Place} {b a : Words} → Enclosed (λ t b a. SpellsExpression t b a × (nesting t ≤ n)) t b a →
+bit_spelled : {n : ℕ} {t : Expression} {p : Place} {b a : Words} → Enclosed (ExpressionOf n) t b a →
     SpellsKind (BitKind p t) (reserved_then reserved.Bit p b) a × (nesting t ≤ n)
 bit_spelled (enclosed_so d) = (bit_kind d.0, d.1)
 
-character_spelled : {n : ℕ} {t : Expression} {p : Place} {b a : Words} → Enclosed (λ t b a. SpellsExpression t b a × (nesting t ≤ n)) t b a →
+character_spelled : {n : ℕ} {t : Expression} {p : Place} {b a : Words} → Enclosed (ExpressionOf n) t b a →
     SpellsKind (CharacterKind p t) (reserved_then reserved.Character p b) a × (nesting t ≤ n)
 character_spelled (enclosed_so d) = (character_kind d.0, d.1)
 

@@ -23,19 +23,19 @@ use Rattle.hal_parse_file.proofs.Becomes.{decided_is, decided_not}
 use Rattle.hal_parse_file.proofs.PartedLists.{list_gives, list_is}
 
 -- one name
-data SpellsName : Naming → Words → Words → Type 0 where
-  one_name : {p : Place} {n : List ℕ} {after : Words} → SpellsName (naming p n) (name_then n p after) after
+pub data SpellsName : Naming → Words → Words → Type 0 where
+  a_name : {p : Place} {n : List ℕ} {after : Words} → SpellsName (naming p n) (name_then n p after) after
 
 names_spelled : {ns : List Naming} {b a : Words} → Parted SpellsName ns b a → SpellsNames ns b a
-names_spelled (last one_name) = last_name
-names_spelled (more one_name ds) = more_names (names_spelled ds)
+names_spelled (last a_name) = last_name
+names_spelled (more a_name ds) = more_names (names_spelled ds)
 
 names_parted : {ns : List Naming} {b a : Words} → SpellsNames ns b a → Parted SpellsName ns b a
-names_parted last_name = last one_name
-names_parted (more_names ds) = more one_name (names_parted ds)
+names_parted last_name = last a_name
+names_parted (more_names ds) = more a_name (names_parted ds)
 
-name_spelled : (words : Words) → Holds (λ x rest. SpellsName x words rest) (name_at words)
-name_spelled words = weaker_holds (name_gives words) (λ x rest e. rw e one_name)
+pub name_spelled : (words : Words) → Holds (λ x rest. SpellsName x words rest) (name_at words)
+name_spelled words = weaker_holds (name_gives words) (λ x rest e. rw e a_name)
 
 pub names_give : (words : Words) → Holds (λ ns rest. SpellsNames ns words rest) (names_at words)
 unfolding names_at
@@ -43,7 +43,7 @@ names_give words = weaker_holds (list_gives name_at name_spelled words) (λ ns r
 
 name_is : (x : Naming) (before after : Words) → SpellsName x before after → Unit {0} → name_at before ≡ Some (x, after)
 unfolding name_at
-name_is x before after one_name u = refl
+name_is x before after a_name u = refl
 
 pub names_are : {ns : List Naming} {b a : Words} → SpellsNames ns b a → ¬ BeginsSymbol symbol.Comma a → names_at b ≡ Some (ns, a)
 unfolding names_at

@@ -21,7 +21,7 @@ use Rattle.hal_parse_file.proofs.Decided.{decided_holds}
 use Rattle.hal_parse_file.proofs.Firsts.{name_gives, past_gives, symbol_gives, not_begun, not_begun_symbol, gives_before_symbol, Enclosed, enclosed_so, gives_enclosed}
 use Rattle.hal_parse_expr.proofs.Equations.{made_equals}
 use Rattle.hal_parse_file.proofs.Becomes.{followed_is, decided_is, decided_not, before_symbol_is, enclosed_is}
-use Rattle.hal_parse_file.proofs.Below.{expression_gives, expression_is}
+use Rattle.hal_parse_file.proofs.Below.{ExpressionOf, expression_gives, expression_is}
 use Rattle.hal_parse_file.proofs.ConditionsRead.{guard_gives, guard_is}
 
 -- before REPEAT, with a comma or without, no expression goes on
@@ -73,7 +73,7 @@ start_is n (start_at d) l w = decided_is _ _ refl ∙ made_equals _ (expression_
 start_is n (start_in d) l w = decided_not _ _ refl ∙ decided_is _ _ refl ∙ made_equals _ (expression_is n d l w)
 start_is n (start_on d) l w = decided_not _ _ refl ∙ decided_not _ _ refl ∙ decided_is _ _ refl ∙ made_equals _ (expression_is n d l w)
 
-priority_spelled : {n : ℕ} {t : Expression} {p : Place} {b a : Words} → Enclosed (λ t b a. SpellsExpression t b a × (nesting t ≤ n)) t b a →
+priority_spelled : {n : ℕ} {t : Expression} {p : Place} {b a : Words} → Enclosed (ExpressionOf n) t b a →
     SpellsPriority (Some t) (reserved_then reserved.Priority p b) a × (nesting t ≤ n)
 priority_spelled (enclosed_so d) = (priority d.0, d.1)
 

@@ -22,18 +22,14 @@ use Rattle.hal_parse_file.proofs.Firsts.{name_gives, integer_gives, past_gives, 
 use Rattle.hal_parse_file.proofs.FirstWeak.{no_weak_symbol, no_weak_reserved}
 use Rattle.hal_parse_expr.proofs.Equations.{made_equals}
 use Rattle.hal_parse_file.proofs.Becomes.{followed_is, decided_is, decided_not, before_symbol_is, before_is, past_is, enclosed_is}
-use Rattle.hal_parse_file.proofs.LeavesRead.{names_give, names_are}
-use Rattle.hal_parse_file.proofs.Below.{expression_gives, expressions_gives, expression_is, expressions_are}
+use Rattle.hal_parse_file.proofs.LeavesRead.{SpellsName, a_name, name_spelled, names_give, names_are}
+use Rattle.hal_parse_file.proofs.Below.{ExpressionOf, expression_gives, expressions_gives, expression_is, expressions_are}
 use Rattle.hal_parse_file.proofs.ConditionsRead.{ReferencesOf, references_give, references_are, arguments_give, arguments_are, receivers_give, receivers_are}
 use Rattle.hal_parse_file.proofs.ErrorsRead.{selector_gives, selector_is}
 
 -- a statement without labels that is nested so deep at most
 abbrev pub BasicOf : ℕ → Basic → Words → Words → Type 0
 BasicOf n x b a = SpellsBasic x b a × (nesting_of_basic x ≤ n)
-
--- an expression that is nested so deep at most
-abbrev pub ExpressionOf : ℕ → Expression → Words → Words → Type 0
-ExpressionOf n t b a = SpellsExpression t b a × (nesting t ≤ n)
 
 pub expression_end_gives : (n : ℕ) (words : Words) → Holds (λ t rest. Ended symbol.Semicolon (ExpressionOf n) t words rest) (expression_end n words)
 unfolding expression_end
@@ -239,23 +235,16 @@ unfolding wait_at wait_for_at past is_reserved where_true
 event_waited n p q {b = b} d l =
     decided_not _ _ refl ∙ decided_is _ _ refl ∙ decided_not _ _ (no_weak_reserved reserved.Dependent b (omega arith) (expression_strong d)) ∙ made_equals _ (expression_end_is n d l)
 
--- a name
-data OneName : Naming → Words → Words → Type 0 where
-  is_name : {p : Place} {m : List ℕ} {a : Words} → OneName (naming p m) (name_then m p a) a
-
-name_given : (words : Words) → Holds (λ x rest. OneName x words rest) (name_at words)
-name_given words = weaker_holds (name_gives words) (λ x rest e. rw e is_name)
-
 -- this happens to an event, and a semicolon follows
 pub data Acting (p : Place) (c : EventAction) : Basic → Words → Words → Type 0 where
   acting : {q r : Place} {m : List ℕ} {a : Words} → Acting p c (Acts (eventful p c (naming q m))) (name_then m q (symbol_then symbol.Semicolon r a)) a
 
-acting_so : {p : Place} {c : EventAction} {x : Naming} {b a : Words} → Ended symbol.Semicolon OneName x b a → Acting p c (Acts (eventful p c x)) b a
-acting_so (ended is_name) = acting
+acting_so : {p : Place} {c : EventAction} {x : Naming} {b a : Words} → Ended symbol.Semicolon SpellsName x b a → Acting p c (Acts (eventful p c x)) b a
+acting_so (ended a_name) = acting
 
 pub acts_gives : (p : Place) (c : EventAction) (words : Words) → Holds (λ x rest. Acting p c x words rest) (acts_at p c words)
 unfolding acts_at
-acts_gives p c words = made_holds _ (gives_ended symbol.Semicolon words (name_given words)) (λ x rest d. acting_so d)
+acts_gives p c words = made_holds _ (gives_ended symbol.Semicolon words (name_spelled words)) (λ x rest d. acting_so d)
 
 pub acts_is : {p : Place} {c : EventAction} {x : Basic} {b a : Words} → Acting p c x b a → acts_at p c b ≡ Some (x, a)
 unfolding acts_at name_at
