@@ -34,5 +34,6 @@ pub mod ReadReferences
 pub mod ReadClosed
 pub mod FoundPrimaries
 pub mod ReadPrimaries
-pub mod Longest
+pub mod BestPhrases
 pub mod BestReadings
+pub mod Results

@@ -27,7 +27,7 @@ fn sign_of(word: &Word) -> Option<Sign>
 
 /// A sign and its place.
 #[tactic(auto, unfolding(crate::specs::ReadingExpressions::sign_at, crate::specs::Seen::seen_placed))]
-pub(crate) fn sign(words: &[Token]) -> Option<(Place, Sign, &[Token])>
+pub fn sign(words: &[Token]) -> Option<(Place, Sign, &[Token])>
     ensures { seen_placed seen_sign result ≡ sign_at words.now }
 {
     let Some((first, rest)) = words.split_first() else {

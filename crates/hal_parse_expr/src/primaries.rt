@@ -195,7 +195,7 @@ fn closed_expression(
 /// Expressions parted by commas, with a parenthesis behind them.
 #[cycle(expressions)]
 #[tactic(auto, using(crate::proofs::Depths::deeper_none, crate::proofs::Depths::deeper_some), unfolding(crate::specs::ReadingExpressions::closed, crate::specs::Reading::before_symbol, crate::specs::Reading::followed, crate::specs::Reading::made_of, crate::specs::Seen::seen_as_list, crate::specs::Seen::seen))]
-fn closed_expressions(
+pub(crate) fn closed_expressions(
     alloc: Global,
     words: &[Token],
     depth: u32,
