@@ -56,7 +56,7 @@ returns_end_at n words = followed (returns_at n words) (λ r rest. made_of (λ m
 -- behind FUNCTION
 unfoldable pub function_behind : ℕ → Place → Reader Head
 function_behind n p words =
-    followed (inputs_at words) (λ ins rest. followed (outputs_at rest) (λ outs after. made_of (λ f. FunctionHead p ins outs f.0 f.1) (returns_end_at n after)))
+    followed (inputs_at words) (λ ins rest. made_of (λ f. FunctionHead p ins f.0 f.1) (returns_end_at n rest))
 
 -- the head that the first word begins
 unfoldable pub head_behind : ℕ → Place → Word → Reader Head

@@ -50,9 +50,9 @@ pub made_procedure : (place : Place) (inputs outputs : Vec Identifier Global) (m
 unfolding seen_head
 made_procedure place inputs outputs mode = refl
 
-pub made_function : (place : Place) (inputs outputs : Vec Identifier Global) (kind : Returns) (mode : Option Mode) → seen_head (head.Function place inputs outputs kind mode) ≡ plain.FunctionHead place (map seen_name inputs.items) (map seen_name outputs.items) (seen_returns kind) (option_map seen_mode mode)
+pub made_function : (place : Place) (inputs : Vec Identifier Global) (kind : Returns) (mode : Option Mode) → seen_head (head.Function place inputs kind mode) ≡ plain.FunctionHead place (map seen_name inputs.items) (seen_returns kind) (option_map seen_mode mode)
 unfolding seen_head
-made_function place inputs outputs kind mode = refl
+made_function place inputs kind mode = refl
 
 pub made_statement_element : (statement : Statement) → seen_element (element.Statement statement) ≡ OfStatement (seen_statement statement)
 unfolding seen_element seen_unit

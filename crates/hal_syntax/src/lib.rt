@@ -2,6 +2,7 @@
 #![tactic(auto)]
 
 pub mod build;
+pub mod copy;
 mod declaration;
 mod expression;
 mod leaf;

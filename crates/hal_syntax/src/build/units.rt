@@ -50,7 +50,7 @@ pub fn function(
     returns: Returns,
     mode: Option<Mode>,
 ) -> Head
-    ensures { seen_head result ≡ FunctionHead place (map seen_name inputs.items) (map seen_name outputs.items) (seen_returns returns) (option_map seen_mode mode) }
+    ensures { seen_head result ≡ FunctionHead place (map seen_name inputs.items) (seen_returns returns) (option_map seen_mode mode) }
 {
     Head::Function {
         place,
