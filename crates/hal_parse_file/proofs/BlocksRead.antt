@@ -132,7 +132,7 @@ head_starts program_head = refl
 head_starts compool_head = refl
 head_starts task_head = refl
 head_starts (procedure_head i o m) = refl
-head_starts (function_head i o m) = refl
+head_starts (function_head i r) = refl
 
 -- a statement is no unit
 statement_apart : {s : Statement} {u : Block} {b a c : Words} → SpellsStatement s b a → SpellsBlock u b c → ⊥

@@ -116,7 +116,7 @@ no_external_head d = go d refl
     go compool_head e = absurd (omega (arith, ap starts e))
     go task_head e = absurd (omega (arith, ap starts e))
     go (procedure_head i o m) e = absurd (omega (arith, ap starts e))
-    go (function_head i o m) e = absurd (omega (arith, ap starts e))
+    go (function_head i r) e = absurd (omega (arith, ap starts e))
 
 -- a unit is no include and no template
 block_apart : {u : Block} {x : Preface} {b a c : Words} → SpellsBlock u b a → SpellsPreface x b c → ⊥

@@ -162,8 +162,7 @@ procedure_gives n p words =
 
 function_gives : (n : ℕ) (p : Place) (words : Words) → Holds (λ h rest. HeadOf n h (reserved_then reserved.Function p words) rest) (function_behind n p words)
 unfolding function_behind
-function_gives n p words =
-    followed_holds (inputs_give words) (λ ins r1 d. followed_holds (outputs_give r1) (λ outs r2 e. made_holds _ (returns_end_gives n r2) (λ f rest g. (function_head d e g.0, g.1))))
+function_gives n p words = followed_holds (inputs_give words) (λ ins r1 d. made_holds _ (returns_end_gives n r1) (λ f rest g. (function_head d g.0, g.1)))
 
 behind_gives : (n : ℕ) (p : Place) (w : Word) (words : Words) → Holds (λ h rest. HeadOf n h (token w p ∷ words) rest) (head_behind n p w words)
 unfolding head_behind
@@ -187,4 +186,4 @@ head_is n program_head h = made_equals _ refl
 head_is n compool_head h = made_equals _ refl
 head_is n task_head h = made_equals _ refl
 head_is n (procedure_head d e f) h = followed_is _ (inputs_are d) ∙ followed_is _ (outputs_are e) ∙ made_equals _ (mode_end_is f)
-head_is n (function_head d e f) h = followed_is _ (inputs_are d) ∙ followed_is _ (outputs_are e) ∙ made_equals _ (returns_end_is n f h)
+head_is n (function_head d e) h = followed_is _ (inputs_are d) ∙ made_equals _ (returns_end_is n e h)
