@@ -1,5 +1,5 @@
 -- How the nodes of expressions are seen, as code makes them.
-use Rattle.std.proofs.Common.{rules, ◌≡◌, ℕ, List, map, Option, Some, None, Box, Vec, refl, ap, ◌∙◌}
+use Rattle.std.proofs.Common.{rules, ◌≡◌, ℕ, List, map, Option, Box, Vec}
 use Rattle.std.specs.Option.{option_map}
 use Rattle.std.specs.declared.alloc.Global.{Global}
 use Rattle.hal_base.specs.declared.refusal.Place.{Place}
@@ -14,7 +14,6 @@ use Rattle.hal_syntax.specs.declared.expression.Position.{Position}
 use Rattle.hal_syntax.specs.declared.expression.Position.TheVariants as position
 use Rattle.hal_syntax.specs.declared.expression.Sub.{Sub}
 use Rattle.hal_syntax.specs.declared.expression.Sub.TheVariants as sub
-use Rattle.hal_syntax.specs.declared.expression.Subscript.{Subscript}
 use Rattle.hal_syntax.specs.declared.expression.Subscript.TheVariants as subscript
 use Rattle.hal_syntax.specs.declared.expression.Reference.{Reference}
 use Rattle.hal_syntax.specs.declared.expression.SignedTerm.{SignedTerm}

@@ -1,5 +1,5 @@
 -- How the nodes of statements are seen, as code makes them.
-use Rattle.std.proofs.Common.{rules, ◌≡◌, ℕ, map, Option, Some, None, Bool, Box, Vec, refl}
+use Rattle.std.proofs.Common.{rules, ◌≡◌, ℕ, map, Option, Bool, Box, Vec, refl}
 use Rattle.std.specs.Option.{option_map}
 use Rattle.std.specs.declared.alloc.Global.{Global}
 use Rattle.hal_base.specs.declared.refusal.Place.{Place}

@@ -1,5 +1,4 @@
 -- Which leaf of the grammar each leaf of the program is.
-use Rattle.std.specs.Prelude.{Option, Some, None}
 use Rattle.hal_syntax.specs.declared.leaf.Identifier.{Identifier}
 use Rattle.hal_syntax.specs.declared.leaf.Sign.{Sign}
 use Rattle.hal_syntax.specs.declared.leaf.Sign.TheVariants as sign

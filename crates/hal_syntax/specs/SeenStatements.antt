@@ -1,5 +1,5 @@
 -- Which statement of the grammar each statement of the program is.
-use Rattle.std.specs.Prelude.{map, Option, Some, None, Box}
+use Rattle.std.specs.Prelude.{map, Option, Box}
 use Rattle.std.specs.Option.{option_map}
 use Rattle.std.specs.declared.alloc.Global.{Global}
 use Rattle.hal_syntax.specs.declared.statement.Guard as rust-guard

@@ -43,7 +43,7 @@ seen_head (head.Program place) = ProgramHead place
 seen_head (head.Compool place) = CompoolHead place
 seen_head (head.Task place) = TaskHead place
 seen_head (head.Procedure place inputs outputs mode) = ProcedureHead place (map seen_name inputs.items) (map seen_name outputs.items) (option_map seen_mode mode)
-seen_head (head.Function place inputs outputs returns mode) =
+seen_head (head.Function place inputs returns mode) =
     FunctionHead place (map seen_name inputs.items) (seen_returns returns) (option_map seen_mode mode)
 
 -- a statement or a unit, where the unit is seen already

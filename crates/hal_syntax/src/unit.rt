@@ -57,7 +57,6 @@ pub enum Head {
     Function {
         place: Place,
         inputs: Vec<Identifier>,
-        outputs: Vec<Identifier>,
         returns: Returns,
         mode: Option<Mode>,
     },

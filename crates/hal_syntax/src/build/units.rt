@@ -46,7 +46,6 @@ pub fn procedure(
 pub fn function(
     place: Place,
     inputs: Vec<Identifier>,
-    outputs: Vec<Identifier>,
     returns: Returns,
     mode: Option<Mode>,
 ) -> Head
@@ -55,7 +54,6 @@ pub fn function(
     Head::Function {
         place,
         inputs,
-        outputs,
         returns,
         mode,
     }

@@ -46,13 +46,11 @@ pub fn copy_head(alloc: Global, tree: &Head) -> Result<Head, AllocError>
         Head::Function {
             place,
             inputs,
-            outputs,
             returns,
             mode,
         } => Ok(Head::Function {
             place: *place,
             inputs: copy_names(alloc, inputs)?,
-            outputs: copy_names(alloc, outputs)?,
             returns: copy_returns(alloc, returns)?,
             mode: *mode,
         }),
