@@ -1,21 +1,18 @@
 -- What larger phrases give where their parts give so.
-use Rattle.std.proofs.Common.{◌≡◌, ◌∷◌, Option, Some, None, refl, ap, ◌∙◌}
+use Rattle.std.proofs.Common.{◌≡◌, Some, None, ap, ◌∙◌}
 use Rattle.hal_base.specs.declared.refusal.Place.{Place}
 use Rattle.hal_words.specs.declared.reserved.Reserved.{Reserved}
 use Rattle.hal_words.specs.declared.word.Symbol.{Symbol}
 use Rattle.hal_words.specs.declared.word.Symbol.TheVariants as symbol
 use Rattle.hal_grammar.specs.Words.{Words, reserved_then, symbol_then}
-use Rattle.hal_parse_expr.specs.Reading.{Read, Reader, followed, made_of, or_else, past, past_symbol, before_symbol, before}
-use Rattle.hal_parse_file.specs.ReadingDeclarations.{decided, in_parentheses}
-use Rattle.hal_parse_file.proofs.FirstWords.{past_here, past_symbol_here}
+use Rattle.hal_parse_expr.specs.Reading.{decided, Read, Reader, followed, or_else, past, past_symbol, before_symbol, before}
+use Rattle.hal_parse_expr.proofs.Equations.{made_equals}
+use Rattle.hal_parse_file.specs.ReadingDeclarations.{in_parentheses}
+use Rattle.hal_parse_expr.proofs.FirstWords.{past_here, past_symbol_here}
 
 pub followed_is : {X Y : Type 0} {o : Read X} {x : X} {rest : Words} (next : X → Words → Read Y) → o ≡ Some (x, rest) → followed o next ≡ next x rest
 unfolding followed
 followed_is next e = ap (λ o. followed o next) e
-
-pub made_is : {X Y : Type 0} {o : Read X} {x : X} {rest : Words} (make : X → Y) → o ≡ Some (x, rest) → made_of make o ≡ Some (make x, rest)
-unfolding made_of
-made_is make e = ap (λ o. made_of make o) e
 
 pub decided_is : {X Y : Type 0} {o : Read X} {x : X} {rest : Words} (next : X → Words → Read Y) (other : Read Y) → o ≡ Some (x, rest) → decided o next other ≡ next x rest
 unfolding decided
@@ -35,11 +32,11 @@ either_is other e = ap (λ o. or_else o other) e
 
 pub before_symbol_is : {X : Type 0} {o : Read X} {x : X} {s : Symbol} {p : Place} {rest : Words} → o ≡ Some (x, symbol_then s p rest) → before_symbol s o ≡ Some (x, rest)
 unfolding before_symbol
-before_symbol_is {s = s} {p = p} {rest = rest} e = followed_is _ e ∙ made_is _ (past_symbol_here s p rest)
+before_symbol_is {s = s} {p = p} {rest = rest} e = followed_is _ e ∙ made_equals _ (past_symbol_here s p rest)
 
 pub before_is : {X : Type 0} {o : Read X} {x : X} {r : Reserved} {p : Place} {rest : Words} → o ≡ Some (x, reserved_then r p rest) → before r o ≡ Some (x, rest)
 unfolding before
-before_is {r = r} {p = p} {rest = rest} e = followed_is _ e ∙ made_is _ (past_here r p rest)
+before_is {r = r} {p = p} {rest = rest} e = followed_is _ e ∙ made_equals _ (past_here r p rest)
 
 -- behind its first word
 pub past_is : {Y : Type 0} (r : Reserved) (p : Place) (rest : Words) (next : Place → Words → Read Y) → followed (past r (reserved_then r p rest)) next ≡ next p rest

@@ -1,40 +1,39 @@
 -- Lists of phrases, as they are read one after another.
-use Rattle.std.proofs.Common.{◌≡◌, ℕ, zero, suc, ◌<◌, List, [], ◌∷◌, length, Option, Some, None, refl, ap, ◌∙◌, ◌≤◌, arith}
-use Rattle.hal_words.specs.declared.word.Token.{Token}
+use Rattle.std.proofs.Common.{◌≡◌, ℕ, zero, suc, ◌<◌, List, [], ◌∷◌, length, Some, ap, ◌∙◌, ◌≤◌, arith}
 use Rattle.hal_grammar.specs.Words.{Words}
 use Rattle.hal_parse_expr.specs.Reading.{Read, Reader, many, all, listed}
 use Rattle.hal_parse_expr.proofs.Shortening.{Below, Shortens, all_more}
-use Rattle.hal_parse_file.proofs.Gives.{Gives, gives_none, gives}
+use Rattle.hal_parse_expr.proofs.Readings.{Holds, holds_none, holds}
 
 -- phrases one after another
 pub data Chain {X : Type 0} (P : X → Words → Words → Type 0) : List X → Words → Words → Type 0 where
   chain_end : {after : Words} → Chain P [] after after
   chain_more : {x : X} {xs : List X} {before middle after : Words} → P x before middle → Chain P xs middle after → Chain P (x ∷ xs) before after
 
-listed_chain : {X : Type 0} {P : X → Words → Words → Type 0} {others : Words → List X × Words} {words : Words} {o : Read X} → Gives (λ x rest. P x words rest) o →
+listed_chain : {X : Type 0} {P : X → Words → Words → Type 0} {others : Words → List X × Words} {words : Words} {o : Read X} → Holds (λ x rest. P x words rest) o →
     ((rest : Words) → Chain P (others rest).0 rest (others rest).1) → Chain P (listed others words o).0 words (listed others words o).1
 unfolding listed
-listed_chain gives_none f = chain_end
-listed_chain (gives {after = rest} h) f = chain_more h (f rest)
+listed_chain holds_none f = chain_end
+listed_chain (holds h) f = chain_more h (f _)
 
-many_chain : {X : Type 0} {P : X → Words → Words → Type 0} (read : Reader X) → ((words : Words) → Gives (λ x rest. P x words rest) (read words)) → (k : ℕ) (words : Words) →
+many_chain : {X : Type 0} {P : X → Words → Words → Type 0} (read : Reader X) → ((words : Words) → Holds (λ x rest. P x words rest) (read words)) → (k : ℕ) (words : Words) →
     Chain P (many read k words).0 words (many read k words).1
 unfolding many
 many_chain read g zero words = chain_end
 many_chain read g (suc k) words = listed_chain (g words) (λ rest. many_chain read g k rest)
 
 -- what is read as long as it can be
-pub all_chain : {X : Type 0} {P : X → Words → Words → Type 0} (read : Reader X) → ((words : Words) → Gives (λ x rest. P x words rest) (read words)) → (words : Words) →
+pub all_chain : {X : Type 0} {P : X → Words → Words → Type 0} (read : Reader X) → ((words : Words) → Holds (λ x rest. P x words rest) (read words)) → (words : Words) →
     Chain P (all read words).0 words (all read words).1
 unfolding all
 all_chain read g words = many_chain read g (length words) words
 
-below_given : {X : Type 0} {P : X → Words → Type 0} {k : ℕ} {o : Read X} → Gives P o → ((x : X) (rest : Words) → P x rest → length rest < k) → Below k o
-below_given gives_none f = tt
-below_given (gives {x = x} {after = rest} h) f = f x rest h
+below_given : {X : Type 0} {P : X → Words → Type 0} {k : ℕ} {o : Read X} → Holds P o → ((x : X) (rest : Words) → P x rest → length rest < k) → Below k o
+below_given holds_none f = tt
+below_given (holds h) f = f _ _ h
 
 -- a reader of phrases that take a word leaves fewer words
-pub shortens : {X : Type 0} {P : X → Words → Words → Type 0} {read : Reader X} → ((words : Words) → Gives (λ x rest. P x words rest) (read words)) →
+pub shortens : {X : Type 0} {P : X → Words → Words → Type 0} {read : Reader X} → ((words : Words) → Holds (λ x rest. P x words rest) (read words)) →
     ((x : X) (words rest : Words) → P x words rest → length rest < length words) → Shortens read
 shortens g f words = below_given (g words) (λ x rest h. f x words rest h)
 

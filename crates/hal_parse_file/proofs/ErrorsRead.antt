@@ -1,20 +1,23 @@
 -- Which errors are meant, events and responses: what is read is spelled, and what is spelled is read.
-use Rattle.std.proofs.Common.{◌≡◌, ℕ, List, [], ◌∷◌, Option, Some, None, refl, ap, ◌∙◌}
+use Rattle.std.proofs.Common.{◌≡◌, ℕ, List, [], ◌∷◌, Option, Some, None, refl, ◌∙◌}
 use Rattle.hal_base.specs.declared.refusal.Place.{Place}
 use Rattle.hal_words.specs.declared.reserved.Reserved.TheVariants as reserved
 use Rattle.hal_words.specs.declared.word.Symbol.TheVariants as symbol
 use Rattle.hal_words.specs.declared.word.Word.{Word}
 use Rattle.hal_words.specs.declared.word.Word.TheVariants as word
-use Rattle.hal_grammar.specs.Leaves.{Naming, naming}
-use Rattle.hal_grammar.specs.Statements.{Selector, GroupErrors, OneError, EventAction, Eventful, eventful, Response, BySystem, Ignored}
+use Rattle.hal_grammar.specs.Leaves.{naming}
+use Rattle.hal_grammar.specs.Statements.{Selector, GroupErrors, OneError, EventAction, Eventful, eventful, Response}
 use Rattle.hal_grammar.specs.Words.{Words, token, symbol_then, reserved_then, name_then, integer_then}
 use Rattle.hal_grammar.specs.SpellsStatements.{SpellsSelector, every_error, group_alone, group_enclosed, group_colon, group_star, one_error, SpellsEvent, pulses, raises, lowers, SpellsResponse, by_system, ignored, SpellsEventEnd, no_event_end, event_end}
-use Rattle.hal_parse_expr.specs.Reading.{Read, past, is_reserved, where_true, past_symbol, is_symbol, name_at, integer_at, made_of}
+use Rattle.hal_parse_expr.specs.Reading.{past, is_reserved, where_true, past_symbol, is_symbol, name_at, integer_at, made_of}
 use Rattle.hal_parse_file.specs.ReadingStatements.{error_number, error_group, selector_behind, selector_at, action_of, event_behind, event_at, event_end_at, response_at}
-use Rattle.hal_parse_file.proofs.FirstWords.{past_symbol_none}
-use Rattle.hal_parse_file.proofs.Gives.{Gives, gives_none, gives, gives_so, gives_followed, gives_made, gives_decided}
+use Rattle.hal_parse_expr.proofs.FirstWords.{past_symbol_none}
+use Rattle.hal_parse_expr.proofs.Readings.{Holds, holds_none, holds, weaker_holds}
+use Rattle.hal_parse_expr.proofs.Combining.{followed_holds, made_holds}
+use Rattle.hal_parse_file.proofs.Decided.{decided_holds}
 use Rattle.hal_parse_file.proofs.Firsts.{name_gives, integer_gives, past_gives, symbol_gives, not_begun_symbol, gives_before_symbol, Enclosed, enclosed_so, gives_enclosed}
-use Rattle.hal_parse_file.proofs.Becomes.{followed_is, made_is, decided_is, decided_not, before_symbol_is, enclosed_is}
+use Rattle.hal_parse_expr.proofs.Equations.{made_equals}
+use Rattle.hal_parse_file.proofs.Becomes.{followed_is, decided_is, decided_not, before_symbol_is, enclosed_is}
 
 -- what stands in the parentheses of a selector
 data ErrorsIn (p : Place) : Selector → Words → Words → Type 0 where
@@ -23,17 +26,17 @@ data ErrorsIn (p : Place) : Selector → Words → Words → Type 0 where
   star_in : {r c d : Place} {n : ℕ} {a : Words} → ErrorsIn p (GroupErrors p n) (integer_then n r (symbol_then symbol.Colon c (symbol_then symbol.Star d a))) a
   number_in : {r c d : Place} {n m : ℕ} {a : Words} → ErrorsIn p (OneError p n m) (integer_then n r (symbol_then symbol.Colon c (integer_then m d a))) a
 
-number_gives : (p r c : Place) (n : ℕ) (words : Words) → Gives (λ x rest. ErrorsIn p x (integer_then n r (symbol_then symbol.Colon c words)) rest) (error_number p n words)
+number_gives : (p r c : Place) (n : ℕ) (words : Words) → Holds (λ x rest. ErrorsIn p x (integer_then n r (symbol_then symbol.Colon c words)) rest) (error_number p n words)
 unfolding error_number
 number_gives p r c n words =
-    gives_decided (symbol_gives symbol.Star words) (λ q rest e. gives (rw e star_in))
-    (λ e. gives_decided (integer_gives words) (λ f rest g. gives (rw g number_in)) (λ g. gives colon_in))
+    decided_holds (symbol_gives symbol.Star words) (λ q rest e. holds (rw e star_in))
+    (λ e. decided_holds (integer_gives words) (λ f rest g. holds (rw g number_in)) (λ g. holds colon_in))
 
-group_gives : (p : Place) (words : Words) → Gives (λ x rest. ErrorsIn p x words rest) (error_group p words)
+group_gives : (p : Place) (words : Words) → Holds (λ x rest. ErrorsIn p x words rest) (error_group p words)
 unfolding error_group
 group_gives p words =
-    gives_followed (integer_gives words) (λ f rest e. gives_decided (symbol_gives symbol.Colon rest)
-    (λ q after g. gives_so (number_gives p f.0 q f.1 after) (λ x last d. rw (e, g) d)) (λ g. gives (rw e alone_in)))
+    followed_holds (integer_gives words) (λ f rest e. decided_holds (symbol_gives symbol.Colon rest)
+    (λ q after g. weaker_holds (number_gives p f.0 q f.1 after) (λ x last d. rw (e, g) d)) (λ g. holds (rw e alone_in)))
 
 enclosed_spelled : {p : Place} {x : Selector} {b a : Words} → Enclosed (ErrorsIn p) x b a → SpellsSelector x (symbol_then symbol.Dollar p b) a
 enclosed_spelled (enclosed_so alone_in) = group_enclosed
@@ -41,15 +44,15 @@ enclosed_spelled (enclosed_so colon_in) = group_colon
 enclosed_spelled (enclosed_so star_in) = group_star
 enclosed_spelled (enclosed_so number_in) = one_error
 
-behind_gives : (p : Place) (words : Words) → Gives (λ x rest. SpellsSelector x (symbol_then symbol.Dollar p words) rest) (selector_behind p words)
+behind_gives : (p : Place) (words : Words) → Holds (λ x rest. SpellsSelector x (symbol_then symbol.Dollar p words) rest) (selector_behind p words)
 unfolding selector_behind
 behind_gives p words =
-    gives_decided (integer_gives words) (λ f rest e. gives (rw e group_alone)) (λ e. gives_so (gives_enclosed (error_group p) words (group_gives p)) (λ x rest d. enclosed_spelled d))
+    decided_holds (integer_gives words) (λ f rest e. holds (rw e group_alone)) (λ e. weaker_holds (gives_enclosed (error_group p) words (group_gives p)) (λ x rest d. enclosed_spelled d))
 
-pub selector_gives : (words : Words) → Gives (λ x rest. SpellsSelector x words rest) (selector_at words)
+pub selector_gives : (words : Words) → Holds (λ x rest. SpellsSelector x words rest) (selector_at words)
 unfolding selector_at
 selector_gives words =
-    gives_decided (symbol_gives symbol.Dollar words) (λ p rest e. gives_so (behind_gives p rest) (λ x after d. rw e d)) (λ e. gives (every_error (not_begun_symbol symbol.Dollar words e)))
+    decided_holds (symbol_gives symbol.Dollar words) (λ p rest e. weaker_holds (behind_gives p rest) (λ x after d. rw e d)) (λ e. holds (every_error (not_begun_symbol symbol.Dollar words e)))
 
 errors_are : {p : Place} {x : Selector} {b : Words} {s : Place} {a : Words} → ErrorsIn p x b (symbol_then symbol.RightParenthesis s a) → error_group p b ≡ Some (x, symbol_then symbol.RightParenthesis s a)
 unfolding error_group error_number integer_at past_symbol is_symbol where_true
@@ -85,20 +88,20 @@ action_view (word.Reserved reserved.Reset) = action_so (λ p q n rest. lowers)
 action_view other = no_action
 
 event_so : {w : Word} {o : Option EventAction} (p : Place) (words : Words) → ActionOf w o →
-    Gives (λ e rest. SpellsEvent e (token w p ∷ words) rest) (elim o [ None ↦ None | Some a ↦ made_of (λ x. eventful p a x) (name_at words) ])
-event_so p words (action_so f) = gives_made _ (name_gives words) (λ x rest e. rw e (f p x.place x.name rest))
-event_so p words no_action = gives_none
+    Holds (λ e rest. SpellsEvent e (token w p ∷ words) rest) (elim o [ None ↦ None | Some a ↦ made_of (λ x. eventful p a x) (name_at words) ])
+event_so p words (action_so f) = made_holds _ (name_gives words) (λ x rest e. rw e (f p x.place x.name rest))
+event_so p words no_action = holds_none
 
-pub event_gives : (words : Words) → Gives (λ e rest. SpellsEvent e words rest) (event_at words)
+pub event_gives : (words : Words) → Holds (λ e rest. SpellsEvent e words rest) (event_at words)
 unfolding event_at event_behind
-event_gives [] = gives_none
+event_gives [] = holds_none
 event_gives (first ∷ rest) = event_so first.place rest (action_view first.word)
 
 pub event_is : {e : Eventful} {b a : Words} → SpellsEvent e b a → event_at b ≡ Some (e, a)
 unfolding event_at event_behind action_of name_at
-event_is pulses = made_is _ refl
-event_is raises = made_is _ refl
-event_is lowers = made_is _ refl
+event_is pulses = made_equals _ refl
+event_is raises = made_equals _ refl
+event_is lowers = made_equals _ refl
 
 -- an event behind AND, and a semicolon
 data EventEnd (e : Eventful) (b a : Words) : Type 0 where
@@ -107,24 +110,24 @@ data EventEnd (e : Eventful) (b a : Words) : Type 0 where
 event_end_spelled : {e : Eventful} {p : Place} {b a : Words} → EventEnd e b a → SpellsEventEnd (Some e) (reserved_then reserved.And p b) a
 event_end_spelled (event_ended d) = event_end d
 
-pub event_end_gives : (words : Words) → Gives (λ e rest. SpellsEventEnd e words rest) (event_end_at words)
+pub event_end_gives : (words : Words) → Holds (λ e rest. SpellsEventEnd e words rest) (event_end_at words)
 unfolding event_end_at
 event_end_gives words =
-    gives_decided (past_gives reserved.And words)
-    (λ p rest f. gives_made _ (gives_before_symbol {Q = λ e after. EventEnd e rest after} symbol.Semicolon (event_gives rest) (λ e q after d. event_ended d)) (λ e after d. rw f (event_end_spelled d)))
-    (λ e. gives_made _ (symbol_gives symbol.Semicolon words) (λ p rest f. rw f no_event_end))
+    decided_holds (past_gives reserved.And words)
+    (λ p rest f. made_holds _ (gives_before_symbol {Q = λ e after. EventEnd e rest after} symbol.Semicolon (event_gives rest) (λ e q after d. event_ended d)) (λ e after d. rw f (event_end_spelled d)))
+    (λ e. made_holds _ (symbol_gives symbol.Semicolon words) (λ p rest f. rw f no_event_end))
 
 pub event_end_is : {e : Option Eventful} {b a : Words} → SpellsEventEnd e b a → event_end_at b ≡ Some (e, a)
 unfolding event_end_at past is_reserved past_symbol is_symbol where_true
-event_end_is no_event_end = decided_not _ _ refl ∙ made_is _ refl
-event_end_is (event_end d) = decided_is _ _ refl ∙ made_is _ (before_symbol_is (event_is d))
+event_end_is no_event_end = decided_not _ _ refl ∙ made_equals _ refl
+event_end_is (event_end d) = decided_is _ _ refl ∙ made_equals _ (before_symbol_is (event_is d))
 
-pub response_gives : (words : Words) → Gives (λ r rest. SpellsResponse r words rest) (response_at words)
+pub response_gives : (words : Words) → Holds (λ r rest. SpellsResponse r words rest) (response_at words)
 unfolding response_at
 response_gives words =
-    gives_decided (past_gives reserved.System words) (λ p rest e. gives (rw e by_system)) (λ e. gives_made _ (past_gives reserved.Ignore words) (λ p rest f. rw f ignored))
+    decided_holds (past_gives reserved.System words) (λ p rest e. holds (rw e by_system)) (λ e. made_holds _ (past_gives reserved.Ignore words) (λ p rest f. rw f ignored))
 
 pub response_is : {r : Response} {b a : Words} → SpellsResponse r b a → response_at b ≡ Some (r, a)
 unfolding response_at past is_reserved where_true
 response_is by_system = decided_is _ _ refl
-response_is ignored = decided_not _ _ refl ∙ made_is _ refl
+response_is ignored = decided_not _ _ refl ∙ made_equals _ refl

@@ -1,11 +1,11 @@
 -- Words that begin an expression are none of those that follow one.
-use Rattle.std.proofs.Common.{◌≡◌, ℕ, ◌<◌, ◌≤◌, Option, None, arith}
+use Rattle.std.proofs.Common.{◌≡◌, ◌<◌, ◌≤◌, None, arith}
 use Rattle.hal_words.specs.declared.reserved.Reserved.{Reserved}
 use Rattle.hal_words.specs.declared.word.Symbol.{Symbol}
 use Rattle.hal_grammar.specs.Words.{Words, BeginsReserved, BeginsSymbol, begins}
 use Rattle.hal_grammar.specs.GoesOn.{reserved_strength, symbol_strength, strength}
 use Rattle.hal_parse_expr.specs.Reading.{past, past_symbol}
-use Rattle.hal_parse_file.proofs.FirstWords.{past_none, past_symbol_none}
+use Rattle.hal_parse_expr.proofs.FirstWords.{past_none, past_symbol_none}
 
 weaker_symbol : (s : Symbol) (words : Words) → symbol_strength s < 5 → 5 ≤ strength words → ¬ BeginsSymbol s words
 weaker_symbol s words h l begins = absurd (omega (arith, h, l))

@@ -1,19 +1,24 @@
-mod FirstWords
-mod Best
-mod Gives
-mod Firsts
-mod Becomes
-mod Chains
-mod Below
-mod PartedLists
-mod LeavesRead
-mod KindsRead
-mod FirstWeak
-mod InitialsRead
-mod AttributesRead
-mod ItemsRead
-mod DeclarationsRead
-mod ConditionsRead
-mod ErrorsRead
-mod SchedulesRead
-mod SimpleRead
+pub mod Decided
+pub mod Firsts
+pub mod Becomes
+pub mod Chains
+pub mod Below
+pub mod PartedLists
+pub mod LeavesRead
+pub mod KindsRead
+pub mod FirstWeak
+pub mod InitialsRead
+pub mod AttributesRead
+pub mod ItemsRead
+pub mod DeclarationsRead
+pub mod ConditionsRead
+pub mod ErrorsRead
+pub mod SchedulesRead
+pub mod SimpleRead
+pub mod GroupsRead
+pub mod StatementsRead
+pub mod HeadsRead
+pub mod BlocksRead
+pub mod FilesRead
+pub mod ExactReadings
+pub mod ReadersShorten

@@ -1,5 +1,5 @@
 -- Phrases parted by commas.
-use Rattle.std.proofs.Common.{◌≡◌, ℕ, ◌<◌, ◌≤◌, List, [], ◌∷◌, length, max, Option, Some, None, refl, ap, ◌∙◌, arith}
+use Rattle.std.proofs.Common.{◌≡◌, ℕ, ◌≤◌, List, [], ◌∷◌, Some, None, ap, ◌∙◌, arith}
 use Rattle.hal_base.specs.declared.refusal.Place.{Place}
 use Rattle.hal_words.specs.declared.word.Symbol.TheVariants as symbol
 use Rattle.hal_grammar.specs.Leaves.{most}
@@ -9,33 +9,35 @@ use Rattle.hal_parse_expr.specs.Reading.{Read, Reader, followed, made_of, all, a
 use Rattle.hal_parse_expr.proofs.Shortening.{Shortens, all_none, all_more}
 use Rattle.hal_parse_expr.proofs.ShorteningExpressions.{comma_shortens}
 use Rattle.hal_parse_file.specs.ReadingDeclarations.{first_and_others}
-use Rattle.hal_parse_file.proofs.FirstWords.{past_symbol_none}
-use Rattle.hal_parse_file.proofs.Gives.{Gives, gives, gives_so, gives_followed, gives_made}
+use Rattle.hal_parse_expr.proofs.FirstWords.{past_symbol_none}
+use Rattle.hal_parse_expr.proofs.Readings.{Holds, holds, weaker_holds}
+use Rattle.hal_parse_expr.proofs.Combining.{followed_holds, made_holds}
 use Rattle.hal_parse_file.proofs.Firsts.{symbol_gives}
-use Rattle.hal_parse_file.proofs.Becomes.{followed_is, made_is, symbol_is}
+use Rattle.hal_parse_expr.proofs.Equations.{made_equals}
+use Rattle.hal_parse_file.proofs.Becomes.{followed_is, symbol_is}
 use Rattle.hal_parse_file.proofs.Chains.{Chain, chain_end, chain_more, all_chain}
 
 -- a comma and a phrase
 data Comma {X : Type 0} (P : X → Words → Words → Type 0) (x : X) : Words → Words → Type 0 where
   comma_first : {p : Place} {before after : Words} → P x before after → Comma P x (symbol_then symbol.Comma p before) after
 
-comma_gives : {X : Type 0} {P : X → Words → Words → Type 0} (read : Reader X) → ((words : Words) → Gives (λ x rest. P x words rest) (read words)) → (words : Words) →
-    Gives (λ x rest. Comma P x words rest) (after_comma read words)
+comma_gives : {X : Type 0} {P : X → Words → Words → Type 0} (read : Reader X) → ((words : Words) → Holds (λ x rest. P x words rest) (read words)) → (words : Words) →
+    Holds (λ x rest. Comma P x words rest) (after_comma read words)
 unfolding after_comma
-comma_gives {P = P} read g words = gives_followed (symbol_gives symbol.Comma words) (λ p rest e. gives_so (g rest) (λ x after h. rw e (let c : Comma P x (symbol_then symbol.Comma p rest) after = comma_first h in c)))
+comma_gives {P = P} read g words = followed_holds (symbol_gives symbol.Comma words) (λ p rest e. weaker_holds (g rest) (λ x after h. rw e (let c : Comma P x (symbol_then symbol.Comma p rest) after = comma_first h in c)))
 
 parted_from : {X : Type 0} {P : X → Words → Words → Type 0} {x : X} {xs : List X} {before middle after : Words} → P x before middle → Chain (Comma P) xs middle after → Parted P (x ∷ xs) before after
 parted_from h chain_end = last h
 parted_from h (chain_more (comma_first d) ds) = more h (parted_from d ds)
 
 -- what is read is parted by commas
-pub parted_gives : {X : Type 0} {P : X → Words → Words → Type 0} (read : Reader X) → ((words : Words) → Gives (λ x rest. P x words rest) (read words)) → (words : Words) →
-    Gives (λ f rest. Parted P (f.0 ∷ f.1) words rest) (parted read words)
+pub parted_gives : {X : Type 0} {P : X → Words → Words → Type 0} (read : Reader X) → ((words : Words) → Holds (λ x rest. P x words rest) (read words)) → (words : Words) →
+    Holds (λ f rest. Parted P (f.0 ∷ f.1) words rest) (parted read words)
 unfolding parted
-parted_gives read g words = gives_followed (g words) (λ x rest h. gives (parted_from h (all_chain (after_comma read) (comma_gives read g) rest)))
+parted_gives read g words = followed_holds (g words) (λ x rest h. holds (parted_from h (all_chain (after_comma read) (comma_gives read g) rest)))
 
 -- a phrase, and what is read behind it
-pub others_give : {X : Type 0} {P : X → Words → Words → Type 0} (read : Reader X) → ((words : Words) → Gives (λ x rest. P x words rest) (read words)) → {x : X} {words rest : Words} → P x words rest →
+pub others_give : {X : Type 0} {P : X → Words → Words → Type 0} (read : Reader X) → ((words : Words) → Holds (λ x rest. P x words rest) (read words)) → {x : X} {words rest : Words} → P x words rest →
     Parted P (x ∷ (all (after_comma read) rest).0) words (all (after_comma read) rest).1
 others_give read g {rest = rest} h = parted_from h (all_chain (after_comma read) (comma_gives read g) rest)
 
@@ -81,14 +83,14 @@ parted_is read short is c (more {p = p} {x = x} {xs = xs} {before = before} {mid
     parted_so read before x (symbol_then symbol.Comma p middle) xs after (is x before (symbol_then symbol.Comma p middle) d (c p middle)) (others_are read short is c p ds h n)
 
 -- the same as one list
-pub list_gives : {X : Type 0} {P : X → Words → Words → Type 0} (read : Reader X) → ((words : Words) → Gives (λ x rest. P x words rest) (read words)) → (words : Words) →
-    Gives (λ xs rest. Parted P xs words rest) (made_of first_and_others (parted read words))
-list_gives read g words = gives_made _ (parted_gives read g words) (λ f rest h. h)
+pub list_gives : {X : Type 0} {P : X → Words → Words → Type 0} (read : Reader X) → ((words : Words) → Holds (λ x rest. P x words rest) (read words)) → (words : Words) →
+    Holds (λ xs rest. Parted P xs words rest) (made_of first_and_others (parted read words))
+list_gives read g words = made_holds _ (parted_gives read g words) (λ f rest h. h)
 
 pub list_is : {X : Type 0} {P : X → Words → Words → Type 0} {E : Words → Type 0} (read : Reader X) → Shortens read → ReadsUntil P E read → ((p : Place) (words : Words) → E (symbol_then symbol.Comma p words)) →
     {xs : List X} {before after : Words} → Parted P xs before after → E after → ¬ BeginsSymbol symbol.Comma after → made_of first_and_others (parted read before) ≡ Some (xs, after)
-list_is read short is c (last d) h n = made_is _ (parted_is read short is c (last d) h n)
-list_is read short is c (more d ds) h n = made_is _ (parted_is read short is c (more d ds) h n)
+list_is read short is c (last d) h n = made_equals _ (parted_is read short is c (last d) h n)
+list_is read short is c (more d ds) h n = made_equals _ (parted_is read short is c (more d ds) h n)
 
 -- each of them is so deep at most
 pub parted_shallow : {X : Type 0} {R : X → Words → Words → Type 0} (depth : X → ℕ) (n : ℕ) {xs : List X} {before after : Words} → Parted R xs before after → most depth xs ≤ n →

@@ -10,13 +10,8 @@ use Rattle.hal_grammar.specs.Leaves.{Naming, Sign, Literal}
 use Rattle.hal_grammar.specs.Expressions.{Expression}
 use Rattle.hal_grammar.specs.Declarations.{Mark, SingleMark, DoubleMark, LatchedMark, StaticMark, AutomaticMark, DenseMark, AlignedMark, Kind, IntegerKind, BooleanKind, EventKind, BitKind, CharacterKind, StructureKind, Initial, Valued, LiteralTimes, NameTimes, ListTimes, Initials, NoInitials, MoreInitials, Attribute, Dimensions, Typed, Marked, LockGroup, LockAny, InitialValues, ConstantValues, Declared, declared_of, Part, part_of, Declaration, Declares, Structures}
 use Rattle.hal_grammar.specs.Words.{Words}
-use Rattle.hal_parse_expr.specs.Reading.{Read, Reader, followed, made_of, past, past_symbol, name_at, integer_at, before_symbol, all, parted}
+use Rattle.hal_parse_expr.specs.Reading.{Reader, followed, made_of, decided, past, past_symbol, name_at, integer_at, before_symbol, all, parted}
 use Rattle.hal_parse_expr.specs.ReadingExpressions.{sign_at, literal_of, expression_at, expressions_at}
-
--- what is read behind a phrase, where there is one, or else
-unfoldable pub decided : {X Y : Type 0} → Read X → (X → Words → Read Y) → Read Y → Read Y
-decided None next other = other
-decided (Some f) next other = next f.0 f.1
 
 -- a phrase in parentheses
 unfoldable pub in_parentheses : {X : Type 0} → Reader X → Reader X

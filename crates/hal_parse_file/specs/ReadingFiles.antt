@@ -11,8 +11,8 @@ use Rattle.hal_grammar.specs.Declarations.{Declaration}
 use Rattle.hal_grammar.specs.Statements.{Statement}
 use Rattle.hal_grammar.specs.Units.{Mode, Reenters, Excludes, Precision, SinglePrecision, DoublePrecision, Returns, NoKind, HasKind, Head, ProgramHead, CompoolHead, TaskHead, ProcedureHead, FunctionHead, Block, BlockOf, Elements, NoElements, StatementFirst, BlockFirst, Template, template_of, Preface, Includes, Templates, File, file_of, stands_inside, holds_elements}
 use Rattle.hal_grammar.specs.Words.{Words}
-use Rattle.hal_parse_expr.specs.Reading.{Reader, followed, made_of, or_else, where_true, past, past_symbol, name_at, before_symbol, before, all}
-use Rattle.hal_parse_file.specs.ReadingDeclarations.{decided, in_parentheses, names_at, name_end_at, kind_at, label_at, declarations_at}
+use Rattle.hal_parse_expr.specs.Reading.{Reader, followed, made_of, decided, or_else, where_true, past, past_symbol, name_at, before_symbol, before, all}
+use Rattle.hal_parse_file.specs.ReadingDeclarations.{in_parentheses, names_at, name_end_at, kind_at, label_at, declarations_at}
 use Rattle.hal_parse_file.specs.ReadingStatements.{statement_at}
 
 -- names in parentheses, or none

@@ -10,9 +10,9 @@ use Rattle.hal_grammar.specs.Leaves.{Naming}
 use Rattle.hal_grammar.specs.Expressions.{Expression, Expressions, NoExpressions, MoreExpressions, Reference}
 use Rattle.hal_grammar.specs.Statements.{Guard, AsLong, Unless, Span, Stepped, Listed, Selector, EveryError, GroupErrors, OneError, EventAction, Pulses, Raises, Lowers, Eventful, eventful, Response, BySystem, Ignored, Start, StartAt, StartIn, StartOn, Cycle, Cyclic, CyclicEvery, CyclicAfter, Schedule, scheduling, Statement, Labelled, Basic, Empty, Assigned, Chosen, Grouped, Selected, Looped, Ranged, Left, Repeated, Returned, CallsBlock, Inputs, Outputs, Updates, Scheduled, Cancelled, Terminated, Waits, WaitsUntil, WaitsForDependents, WaitsFor, Acts, Prioritizes, Handles, Answers, Forgets, Sends, Alternative, NoAlternative, Otherwise, Group, Groups, Statements, NoStatements, MoreStatements}
 use Rattle.hal_grammar.specs.Words.{Words}
-use Rattle.hal_parse_expr.specs.Reading.{Reader, followed, made_of, past, past_symbol, name_at, integer_at, before_symbol, before, all, after_comma, parted}
+use Rattle.hal_parse_expr.specs.Reading.{Reader, followed, made_of, decided, past, past_symbol, name_at, integer_at, before_symbol, before, all, after_comma, parted}
 use Rattle.hal_parse_expr.specs.ReadingExpressions.{closed, expressions, expressions_of, deeper_than, expression_at, expressions_at, reference_at}
-use Rattle.hal_parse_file.specs.ReadingDeclarations.{decided, in_parentheses, where_left, first_and_others, names_at, name_end_at, label_at}
+use Rattle.hal_parse_file.specs.ReadingDeclarations.{in_parentheses, where_left, first_and_others, names_at, name_end_at, label_at}
 
 -- an expression and a semicolon
 unfoldable pub expression_end : ℕ → Reader Expression
