@@ -1,8 +1,8 @@
 -- Loops that gather what a reader gives.
-use Rattle.std.proofs.Common.{◌≡◌, ℕ, ◌<◌, List, [], ◌∷◌, ◌++◌, length, map, Option, Some, None, refl, ap, sym, ◌∙◌, subst}
+use Rattle.std.proofs.Common.{◌≡◌, ◌<◌, List, [], ◌∷◌, ◌++◌, length, map, Some, None, ap, sym, ◌∙◌, subst}
 use Rattle.std.proofs.lemmas.List.{map-append, append_assoc, append-nil}
 use Rattle.hal_grammar.specs.Words.{Words}
-use Rattle.hal_parse_expr.specs.Reading.{Read, Reader, all}
+use Rattle.hal_parse_expr.specs.Reading.{Reader, all}
 use Rattle.hal_parse_expr.proofs.Shortening.{Below, Shortens, all_none, all_more}
 
 -- what a loop has gathered, and what is still read

@@ -1,8 +1,8 @@
 -- Lists parted by commas.
-use Rattle.std.proofs.Common.{◌≡◌, List, [], ◌∷◌, ◌++◌, Option, Some, None, refl, ap, sym, ◌∙◌}
+use Rattle.std.proofs.Common.{◌≡◌, List, [], ◌∷◌, Some, None, ap, ◌∙◌}
 use Rattle.hal_grammar.specs.Expressions.{Expression, MoreExpressions, Sub, MoreSubscripts}
 use Rattle.hal_grammar.specs.Words.{Words}
-use Rattle.hal_parse_expr.specs.Reading.{Read, Reader, followed, made_of, all, after_comma, parted}
+use Rattle.hal_parse_expr.specs.Reading.{Reader, followed, made_of, all, after_comma, parted}
 use Rattle.hal_parse_expr.specs.ReadingExpressions.{expression_of, expressions, expressions_of, sub_of, subs_of, subscripts}
 use Rattle.hal_parse_expr.proofs.Loops.{with_front}
 

@@ -1,5 +1,5 @@
 -- Rows of one operand, and of more.
-use Rattle.std.proofs.Common.{◌≡◌, ◌≢◌, ℕ, List, [], ◌∷◌, length, map, None, refl, ap, arith}
+use Rattle.std.proofs.Common.{◌≡◌, ◌≢◌, List, [], ◌∷◌, length, map, None, refl, arith}
 use Rattle.hal_base.specs.declared.refusal.Place.{Place}
 use Rattle.hal_grammar.specs.Expressions.{Expression, Expressions, Summed, place_of}
 use Rattle.hal_parse_expr.specs.ReadingExpressions.{expressions, row_of, SignedTerm, sum_from, terms}

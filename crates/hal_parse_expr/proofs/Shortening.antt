@@ -1,15 +1,13 @@
 -- What a reader leaves is shorter than the words that it was given.
-use Rattle.std.proofs.Common.{◌≡◌, ℕ, zero, suc, ◌<◌, ◌≤◌, Bool, true, false, List, [], ◌∷◌, ◌++◌, length, Option, Some, None, refl, ap, sym, ◌∙◌, subst, arith}
+use Rattle.std.proofs.Common.{◌≡◌, ℕ, zero, suc, ◌<◌, ◌≤◌, Bool, true, false, List, [], ◌∷◌, length, Option, Some, None, refl, ap, sym, ◌∙◌, subst, arith}
 use Rattle.std.specs.Bool.{⊤}
 use Rattle.hal_base.specs.declared.refusal.Place.{Place}
 use Rattle.hal_words.specs.declared.reserved.Reserved.{Reserved}
 use Rattle.hal_words.specs.declared.word.Symbol.{Symbol}
-use Rattle.hal_words.specs.declared.word.Symbol.TheVariants as symbol
 use Rattle.hal_words.specs.declared.word.Word.{Word}
 use Rattle.hal_words.specs.declared.word.Word.TheVariants as word
-use Rattle.hal_words.specs.declared.word.Token.{Token}
 use Rattle.hal_grammar.specs.Words.{Words}
-use Rattle.hal_parse_expr.specs.Reading.{Read, Reader, followed, made_of, with_tail, or_else, decided, where_true, is_reserved, is_symbol, past, past_symbol, name_at, integer_at, before_symbol, before, listed, many, all, after_comma, parted}
+use Rattle.hal_parse_expr.specs.Reading.{Read, Reader, followed, made_of, with_tail, or_else, decided, where_true, is_reserved, is_symbol, past, past_symbol, name_at, integer_at, before_symbol, before, listed, many, all}
 
 -- what is left is below this length
 abbrev pub Below : {X : Type 0} → ℕ → Read X → Type 0

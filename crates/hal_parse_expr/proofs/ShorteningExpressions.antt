@@ -1,18 +1,16 @@
 -- The readers of expressions shorten the words.
-use Rattle.std.proofs.Common.{◌≡◌, ℕ, zero, suc, ◌<◌, ◌≤◌, List, [], ◌∷◌, length, Option, Some, None, refl, arith}
+use Rattle.std.proofs.Common.{ℕ, suc, ◌<◌, [], ◌∷◌, length, Option, Some, None, arith}
 use Rattle.hal_base.specs.declared.refusal.Place.{Place}
 use Rattle.hal_words.specs.declared.reserved.Reserved.{Reserved}
 use Rattle.hal_words.specs.declared.reserved.Reserved.TheVariants as reserved
 use Rattle.hal_words.specs.declared.word.Symbol.TheVariants as symbol
 use Rattle.hal_words.specs.declared.word.Word.{Word}
-use Rattle.hal_words.specs.declared.word.Word.TheVariants as word
-use Rattle.hal_words.specs.declared.word.Token.{Token}
-use Rattle.hal_grammar.specs.Leaves.{Conversion, Literal, Sign}
-use Rattle.hal_grammar.specs.Expressions.{Expression, Expressions, Position, Sub, FromBeginning, FromEnd, Subscripts}
+use Rattle.hal_grammar.specs.Leaves.{Sign}
+use Rattle.hal_grammar.specs.Expressions.{Expression, Expressions, Position, FromBeginning, FromEnd}
 use Rattle.hal_grammar.specs.Words.{Words}
-use Rattle.hal_parse_expr.specs.Reading.{Read, Reader, followed, past, past_symbol, name_at, integer_at, before_symbol, all, after_comma, parted}
-use Rattle.hal_parse_expr.specs.ReadingExpressions.{sign_of, sign_at, said, relation_at, plain_relation, negated_relation, further_at, factor_of, further_factor, row_at, term_of, signed_term, unsigned_sum, signed_sum, sum_of, behind, cat_of, related, comparison_of, both_of, expression_of, expressions_of, from_end, position_of, to_position, at_position, range_from, portion_from, every_at, sub_of, subs_of, components_of, arrays_then, arrays_of, copies_then, parts_of, enclosed_parts, subscript_behind, subscript_of, subscript_or_none, reference_behind, closed, named_at, converted_at, negated_at, literal_of, conversion_of, primary_behind, primary_of, primary_at, deeper_than}
-use Rattle.hal_parse_expr.proofs.Shortening.{Below, Shortens, Keeps, weaker, followed_below, made_below, tail_below, or_below, past_shortens, symbol_shortens, name_shortens, integer_shortens, before_symbol_below, all_keeps}
+use Rattle.hal_parse_expr.specs.Reading.{Read, Reader, followed, past, past_symbol, name_at, after_comma, parted}
+use Rattle.hal_parse_expr.specs.ReadingExpressions.{sign_of, sign_at, said, relation_at, plain_relation, negated_relation, further_at, factor_of, further_factor, row_at, term_of, signed_term, unsigned_sum, signed_sum, sum_of, behind, cat_of, related, comparison_of, both_of, expression_of, expressions_of, from_end, position_of, to_position, at_position, range_from, portion_from, every_at, sub_of, subs_of}
+use Rattle.hal_parse_expr.proofs.Shortening.{Below, Shortens, weaker, followed_below, made_below, tail_below, or_below, past_shortens, symbol_shortens, name_shortens, all_keeps}
 
 signed_below : (p : Place) (rest : Words) (o : Option Sign) → Below {X = Place × Sign} (suc (length rest)) (elim o [ None ↦ None | Some s ↦ Some ((p, s), rest) ])
 signed_below p rest None = tt

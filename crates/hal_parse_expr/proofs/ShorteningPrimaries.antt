@@ -1,16 +1,14 @@
 -- The readers of primaries and references shorten the words.
-use Rattle.std.proofs.Common.{◌≡◌, ℕ, zero, suc, ◌<◌, ◌≤◌, List, [], ◌∷◌, length, Option, Some, None, refl, arith}
+use Rattle.std.proofs.Common.{ℕ, zero, suc, List, [], ◌∷◌, length, Option, Some, None, arith}
 use Rattle.hal_base.specs.declared.refusal.Place.{Place}
-use Rattle.hal_words.specs.declared.reserved.Reserved.{Reserved}
 use Rattle.hal_words.specs.declared.reserved.Reserved.TheVariants as reserved
 use Rattle.hal_words.specs.declared.word.Symbol.TheVariants as symbol
 use Rattle.hal_words.specs.declared.word.Word.{Word}
 use Rattle.hal_words.specs.declared.word.Word.TheVariants as word
-use Rattle.hal_words.specs.declared.word.Token.{Token}
 use Rattle.hal_grammar.specs.Leaves.{Conversion, Literal}
-use Rattle.hal_grammar.specs.Expressions.{Expression, Expressions, Literally, Referred, Called, Subscripts, NoSubscripts}
+use Rattle.hal_grammar.specs.Expressions.{Expression, Literally, Referred, Called, Subscripts, NoSubscripts}
 use Rattle.hal_grammar.specs.Words.{Words}
-use Rattle.hal_parse_expr.specs.Reading.{Read, Reader, followed, made_of, past_symbol, name_at, integer_at, before_symbol, all}
+use Rattle.hal_parse_expr.specs.Reading.{Read, Reader, made_of, past_symbol, name_at, integer_at, all}
 use Rattle.hal_parse_expr.specs.ReadingExpressions.{further_at, expression_of, expressions_of, subs_of, components_of, arrays_then, arrays_of, copies_then, parts_of, enclosed_parts, subscript_behind, subscript_of, subscript_or_none, reference_behind, closed, named_at, converted_at, negated_at, literal_of, conversion_of, primary_behind, primary_of, primary_at, deeper_than, reference_of, reference_at}
 use Rattle.hal_parse_expr.proofs.Shortening.{Below, Shortens, Keeps, weaker, followed_below, made_below, or_below, decided_below, symbol_shortens, name_shortens, integer_shortens, before_symbol_below, all_keeps}
 use Rattle.hal_parse_expr.proofs.ShorteningExpressions.{further_shortens, expression_shortens, expressions_shortens, subs_shortens}

@@ -1,9 +1,9 @@
 -- What a reader gives, from what the readers below it give.
-use Rattle.std.proofs.Common.{◌≡◌, List, Option, Some, None, refl, ap, ap₂, sym, ◌∙◌}
+use Rattle.std.proofs.Common.{◌≡◌, List, Some, None, ap, ap₂, ◌∙◌}
 use Rattle.hal_base.specs.declared.refusal.Place.{Place}
 use Rattle.hal_grammar.specs.Expressions.{Expression, Expressions}
 use Rattle.hal_grammar.specs.Words.{Words}
-use Rattle.hal_parse_expr.specs.Reading.{Read, Reader, followed, all}
+use Rattle.hal_parse_expr.specs.Reading.{Reader, followed, all}
 use Rattle.hal_parse_expr.specs.ReadingExpressions.{row_at, row_of}
 
 pub no_row : (make : Place → Expression → Expressions → Expression) (first more : Reader Expression) (words : Words) → None ≡ first words → None ≡ row_at make first more words

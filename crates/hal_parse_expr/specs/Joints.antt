@@ -1,5 +1,4 @@
 -- The four kinds of rows: OR, AND, CAT, and factors one after another.
-use Rattle.std.specs.Prelude.{Option, Some, None}
 use Rattle.hal_base.specs.declared.refusal.Place.{Place}
 use Rattle.hal_words.specs.declared.reserved.Reserved.TheVariants as reserved
 use Rattle.hal_grammar.specs.Expressions.{Expression, Ors, Ands, Joined, Multiplied, Expressions}

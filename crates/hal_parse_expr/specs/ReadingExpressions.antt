@@ -1,20 +1,17 @@
 -- The reading of expressions: each function gives the longest phrase that the words begin with, nested at most so deep. A reader takes the reader of what
 -- it stands above; only that of primaries calls itself, with one level less.
-use Rattle.std.specs.Prelude.{ℕ, zero, suc, Bool, true, false, List, [], ◌∷◌, Option, Some, None}
+use Rattle.std.specs.Prelude.{ℕ, zero, suc, List, [], ◌∷◌, Option, Some, None}
 use Rattle.hal_base.specs.declared.refusal.Place.{Place}
 use Rattle.hal_words.specs.declared.reserved.Reserved.{Reserved}
 use Rattle.hal_words.specs.declared.reserved.Reserved.TheVariants as reserved
-use Rattle.hal_words.specs.declared.word.Symbol.{Symbol}
 use Rattle.hal_words.specs.declared.word.Symbol.TheVariants as symbol
 use Rattle.hal_words.specs.declared.word.Word.{Word}
 use Rattle.hal_words.specs.declared.word.Word.TheVariants as word
-use Rattle.hal_words.specs.declared.word.Token.{Token}
 use Rattle.hal_grammar.specs.Leaves.{Naming, Sign, Added, Subtracted, Relation, IsEqual, IsLess, IsGreater, IsAtMost, IsAtLeast, IsNotEqual, IsNotLess, IsNotGreater, Conversion, ToInteger, ToBits, ToText, Literal, WholeNumber, QuotedText, BitPattern, TrueBit, FalseBit, OnBit, OffBit}
-use Rattle.hal_grammar.specs.Expressions.{Expression, Ors, Ands, Compared, Joined, Summed, Multiplied, Powered, Negated, Literally, Thousandths, Referred, Called, Converted, Enclosed, Expressions, NoExpressions, MoreExpressions, Terms, NoTerms, MoreTerms, Reference, Refers, Subscript, Unsubscripted, ByName, ByInteger, ByParts, Subscripts, NoSubscripts, MoreSubscripts, Sub, EveryPlace, OnePlace, Range, Portion, Position, FromBeginning, FromEnd, place_of}
-use Rattle.hal_grammar.specs.Words.{Words}
+use Rattle.hal_grammar.specs.Expressions.{Expression, Ors, Ands, Compared, Joined, Summed, Multiplied, Powered, Negated, Literally, Thousandths, Referred, Called, Converted, Enclosed, Expressions, MoreExpressions, Reference, Refers, Subscript, Unsubscripted, ByName, ByInteger, ByParts, Subscripts, NoSubscripts, MoreSubscripts, Sub, EveryPlace, OnePlace, Range, Portion, Position, FromBeginning, FromEnd, place_of}
 unfoldable pub use Rattle.hal_syntax.specs.Rows.{expressions, terms, subscripts}
 pub use Rattle.hal_syntax.specs.Rows.{SignedTerm}
-use Rattle.hal_parse_expr.specs.Reading.{Read, Reader, followed, made_of, with_tail, or_else, decided, where_true, past, past_symbol, is_reserved, name_at, integer_at, before_symbol, all, parted}
+use Rattle.hal_parse_expr.specs.Reading.{Reader, followed, made_of, with_tail, or_else, decided, past, past_symbol, name_at, integer_at, before_symbol, all, parted}
 
 -- the sign that a word is
 unfoldable pub sign_of : Word → Option Sign

@@ -10,7 +10,7 @@ ghost use Rattle.hal_parse_expr.specs.Joints.{more_of};
 ghost use Rattle.hal_parse_expr.specs.Seen.{seen_as, seen_list, seen_pair};
 
 use crate::factors::{factor, further_factor};
-use crate::joint::{row, Joint};
+use crate::joint::{Joint, row};
 use crate::leading::past;
 use crate::leaves::relation;
 use crate::sums::sum;
@@ -101,11 +101,7 @@ fn related(
 /// Sums with CAT between them.
 #[cycle(expressions)]
 #[tactic(auto, using(crate::proofs::Steps::row_read, crate::proofs::Steps::no_row), unfolding(crate::specs::ReadingExpressions::cat_of, crate::specs::Joints::more_of, crate::specs::Joints::make_of, crate::specs::Seen::seen_as, crate::specs::Seen::seen_list))]
-fn chain(
-    alloc: Global,
-    words: &[Token],
-    depth: u32,
-) -> Result<Option<(Expr, &[Token])>, AllocError>
+fn chain(alloc: Global, words: &[Token], depth: u32) -> Result<Option<(Expr, &[Token])>, AllocError>
     ensures { IfOk result (λ found. seen_as seen_expression found ≡ cat_of (primary_at depth) words.now) }
 {
     let Some((first, rest)) = sum(alloc, words, depth)? else {

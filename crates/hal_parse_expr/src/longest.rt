@@ -21,10 +21,7 @@ use std::alloc::{AllocError, Global};
 ///
 /// # Errors
 /// `AllocError` where memory is wanting.
-pub fn expression(
-    alloc: Global,
-    words: &[Token],
-) -> Result<Option<(Expr, &[Token])>, AllocError>
+pub fn expression(alloc: Global, words: &[Token]) -> Result<Option<(Expr, &[Token])>, AllocError>
     ensures { IfOk result (λ found. BestOf SpellsExpression nesting NESTING_LIMIT 2 words.now (seen_as seen_expression found)) }
 {
     read_expression(alloc, words, NESTING_LIMIT)

@@ -12,7 +12,7 @@ ghost use Rattle.hal_parse_expr.specs.Seen.{seen_as, seen_as_list};
 use crate::leading::past_symbol;
 use crate::levels::expression;
 use crate::lists::expressions;
-use crate::opening::{opened_by, Opening};
+use crate::opening::{Opening, opened_by};
 use crate::references::reference_behind;
 use hal_base::Place;
 use hal_syntax::{Conversion, Expr};

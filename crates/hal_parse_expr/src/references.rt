@@ -7,7 +7,7 @@ ghost use Rattle.hal_parse_expr.specs.Seen.{seen_as};
 
 use crate::leading::past_symbol;
 use crate::leaves::{further_names, integer, name};
-use crate::subscripts::{three_parts, Parts};
+use crate::subscripts::{Parts, three_parts};
 use hal_base::Place;
 use hal_syntax::{Reference, Subscript};
 use hal_words::{Name, Symbol, Token};

@@ -1,4 +1,4 @@
-use Rattle.std.proofs.Common.{rules, ◌≡◌, sym, subst, IfOk}
+use Rattle.std.proofs.Common.{◌≡◌, sym, subst, IfOk}
 use Rattle.hal_words.specs.declared.reserved.Reserved.TheVariants as reserved
 use Rattle.hal_grammar.specs.Expressions.{Ors, Ands, Joined, Multiplied}
 use Rattle.hal_syntax.specs.SeenExpressions.{seen_expression, seen_signed, seen_sub}

@@ -1,4 +1,4 @@
-use Rattle.std.proofs.Common.{◌≡◌, ◌+◌, ◌*◌, [], ◌∷◌, length, map}
+use Rattle.std.proofs.Common.{◌≡◌, ◌+◌, ◌*◌, length, map}
 use Rattle.hal_syntax.specs.SeenExpressions.{seen_expression, seen_signed, seen_sub}
 use Rattle.hal_parse_expr.specs.Reading.{all, after_comma}
 use Rattle.hal_parse_expr.specs.ReadingExpressions.{expression_of, primary_at, signed_term, sub_of}
@@ -78,7 +78,6 @@ decreases-primaries::closed_expression l = 64 * l.depth + 1
 
 abbrev pub decreases-primaries::closed_expressions : goal.decreases-primaries::closed_expressions
 decreases-primaries::closed_expressions l = 64 * l.depth + 1
-
 
 abbrev pub decreases-primaries::converted : goal.decreases-primaries::converted
 decreases-primaries::converted l = 64 * l.depth + 2

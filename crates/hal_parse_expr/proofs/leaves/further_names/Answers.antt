@@ -1,4 +1,3 @@
-use Rattle.std.proofs.Common.{rules, ◌≡◌, length, ap, sym, ◌∙◌, Some, None}
 use Rattle.hal_syntax.specs.SeenLeaves.{seen_name}
 use Rattle.hal_parse_expr.specs.ReadingExpressions.{further_at}
 use Rattle.hal_parse_expr.specs.Seen.{seen_as, seen_list}

@@ -2,9 +2,7 @@ use Rattle.std.proofs.Common.{sym, subst}
 use Rattle.hal_base.specs.declared.limits.TheConstants.{NESTING_LIMIT}
 use Rattle.hal_grammar.specs.Expressions.{nesting}
 use Rattle.hal_grammar.specs.SpellsExpressions.{SpellsExpression}
-use Rattle.hal_syntax.specs.SeenExpressions.{seen_expression}
 use Rattle.hal_parse_expr.specs.Best.{BestOf}
-use Rattle.hal_parse_expr.specs.Seen.{seen_as}
 use Rattle.hal_parse_expr.proofs.BestPhrases.{expression_best}
 use Rattle.hal_parse_expr.proofs.Results.{IfOk-mapped}
 use Rattle.hal_parse_expr.proofs.longest.expression.Goals as goal
