@@ -6,7 +6,7 @@ use Rattle.hal_grammar.specs.GoesOn.{strength}
 use Rattle.hal_grammar.specs.SpellsExpressions.{SpellsExpression, SpellsExpressions, SpellsReference}
 use Rattle.hal_parse_expr.specs.Reading.{Read}
 use Rattle.hal_parse_expr.specs.ReadingExpressions.{expression_at, expressions_at, reference_at}
-use Rattle.hal_parse_expr.proofs.Longest.{expression_best, expressions_best, reference_best}
+use Rattle.hal_parse_expr.proofs.BestPhrases.{expression_best, expressions_best, reference_best}
 use Rattle.hal_parse_expr.specs.Best.{BestOf, nothing, found}
 use Rattle.hal_parse_expr.proofs.Readings.{Holds, holds_none, holds}
 
