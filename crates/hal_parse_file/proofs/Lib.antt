@@ -22,3 +22,6 @@ pub mod BlocksRead
 pub mod FilesRead
 pub mod ExactReadings
 pub mod ReadersShorten
+pub mod CodeLists
+pub mod CodeStatements
+pub mod CodeWords

@@ -10,6 +10,7 @@ use Rattle.hal_grammar.specs.Leaves.{Naming, Sign, Literal}
 use Rattle.hal_grammar.specs.Expressions.{Expression}
 use Rattle.hal_grammar.specs.Declarations.{Mark, SingleMark, DoubleMark, LatchedMark, StaticMark, AutomaticMark, DenseMark, AlignedMark, Kind, IntegerKind, BooleanKind, EventKind, BitKind, CharacterKind, StructureKind, Initial, Valued, LiteralTimes, NameTimes, ListTimes, Initials, NoInitials, MoreInitials, Attribute, Dimensions, Typed, Marked, LockGroup, LockAny, InitialValues, ConstantValues, Declared, declared_of, Part, part_of, Declaration, Declares, Structures}
 use Rattle.hal_grammar.specs.Words.{Words}
+unfoldable pub use Rattle.hal_syntax.specs.Rows.{initials}
 use Rattle.hal_parse_expr.specs.Reading.{Reader, followed, made_of, decided, past, past_symbol, name_at, integer_at, before_symbol, all, parted}
 use Rattle.hal_parse_expr.specs.ReadingExpressions.{sign_at, literal_of, expression_at, expressions_at}
 
@@ -87,11 +88,6 @@ counted_value inner p m words =
 -- an initial value
 unfoldable pub initial_of : ℕ → Option (Reader Initials) → Reader Initial
 initial_of n inner words = decided (count_at words) (λ f rest. counted_value inner f.0 f.1 rest) (made_of (λ t. Valued t) (expression_at n words))
-
--- initial values one after another, as a list of the grammar
-unfoldable pub initials : List Initial → Initials
-initials [] = NoInitials
-initials (t ∷ ts) = MoreInitials t (initials ts)
 
 -- one initial value or more, parted by commas
 unfoldable pub initials_of : ℕ → Option (Reader Initials) → Reader Initials

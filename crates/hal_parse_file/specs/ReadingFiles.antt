@@ -11,6 +11,8 @@ use Rattle.hal_grammar.specs.Declarations.{Declaration}
 use Rattle.hal_grammar.specs.Statements.{Statement}
 use Rattle.hal_grammar.specs.Units.{Mode, Reenters, Excludes, Precision, SinglePrecision, DoublePrecision, Returns, NoKind, HasKind, Head, ProgramHead, CompoolHead, TaskHead, ProcedureHead, FunctionHead, Block, BlockOf, Elements, NoElements, StatementFirst, BlockFirst, Template, template_of, Preface, Includes, Templates, File, file_of, stands_inside, holds_elements}
 use Rattle.hal_grammar.specs.Words.{Words}
+pub use Rattle.hal_syntax.specs.Rows.{Member as Element, OfStatement as StatementElement, OfBlock as BlockElement}
+unfoldable pub use Rattle.hal_syntax.specs.Rows.{elements}
 use Rattle.hal_parse_expr.specs.Reading.{Reader, followed, made_of, decided, or_else, where_true, past, past_symbol, name_at, before_symbol, before, all}
 use Rattle.hal_parse_file.specs.ReadingDeclarations.{in_parentheses, names_at, name_end_at, kind_at, label_at, declarations_at}
 use Rattle.hal_parse_file.specs.ReadingStatements.{statement_at}
@@ -71,17 +73,6 @@ head_behind n p other rest = None
 unfoldable pub head_at : ℕ → Reader Head
 head_at n [] = None
 head_at n (first ∷ rest) = head_behind n first.place first.word rest
-
--- what stands in a unit: a statement or a unit
-pub data Element : Type 0 where
-  StatementElement : (statement : Statement) → Element
-  BlockElement : (block : Block) → Element
-
--- what stands in a unit, as a list of the grammar
-unfoldable pub elements : List Element → Elements
-elements [] = NoElements
-elements (StatementElement s ∷ es) = StatementFirst s (elements es)
-elements (BlockElement u ∷ es) = BlockFirst u (elements es)
 
 -- the head of a unit
 abbrev pub head_of : Block → Head

@@ -8,8 +8,9 @@ use Rattle.hal_words.specs.declared.word.Word.{Word}
 use Rattle.hal_words.specs.declared.word.Word.TheVariants as word
 use Rattle.hal_grammar.specs.Leaves.{Naming}
 use Rattle.hal_grammar.specs.Expressions.{Expression, Expressions, NoExpressions, MoreExpressions, Reference}
-use Rattle.hal_grammar.specs.Statements.{Guard, AsLong, Unless, Span, Stepped, Listed, Selector, EveryError, GroupErrors, OneError, EventAction, Pulses, Raises, Lowers, Eventful, eventful, Response, BySystem, Ignored, Start, StartAt, StartIn, StartOn, Cycle, Cyclic, CyclicEvery, CyclicAfter, Schedule, scheduling, Statement, Labelled, Basic, Empty, Assigned, Chosen, Grouped, Selected, Looped, Ranged, Left, Repeated, Returned, CallsBlock, Inputs, Outputs, Updates, Scheduled, Cancelled, Terminated, Waits, WaitsUntil, WaitsForDependents, WaitsFor, Acts, Prioritizes, Handles, Answers, Forgets, Sends, Alternative, NoAlternative, Otherwise, Group, Groups, Statements, NoStatements, MoreStatements}
+use Rattle.hal_grammar.specs.Statements.{Guard, AsLong, Unless, Span, Stepped, Listed, Selector, EveryError, GroupErrors, OneError, EventAction, Pulses, Raises, Lowers, Eventful, eventful, Response, BySystem, Ignored, Start, StartAt, StartIn, StartOn, Cycle, Cyclic, CyclicEvery, CyclicAfter, Schedule, scheduling, Statement, Labelled, Basic, Empty, Assigned, Chosen, Grouped, Selected, Looped, Ranged, Left, Repeated, Returned, CallsBlock, Inputs, Outputs, Updates, Scheduled, Cancelled, Terminated, Waits, WaitsUntil, WaitsForDependents, WaitsFor, Acts, Prioritizes, Handles, Answers, Forgets, Sends, Alternative, NoAlternative, Otherwise, Group, Groups}
 use Rattle.hal_grammar.specs.Words.{Words}
+unfoldable pub use Rattle.hal_syntax.specs.Rows.{statements}
 use Rattle.hal_parse_expr.specs.Reading.{Reader, followed, made_of, decided, past, past_symbol, name_at, integer_at, before_symbol, before, all, after_comma, parted}
 use Rattle.hal_parse_expr.specs.ReadingExpressions.{closed, expressions, expressions_of, deeper_than, expression_at, expressions_at, reference_at}
 use Rattle.hal_parse_file.specs.ReadingDeclarations.{in_parentheses, where_left, first_and_others, names_at, name_end_at, label_at}
@@ -246,11 +247,6 @@ unfoldable pub sends_at : Place → Reader Basic
 sends_at p words =
     followed (past reserved.Error words) (λ q rest. followed (past_symbol symbol.Dollar rest) (λ r after.
     followed (past_symbol symbol.LeftParenthesis after) (λ s last. error_sent p last)))
-
--- statements one after another, as a list of the grammar
-unfoldable pub statements : List Statement → Statements
-statements [] = NoStatements
-statements (s ∷ ss) = MoreStatements s (statements ss)
 
 -- ELSE and a statement inside, or none
 unfoldable pub alternative_of : Option (Reader Statement) → Reader Alternative
