@@ -57,8 +57,8 @@ one_returns_end (has_kind k d) (has_kind l e) =
 procedure_same : {p : Place} {i j o u : List Naming} {m n : Option Mode} → i ≡ j → o ≡ u → m ≡ n → ProcedureHead p i o m ≡ ProcedureHead p j u n
 procedure_same e f g = cc
 
-function_same : {p : Place} {i j o u : List Naming} {r s : Returns} {m n : Option Mode} → i ≡ j → o ≡ u → r ≡ s → m ≡ n → FunctionHead p i o r m ≡ FunctionHead p j u s n
-function_same e f g h = cc
+function_same : {p : Place} {i j : List Naming} {r s : Returns} {m n : Option Mode} → i ≡ j → r ≡ s → m ≡ n → FunctionHead p i r m ≡ FunctionHead p j s n
+function_same e f g = cc
 
 pub one_head : {h k : Head} {b a c : Words} → SpellsHead h b a → SpellsHead k b c → (h ≡ k) × (a ≡ c)
 one_head program_head program_head = (refl, refl)
@@ -68,17 +68,16 @@ one_head (procedure_head i o m) (procedure_head j u n) =
     let r = one_inputs i j in
     let s = one_outputs o (back SpellsOutputs r.1 u) in
     let t = one_mode_end m (back SpellsModeEnd s.1 n) in (procedure_same r.0 s.0 t.0, t.1)
-one_head (function_head i o m) (function_head j u n) =
+one_head (function_head i m) (function_head j n) =
     let r = one_inputs i j in
-    let s = one_outputs o (back SpellsOutputs r.1 u) in
-    let t = one_returns_end m (back₂ SpellsReturnsEnd s.1 n) in (function_same r.0 s.0 t.0 t.1, t.2)
+    let s = one_returns_end m (back₂ SpellsReturnsEnd r.1 n) in (function_same r.0 s.0 s.1, s.2)
 
 head_starts : {h : Head} {b a : Words} → SpellsHead h b a → starts b ≡ 2
 head_starts program_head = refl
 head_starts compool_head = refl
 head_starts task_head = refl
 head_starts (procedure_head i o m) = refl
-head_starts (function_head i o m) = refl
+head_starts (function_head i m) = refl
 
 -- a statement is no unit
 statement_apart : {s : Statement} {u : Block} {b a c : Words} → SpellsStatement s b a → SpellsBlock u b c → ⊥

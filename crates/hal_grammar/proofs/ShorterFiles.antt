@@ -34,7 +34,7 @@ head_shorter program_head = omega arith
 head_shorter compool_head = omega arith
 head_shorter task_head = omega arith
 head_shorter (procedure_head i o m) = omega (arith, inputs_shorter i, outputs_shorter o, mode_shorter m)
-head_shorter (function_head i o m) = omega (arith, inputs_shorter i, outputs_shorter o, returns_shorter m)
+head_shorter (function_head i m) = omega (arith, inputs_shorter i, returns_shorter m)
 
 mutual
   pub block_shorter : {u : Block} {b a : Words} → SpellsBlock u b a → length a < length b

@@ -51,8 +51,8 @@ pub data SpellsHead : Head → Words → Words → Type 0 where
   task_head : {p q : Place} {after : Words} → SpellsHead (TaskHead p) (reserved_then reserved.Task p (symbol_then symbol.Semicolon q after)) after
   procedure_head : {p : Place} {ins outs : List Naming} {m : Option Mode} {before middle rest after : Words} → SpellsInputs ins before middle → SpellsOutputs outs middle rest →
       SpellsModeEnd m rest after → SpellsHead (ProcedureHead p ins outs m) (reserved_then reserved.Procedure p before) after
-  function_head : {p : Place} {ins outs : List Naming} {r : Returns} {m : Option Mode} {before middle rest after : Words} → SpellsInputs ins before middle →
-      SpellsOutputs outs middle rest → SpellsReturnsEnd r m rest after → SpellsHead (FunctionHead p ins outs r m) (reserved_then reserved.Function p before) after
+  function_head : {p : Place} {ins : List Naming} {r : Returns} {m : Option Mode} {before middle after : Words} → SpellsInputs ins before middle →
+      SpellsReturnsEnd r m middle after → SpellsHead (FunctionHead p ins r m) (reserved_then reserved.Function p before) after
 
 mutual
   -- a unit; a COMPOOL holds no elements

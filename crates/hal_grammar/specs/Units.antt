@@ -22,7 +22,7 @@ pub data Returns : Type 0 where
 pub data Head : Type 0 where
   ProgramHead CompoolHead TaskHead : (place : Place) → Head
   ProcedureHead : (place : Place) (inputs outputs : List Naming) (mode : Option Mode) → Head
-  FunctionHead : (place : Place) (inputs outputs : List Naming) (returns : Returns) (mode : Option Mode) → Head
+  FunctionHead : (place : Place) (inputs : List Naming) (returns : Returns) (mode : Option Mode) → Head
 
 mutual
   -- a unit, with the name after CLOSE; the place is that of its name
@@ -66,7 +66,7 @@ stands_inside (ProgramHead place) = false
 stands_inside (CompoolHead place) = false
 stands_inside (TaskHead place) = true
 stands_inside (ProcedureHead place inputs outputs mode) = true
-stands_inside (FunctionHead place inputs outputs returns mode) = true
+stands_inside (FunctionHead place inputs returns mode) = true
 
 -- a COMPOOL holds declarations alone
 abbrev pub holds_elements : Head → Bool
@@ -74,7 +74,7 @@ holds_elements (ProgramHead place) = true
 holds_elements (CompoolHead place) = false
 holds_elements (TaskHead place) = true
 holds_elements (ProcedureHead place inputs outputs mode) = true
-holds_elements (FunctionHead place inputs outputs returns mode) = true
+holds_elements (FunctionHead place inputs returns mode) = true
 
 -- a FUNCTION's result is as deep as its type
 abbrev pub nesting_of_returns : Returns → ℕ
@@ -87,7 +87,7 @@ nesting_of_head (ProgramHead place) = 0
 nesting_of_head (CompoolHead place) = 0
 nesting_of_head (TaskHead place) = 0
 nesting_of_head (ProcedureHead place inputs outputs mode) = 0
-nesting_of_head (FunctionHead place inputs outputs returns mode) = nesting_of_returns returns
+nesting_of_head (FunctionHead place inputs returns mode) = nesting_of_returns returns
 
 -- a unit is one deeper than what it stands in
 abbrev mutual

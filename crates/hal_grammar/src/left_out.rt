@@ -56,10 +56,8 @@ pub fn left_out_of_schedules()
 /// What follows a part of a unit that is left out.
 pub fn left_out_of_units()
     ensures inputs { (ns : List Naming) (m : Option Mode) (b middle a : Words) → SpellsOutputs ns b middle → SpellsModeEnd m middle a → ¬ BeginsSymbol symbol.LeftParenthesis b }
-    ensures inputs_of_function { (ns : List Naming) (r : Returns) (m : Option Mode) (b middle a : Words) → SpellsOutputs ns b middle → SpellsReturnsEnd r m middle a →
-        ¬ BeginsSymbol symbol.LeftParenthesis b }
+    ensures inputs_of_function { (r : Returns) (m : Option Mode) (b a : Words) → SpellsReturnsEnd r m b a → ¬ BeginsSymbol symbol.LeftParenthesis b }
     ensures outputs { (m : Option Mode) (b a : Words) → SpellsModeEnd m b a → ¬ BeginsReserved reserved.Assign b }
-    ensures outputs_of_function { (r : Returns) (m : Option Mode) (b a : Words) → SpellsReturnsEnd r m b a → ¬ BeginsReserved reserved.Assign b }
     ensures declarations { (es : Elements) (c : Option Naming) (b a : Words) → SpellsElements es c b a → ¬ BeginsReserved reserved.Declare b × ¬ BeginsReserved reserved.Structure b }
     ensures declarations_of_template { (p : Place) (a : Words) → ¬ BeginsReserved reserved.Declare (reserved_then reserved.Close p a) × ¬ BeginsReserved reserved.Structure (reserved_then reserved.Close p a) }
 {}

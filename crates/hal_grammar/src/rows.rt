@@ -121,7 +121,7 @@ pub fn words_of_larger_trees()
     // `INCLUDE C`, `T: EXTERNAL FUNCTION(X) INTEGER DOUBLE; CLOSE;`, `P: COMPOOL; CLOSE P;`
     ensures file { (a b c d e f g h i j k l m n o p q r s t u : Place) → SpellsFile
         (file_of (Includes a (naming b (codes "C")) ∷ Templates (template_of (naming c (codes "T"))
-        (FunctionHead f (naming h (codes "X") ∷ []) [] (HasKind (IntegerKind j) (Some (DoublePrecision k))) None) [] None) ∷ [])
+        (FunctionHead f (naming h (codes "X") ∷ []) (HasKind (IntegerKind j) (Some (DoublePrecision k))) None) [] None) ∷ [])
         (BlockOf (naming o (codes "P")) (CompoolHead q) [] NoElements (Some (naming t (codes "P")))))
         (reserved_then reserved.Include a (name_then (codes "C") b
         (name_then (codes "T") c (symbol_then symbol.Colon d (reserved_then reserved.External e (reserved_then reserved.Function f

@@ -7,13 +7,10 @@ pub returns-clause-inputs : goal.returns-clause-inputs
 returns-clause-inputs c ns m b middle a d e h = omega (arith, outputs_code d (mode_code e), begins_code h)
 
 pub returns-clause-inputs_of_function : goal.returns-clause-inputs_of_function
-returns-clause-inputs_of_function c ns r m b middle a d e h = omega (arith, outputs_code d (returns_code e), begins_code h)
+returns-clause-inputs_of_function c r m b a d h = omega (arith, returns_code d, begins_code h)
 
 pub returns-clause-outputs : goal.returns-clause-outputs
 returns-clause-outputs c m b a d h = omega (arith, mode_code d, begins_code h)
-
-pub returns-clause-outputs_of_function : goal.returns-clause-outputs_of_function
-returns-clause-outputs_of_function c r m b a d h = omega (arith, returns_code d, begins_code h)
 
 pub returns-clause-declarations : goal.returns-clause-declarations
 returns-clause-declarations c es c' b a d = (λ h. (elements_code d).1 (begins_code h), λ h. (elements_code d).2 (begins_code h))

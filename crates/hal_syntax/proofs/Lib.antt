@@ -1,0 +1,4 @@
+pub mod MadeExpressions
+pub mod MadeDeclarations
+pub mod MadeStatements
+pub mod MadeUnits

@@ -1,0 +1,6 @@
+pub mod Rows
+pub mod SeenLeaves
+pub mod SeenExpressions
+pub mod SeenDeclarations
+pub mod SeenStatements
+pub mod SeenUnits

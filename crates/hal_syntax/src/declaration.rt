@@ -1,0 +1,132 @@
+//! Declarations. A node's place is that of its first word.
+
+use crate::expression::Expr;
+use crate::leaf::{Identifier, LiteralValue, Sign};
+use hal_base::Place;
+use hal_words::Name;
+
+/// An attribute of one word: SINGLE, DOUBLE, LATCHED, STATIC, AUTOMATIC, DENSE, ALIGNED.
+#[derive(Clone, Copy, Debug, PartialEq, Eq)]
+pub enum Mark {
+    Single,
+    Double,
+    Latched,
+    Static,
+    Automatic,
+    Dense,
+    Aligned,
+}
+
+/// A type.
+#[derive(Drop)]
+pub enum Type {
+    /// `INTEGER`
+    Integer {
+        place: Place,
+    },
+    /// `BOOLEAN`
+    Boolean {
+        place: Place,
+    },
+    /// `EVENT`
+    Event {
+        place: Place,
+    },
+    /// `BIT(size)`
+    Bit {
+        place: Place,
+        size: Expr,
+    },
+    /// `CHARACTER(size)`
+    Character {
+        place: Place,
+        size: Expr,
+    },
+    /// `template-STRUCTURE(copies)`
+    Structure {
+        place: Place,
+        template: Name,
+        copies: Option<Expr>,
+    },
+}
+
+/// An initial value, or a count and what it repeats. The place is that of the count.
+#[derive(Drop)]
+#[cycle(initials)]
+pub enum Initial {
+    Value {
+        value: Expr,
+    },
+    /// `3#-1`; `at` is the literal's place.
+    LiteralTimes {
+        place: Place,
+        count: u32,
+        sign: Option<Sign>,
+        at: Place,
+        literal: LiteralValue,
+    },
+    /// `3#-A`
+    NameTimes {
+        place: Place,
+        count: u32,
+        sign: Option<Sign>,
+        name: Identifier,
+    },
+    /// `3#(1, 2)`
+    ListTimes {
+        place: Place,
+        count: u32,
+        values: Vec<Initial>,
+    },
+}
+
+/// An attribute of what is declared.
+#[derive(Drop)]
+pub enum Attribute {
+    /// `ARRAY(2, 3)`
+    Dimensions { place: Place, sizes: Vec<Expr> },
+    Typed(Type),
+    /// `SINGLE`
+    Marked { place: Place, mark: Mark },
+    /// `LOCK(1)`
+    LockGroup { place: Place, group: Expr },
+    /// `LOCK(*)`
+    LockAny { place: Place },
+    /// `INITIAL(1, 2)`
+    Initial { place: Place, values: Vec<Initial> },
+    /// `CONSTANT(1, 2)`
+    Constant { place: Place, values: Vec<Initial> },
+}
+
+/// A name that is declared, and its attributes: the `A INTEGER` of `DECLARE A INTEGER;`.
+#[derive(Drop)]
+pub struct Declared {
+    pub name: Identifier,
+    pub attributes: Vec<Attribute>,
+}
+
+/// A part of a structure: the `1 A INTEGER` of `STRUCTURE S: 1 A INTEGER;`. The place is that of its level.
+#[derive(Drop)]
+pub struct Part {
+    pub place: Place,
+    pub level: u32,
+    pub name: Identifier,
+    pub attributes: Vec<Attribute>,
+}
+
+/// A declaration.
+#[derive(Drop)]
+pub enum Declaration {
+    /// `DECLARE INTEGER, A, B DOUBLE;`; `common` are the attributes before the first comma.
+    Declare {
+        place: Place,
+        common: Vec<Attribute>,
+        items: Vec<Declared>,
+    },
+    /// `STRUCTURE name: 1 A INTEGER, 1 B;`
+    Structure {
+        place: Place,
+        name: Identifier,
+        parts: Vec<Part>,
+    },
+}
