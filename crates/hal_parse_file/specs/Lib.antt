@@ -1,4 +1,0 @@
-pub mod ReadingDeclarations
-pub mod ReadingStatements
-pub mod ReadingFiles
-pub mod Beginnings
