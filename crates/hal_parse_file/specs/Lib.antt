@@ -1,0 +1,4 @@
+pub mod ReadingDeclarations
+pub mod ReadingStatements
+pub mod ReadingFiles
+pub mod Beginnings
