@@ -25,3 +25,5 @@ pub mod ReadersShorten
 pub mod CodeLists
 pub mod CodeStatements
 pub mod CodeWords
+pub mod CodeStuck
+pub mod Answered

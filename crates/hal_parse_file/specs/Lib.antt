@@ -2,3 +2,5 @@ pub mod ReadingDeclarations
 pub mod ReadingStatements
 pub mod ReadingFiles
 pub mod Beginnings
+pub mod Stuck
+pub mod Parsed
