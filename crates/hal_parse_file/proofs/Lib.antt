@@ -27,3 +27,7 @@ pub mod CodeStatements
 pub mod CodeWords
 pub mod CodeStuck
 pub mod Answered
+pub mod CodeDeclarations
+pub mod CodeInitials
+pub mod CodeItems
+pub mod CodeUnits

@@ -4,3 +4,5 @@ pub mod ReadingFiles
 pub mod Beginnings
 pub mod Stuck
 pub mod Parsed
+pub mod DeclarationWords
+pub mod Headings
