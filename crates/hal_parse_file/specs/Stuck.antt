@@ -14,13 +14,14 @@ unfoldable pub where_read : {X Z : Type 0} → Read X → (X → Words → Z) �
 where_read None next other = other
 where_read (Some f) next other = next f.0 f.1
 
--- at the end of a unit: behind it, at a CLOSE that isn't ended, or in a unit that stands there
-unfoldable pub close_stuck : (Words → Words) → Words → Words
-close_stuck inside words = where_read (past reserved.Close words) (λ p rest. where_read (name_end_at rest) (λ c after. after) words) (inside words)
+-- at the end of a unit: behind it, at a CLOSE that isn't ended, or in a unit that stands there, where this one holds any
+unfoldable pub close_stuck : (Words → Words) → Bool → Words → Words
+close_stuck inside holds words =
+    where_read (past reserved.Close words) (λ p rest. where_read (name_end_at rest) (λ c after. after) words) (if holds then inside words else words)
 
 -- behind the head of a unit
 unfoldable pub body_stuck : ℕ → (Words → Words) → Head → Words → Words
-body_stuck n inside h words = close_stuck inside (elements_of n (block_at n) (holds_elements h) (declarations_at n words).1).1
+body_stuck n inside h words = close_stuck inside (holds_elements h) (elements_of n (block_at n) (holds_elements h) (declarations_at n words).1).1
 
 -- behind its name
 unfoldable pub headed_stuck : ℕ → Bool → (Words → Words) → Words → Words → Words

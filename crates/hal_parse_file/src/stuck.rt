@@ -99,17 +99,26 @@ fn stuck_behind_head(
     let (_, behind) = declarations(alloc, words, depth)?;
     let held = holds_elements(&head);
     let (_, end) = elements(alloc, held, behind, depth)?;
-    stuck_at_close(alloc, end, depth)
+    stuck_at_close(alloc, held, end, depth)
 }
 
-/// At the end of a unit.
+/// At the end of a unit, which may hold others or not.
 #[cycle(stuck)]
 #[tactic(auto, unfolding(crate::specs::Stuck::close_stuck, crate::specs::Stuck::where_read, hal_parse_expr::specs::Seen::seen_as, hal_parse_expr::specs::Seen::seen))]
-fn stuck_at_close(alloc: Global, words: &[Token], depth: u32) -> Result<&[Token], AllocError>
-    ensures { IfOk result (λ rest. rest.now ≡ close_stuck (block_stuck depth false) words.now) }
+fn stuck_at_close(
+    alloc: Global,
+    held: bool,
+    words: &[Token],
+    depth: u32,
+) -> Result<&[Token], AllocError>
+    ensures { IfOk result (λ rest. rest.now ≡ close_stuck (block_stuck depth false) held words.now) }
 {
     let Some((_, behind)) = past(words, Reserved::Close) else {
-        return stuck_in_unit(alloc, words, depth, false);
+        return if held {
+            stuck_in_unit(alloc, words, depth, false)
+        } else {
+            Ok(words)
+        };
     };
     match name_end(behind) {
         Some((_, rest)) => Ok(rest),
