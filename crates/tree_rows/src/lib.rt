@@ -3,7 +3,21 @@
 #![tactic(auto)]
 
 #[cfg(test)]
+mod broken;
+#[cfg(test)]
+mod declared;
+#[cfg(test)]
+mod files;
+#[cfg(test)]
+mod nesting;
+#[cfg(test)]
 mod pen;
+#[cfg(test)]
+mod phrases;
+#[cfg(test)]
+mod places;
+#[cfg(test)]
+mod programs;
 #[cfg(test)]
 mod row;
 #[cfg(test)]

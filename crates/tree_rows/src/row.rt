@@ -93,28 +93,42 @@ fn write_fault(fault: &Fault, pen: &mut Pen) -> Result<(), AllocError> {
     }
 }
 
-/// What a file gives.
-fn write_given(source: Source, text: &str, pen: &mut Pen, alloc: Global) -> Result<(), AllocError> {
-    match tokens(alloc, text.as_bytes(), UNIT) {
-        Err(fault) => write_fault(&fault, pen),
-        Ok(words) => match parse(alloc, words.as_slice()) {
-            Err(fault) => write_fault(&fault, pen),
-            Ok(tree) => write_tree(source, &tree, pen),
-        },
-    }
+/// The tree of a source's file, or what keeps it from having one.
+fn tree_of(alloc: Global, source: Source, text: &str) -> Result<File, Fault> {
+    let Ok(text) = format!(in alloc; "{}{text}{}", source.before(), source.behind()) else {
+        return Err(Fault::Memory(AllocError));
+    };
+    let words = tokens(alloc, text.as_bytes(), UNIT)?;
+    parse(alloc, words.as_slice())
 }
 
 /// What a source gives.
-pub(crate) fn given(
+fn given(
     alloc: Global,
     source: Source,
     has_places: bool,
     text: &str,
 ) -> Result<String, AllocError> {
-    let text = format!(in alloc; "{}{text}{}", source.before(), source.behind())?;
     let mut pen = Pen::new(alloc, has_places);
-    write_given(source, text.as_str(), &mut pen, alloc)?;
+    match tree_of(alloc, source, text) {
+        Err(fault) => write_fault(&fault, &mut pen)?,
+        Ok(tree) => write_tree(source, &tree, &mut pen)?,
+    }
     Ok(pen.into_text())
+}
+
+/// The rule that a source breaks, and its place.
+pub(crate) fn broken(
+    alloc: Global,
+    source: Source,
+    text: &str,
+) -> Result<Option<String>, AllocError> {
+    let Err(fault) = tree_of(alloc, source, text) else {
+        return Ok(None);
+    };
+    let mut pen = Pen::new(alloc, false);
+    write_fault(&fault, &mut pen)?;
+    Ok(Some(pen.into_text()))
 }
 
 /// Adds a row to those that are told, with what the program gives in its place, unless it is kept.
