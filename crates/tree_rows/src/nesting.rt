@@ -1,12 +1,12 @@
 //! Nesting, which is 64 at most, and of which the PROGRAM around a row's source is the first. A row is written `before~opening~middle~closing~behind`,
-//! and says how many times its opening and its closing may stand there, and what once more of them breaks; or that so many as are tried
-//! may stand there.
+//! and says how many times its opening and its closing may stand there, and what once more of them breaks; or that 150 may stand there.
+//! Once less, so many and once more are tried.
 
 use crate::row::{ARROW, Source, broken, tell_unless_kept};
 use std::alloc::{AllocError, Global};
 use std::test::Fail;
 
-/// So many times are tried.
+/// So many times are tried at most.
 const MOST: usize = 150;
 
 /// What counts once.
@@ -187,26 +187,44 @@ fn source_of(alloc: Global, nest: Nest<'_>, count: usize) -> Result<String, Allo
     Ok(text)
 }
 
-/// How many times they may stand there, and what once more breaks.
-fn deepest(alloc: Global, source: Source, nest: Nest<'_>) -> Result<String, AllocError> {
-    for count in 1..=MOST {
+/// The number that a text begins with, no more than `MOST`.
+fn number(text: &str) -> usize {
+    let mut number = 0;
+    for byte in text.as_bytes() {
+        if !byte.is_ascii_digit() || MOST <= number {
+            break;
+        }
+        number = number * 10 + usize::from(*byte - b'0');
+    }
+    number.min(MOST)
+}
+
+/// How many times they may stand there, and what once more breaks, where they are tried about so many times.
+fn deepest(
+    alloc: Global,
+    source: Source,
+    nest: Nest<'_>,
+    about: usize,
+) -> Result<String, AllocError> {
+    let last = (about + 1).min(MOST);
+    for count in about.saturating_sub(1)..=last {
         let text = source_of(alloc, nest, count)?;
         if let Some(fault) = broken(alloc, source, text.as_str())? {
-            return format!(in alloc; "{}, then {fault}", count - 1);
+            return format!(in alloc; "{}, then {fault}", count.saturating_sub(1));
         }
     }
-    format!(in alloc; "{MOST}")
+    format!(in alloc; "{last}")
 }
 
 /// A row as the program gives it.
 fn of_row(alloc: Global, source: Source, row: &str) -> Result<String, AllocError> {
-    let Some((notation, _)) = row.split_once(ARROW) else {
+    let Some((notation, said)) = row.split_once(ARROW) else {
         return String::from_str(alloc, "a row with no source");
     };
     let Some(nest) = nest(notation) else {
         return String::from_str(alloc, "a row with nothing to repeat");
     };
-    let deepest = deepest(alloc, source, nest)?;
+    let deepest = deepest(alloc, source, nest, number(said))?;
     format!(in alloc; "{notation}{ARROW}{deepest}")
 }
 
