@@ -579,7 +579,7 @@ const EMPTY: [&str; 5] = [
 ];
 
 /// Files.
-const FILES: [&str; 60] = [
+const FILES: [&str; 92] = [
     " P PROGRAM; CLOSE; => rule 401 1:2",
     " PROGRAM; CLOSE; => rule 401 1:2",
     " P: PROGRAM CLOSE; => rule 401 1:2",
@@ -639,6 +639,38 @@ const FILES: [&str; 60] = [
     " T: EXTERNAL TASK; CLOSE; P: PROGRAM; A; CLOSE; => rule 401 1:39",
     " T: EXTERNAL TASK; CLOSE; P: PROGRAM(A); CLOSE; => rule 401 1:27",
     " P: PROGRAM; A; B; CLOSE; => rule 401 1:14",
+    " P => rule 401 1:2",
+    " P: => rule 401 1:2",
+    " P: PROGRAM => rule 401 1:2",
+    " Q: PROCEDURE(A => rule 401 1:2",
+    " P: EXTERNAL => rule 401 1:2",
+    "D INCLUDE TEMPLATE A\n => rule 401 1:20",
+    "D INCLUDE TEMPLATE A\nD INCLUDE TEMPLATE B\n => rule 401 2:20",
+    " T: EXTERNAL TASK; CLOSE; => rule 401 1:25",
+    "D INCLUDE TEMPLATE A\n T: EXTERNAL TASK; CLOSE => rule 401 2:2",
+    " T: EXTERNAL PROGRAM; A = 1; CLOSE; P: PROGRAM; CLOSE; => rule 401 1:2",
+    " T: EXTERNAL PROGRAM; DECLARE; CLOSE; P: PROGRAM; CLOSE; => rule 401 1:2",
+    " T: EXTERNAL PROGRAM; CLOSE A B; P: PROGRAM; CLOSE; => rule 401 1:2",
+    " T: EXTERNAL; CLOSE; P: PROGRAM; CLOSE; => rule 401 1:2",
+    " T: EXTERNAL PROCEDURE(); CLOSE; P: PROGRAM; CLOSE; => rule 401 1:2",
+    " T: EXTERNAL TASK; CLOSE; T: EXTERNAL TASK CLOSE; P: PROGRAM; CLOSE; => rule 401 1:27",
+    " C: COMPOOL; T: TASK; A; CLOSE; CLOSE; => rule 401 1:14",
+    " C: COMPOOL; T: TASK; CLOSE; => rule 401 1:14",
+    " C: COMPOOL; C: COMPOOL; CLOSE; CLOSE; => rule 401 1:14",
+    " C: COMPOOL; Q: PROCEDURE => rule 401 1:14",
+    " P: PROGRAM; Q: COMPOOL; DECLARE A; CLOSE; CLOSE; => rule 401 1:14",
+    " P: PROGRAM; T: TASK; CLOSE => rule 401 1:23",
+    " P: PROGRAM; T: TASK => rule 401 1:14",
+    " P: PROGRAM; A = 1; T: => rule 401 1:21",
+    " P: PROGRAM; T => rule 401 1:14",
+    " P: PROGRAM; DO; A = 1; => rule 401 1:14",
+    " P: PROGRAM; UPDATE; A = 1; => rule 401 1:14",
+    " P: PROGRAM; IF A THEN => rule 401 1:14",
+    " P: PROGRAM; DECLARE A => rule 401 1:14",
+    " P: PROGRAM; Q: PROCEDURE; T: TASK; A; CLOSE; CLOSE; CLOSE; => rule 401 1:37",
+    " P: PROGRAM; Q: PROCEDURE; T: TASK; A = 1; => rule 401 1:42",
+    " P: PROGRAM; Q: PROCEDURE; T: TASK; CLOSE; CLOSE; => rule 401 1:49",
+    " P: PROGRAM; Q: PROCEDURE; T: TASK; CLOSE; B; CLOSE; CLOSE; => rule 401 1:44",
     " P: PROGRAM; A; CLOSE; CLOSE; => rule 401 1:14",
 ];
 

@@ -133,8 +133,22 @@ const UNCOUNTED: [&str; 46] = [
     "DO CASE K; ~; ~~~END; => 150",
 ];
 
+/// Units, which give the place of the first that is nested too deep.
+const UNITS: [&str; 9] = [
+    "~T: TASK; ~~CLOSE; ~ => 63, then rule 401 2:569",
+    "~T: TASK; ~A = 1; ~CLOSE; ~ => 63, then rule 401 2:569",
+    "~T: TASK; ~A = (1); ~CLOSE; ~ => 62, then rule 401 2:569",
+    "~T: TASK; ~UPDATE; CLOSE; ~CLOSE; ~ => 62, then rule 401 2:569",
+    "~T: TASK; ~DO; END; ~CLOSE; ~ => 63, then rule 401 2:569",
+    "~T: TASK; ~DO; ; END; ~CLOSE; ~ => 62, then rule 401 2:569",
+    "T: TASK; A = ~(~1~)~; CLOSE; => 62, then rule 401 2:11",
+    "~T: TASK; DO; END; ~~CLOSE; ~ => 63, then rule 401 2:1136",
+    "UPDATE; ~DO; ~; ~END; ~CLOSE; => 62, then rule 401 2:2",
+];
+
 /// Whole files, where nothing stands around.
-const FILES: [&str; 7] = [
+const FILES: [&str; 8] = [
+    " ~T: TASK; ~~CLOSE; ~ => 64, then rule 401 1:578",
     " T: EXTERNAL COMPOOL; DECLARE A ARRAY(~(~1~)~); CLOSE; P: PROGRAM; CLOSE; => 64, then rule 401 1:2",
     " T: EXTERNAL COMPOOL; DECLARE A INITIAL(~2#(~1~)~); CLOSE; P: PROGRAM; CLOSE; => 64, then rule 401 1:2",
     " T: EXTERNAL FUNCTION BIT(~(~1~)~); CLOSE; P: PROGRAM; CLOSE; => 64, then rule 401 1:2",
@@ -244,6 +258,7 @@ fn nesting_is_64_at_most(rt: HostRuntime) -> Result<(), Fail> {
     tell(alloc, Source::Inside, &COUNTED, &mut told)?;
     tell(alloc, Source::Inside, &JOINED, &mut told)?;
     tell(alloc, Source::Inside, &UNCOUNTED, &mut told)?;
+    tell(alloc, Source::Inside, &UNITS, &mut told)?;
     tell(alloc, Source::File, &FILES, &mut told)?;
     assert!(rt; told.is_empty(), "{told}");
     Ok(())

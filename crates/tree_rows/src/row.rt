@@ -87,7 +87,11 @@ fn write_fault(fault: &Fault, pen: &mut Pen) -> Result<(), AllocError> {
             pen.number(refusal.place.line)?;
             pen.tail(":")?;
             pen.join();
-            pen.number(refusal.place.column)
+            pen.number(refusal.place.column)?;
+            if refusal.place.unit != UNIT {
+                pen.word("of another file")?;
+            }
+            Ok(())
         }
         Fault::Memory(_) => Err(AllocError),
     }
@@ -99,7 +103,7 @@ fn tree_of(alloc: Global, source: Source, text: &str) -> Result<File, Fault> {
         return Err(Fault::Memory(AllocError));
     };
     let words = tokens(alloc, text.as_bytes(), UNIT)?;
-    parse(alloc, words.as_slice())
+    parse(alloc, words.as_slice(), UNIT)
 }
 
 /// What a source gives.
