@@ -42,6 +42,25 @@ const CALLING: [&str; 9] = [
     " F: FUNCTION(X, Y) CHARACTER(10); DECLARE CHARACTER(5), X, Y; IF X = Y THEN RETURN X; RETURN X CAT Y; CLOSE F; => (unit F (function [X Y] (character 10)) [(declare [(character 5)] [X Y])] [(if (= X Y) (return X)) (return (cat X Y))] close F)",
 ];
 
+/// Units with a little of everything.
+const MIXED: [&str; 15] = [
+    " LIMITS: COMPOOL; DECLARE INTEGER CONSTANT(5), A, B; DECLARE TABLE ARRAY(2, 2) INTEGER CONSTANT(1, 2, 3, 4); STRUCTURE POINT: 1 X INTEGER, 1 Y INTEGER; DECLARE ORIGIN POINT-STRUCTURE CONSTANT(0, 0); CLOSE LIMITS; => (unit LIMITS compool [(declare [integer (constant 5)] [A B]) (declare [] [(TABLE (array 2 2) integer (constant 1 2 3 4))]) (structure POINT [(1 X integer) (1 Y integer)]) (declare [] [(ORIGIN (of POINT) (constant 0 0))])] [] close LIMITS)",
+    "D INCLUDE TEMPLATE LIMITS\n SCAN: FUNCTION(N) INTEGER; DECLARE N INTEGER; DO FOR TEMPORARY I = 1 TO 2; DO FOR TEMPORARY J = 1 TO 2; IF TABLE$(I, J) = N THEN RETURN I; END; END; RETURN 0; CLOSE SCAN; => (include LIMITS) (unit SCAN (function [N] integer) [(declare [] [(N integer)])] [(for temporary I (to 1 2) [(for temporary J (to 1 2) [(if (= TABLE$[;:I J] N) (return I))])]) (return 0)] close SCAN)",
+    " LIMITS: EXTERNAL COMPOOL; DECLARE INTEGER CONSTANT(5), A, B; CLOSE LIMITS; SCAN: EXTERNAL FUNCTION(N) INTEGER; DECLARE N INTEGER; CLOSE SCAN; P: PROGRAM; WRITE(6) SCAN(A + B); CLOSE P; => (template LIMITS compool [(declare [integer (constant 5)] [A B])] close LIMITS) (template SCAN (function [N] integer) [(declare [] [(N integer)])] close SCAN) (unit P program [] [(write 6 (call SCAN (sum A +B)))] close P)",
+    " P: PROGRAM; STRUCTURE LINK: 1 HEAD BIT(16) DENSE, 1 BODY, 2 KEY INTEGER DOUBLE, 2 TEXT CHARACTER(8); DECLARE L LINK-STRUCTURE(10); L.BODY.KEY$(3;) = L.BODY.KEY$(#; ) + 1; L.HEAD$(1; 2 TO 5) = HEX'F'; CLOSE; => (unit P program [(structure LINK [(1 HEAD (bit 16) dense) (1 BODY) (2 KEY integer double) (2 TEXT (character 8))]) (declare [] [(L (of LINK 10))])] [(assign [L.BODY.KEY$[3;:]] (sum L.BODY.KEY$[(#);:] +1)) (assign [L.HEAD$[1;:(to 2 5)]] (bits 4 15))])",
+    " P: PROGRAM; DECLARE B BIT(4), N INTEGER; B = BIT(N) AND BIN'1111' OR NOT B; N = INTEGER(B CAT B$(1)) - 1; IF B THEN IF N <= 0 THEN N = 0; ELSE N = -N; CLOSE; => (unit P program [(declare [] [(B (bit 4)) (N integer)])] [(assign [B] (or (and (bit N) (bits 4 15)) (not B))) (assign [N] (sum (integer (cat B B$[;:1])) -1)) (if B (if (<= N 0) (assign [N] 0) else (assign [N] (sum -N))))])",
+    " P: PROGRAM; DECLARE I INTEGER; LOOP: DO UNTIL I >= 10; DO CASE REMAINDER(I, 3) + 1; I = I + 1; I = I + 2; EXIT LOOP; END; END LOOP; CLOSE P; => (unit P program [(declare [] [(I integer)])] [LOOP: (loop until (>= I 10) [(case (sum (call REMAINDER I 3) +1) [(assign [I] (sum I +1)) (assign [I] (sum I +2)) (exit LOOP)])] end LOOP)] close P)",
+    " P: PROGRAM; DECLARE S CHARACTER(10) INITIAL('ABC'); WRITE(6) LENGTH(S), INDEX(S, 'B'), S$(#), S$(2 AT # - 1), TRIM(' X ') CAT RJUST(S, 5); CLOSE; => (unit P program [(declare [] [(S (character 10) (initial 'ABC'))])] [(write 6 (call LENGTH S) (call INDEX S 'B') S$[;:(#)] S$[;:(portion 2 (# -1))] (cat (call TRIM ' X ') (call RJUST S 5)))])",
+    " P: PROGRAM; DECLARE M ARRAY(3, 4) INTEGER INITIAL(3#(2#0, 2#1)); M$(*, 1) = M$(*, #); M$(1 TO 2, 3) = 2 M$(2, 3) M$(3, 3)**2; CLOSE; => (unit P program [(declare [] [(M (array 3 4) integer (initial (3# [(2# 0) (2# 1)])))])] [(assign [M$[;:* 1]] M$[;:* (#)]) (assign [M$[;:(to 1 2) 3]] (product 2 M$[;:2 3] (power M$[;:3 3] 2)))])",
+    " T: TASK; DECLARE N INTEGER AUTOMATIC; U: UPDATE; N = SHARED; SHARED = N + 1; IF N > 5 THEN SHARED = 0; CLOSE U; WAIT FOR GO_ON OR N = 0; CLOSE T; => (unit T task [(declare [] [(N integer automatic)])] [U: (update [(assign [N] SHARED) (assign [SHARED] (sum N +1)) (if (> N 5) (assign [SHARED] 0))] close U) (wait for (or GO_ON (= N 0)))] close T)",
+    " Q: PROCEDURE(A, B) ASSIGN(C) EXCLUSIVE; DECLARE ARRAY(3) INTEGER, A, B; DECLARE C ARRAY(3) INTEGER LOCK(*); DO FOR TEMPORARY I = 1 TO 3; C$(I) = A$(I) B$(I); END; CLOSE Q; => (unit Q (procedure [A B] [C] exclusive) [(declare [(array 3) integer] [A B]) (declare [] [(C (array 3) integer (lock *))])] [(for temporary I (to 1 3) [(assign [C$[;:I]] (product A$[;:I] B$[;:I]))])] close Q)",
+    " P: PROGRAM; ON ERROR DO; WRITE(6) ERRGRP; SIGNAL FAILED; END; ON ERROR$(3:*) SYSTEM AND RESET OPEN; READ(5) A, S.B$(1;), T$(1 TO #); CLOSE P; => (unit P program [] [(on every (do [(write 6 ERRGRP) (signal FAILED)])) (on $3 system reset OPEN) (read 5 A S.B$[1;:] T$[;:(to 1 (#))])] close P)",
+    " P: PROGRAM; SCHEDULE A IN 0.25 PRIORITY(N + 1) DEPENDENT, REPEAT AFTER 1.5 WHILE NOT DONE; SCHEDULE B REPEAT; CANCEL; TERMINATE A, B; WAIT UNTIL RUNTIME + 1; CLOSE P; => (unit P program [] [(schedule A in 250t priority (sum N +1) dependent repeat after 1500t while (not DONE)) (schedule B repeat) (cancel) (terminate A B) (wait until (sum RUNTIME +1))] close P)",
+    " P: PROGRAM;\nC THE FIRST ONE\n   DECLARE A BOOLEAN; /* A\n   COMMENT */ A = TRUE;\nM  IF A | FALSE\n   THEN A = OFF; /* ELSE */ ELSE A = ON;\n CLOSE P;\n => (unit P program [(declare [] [(A boolean)])] [(assign [A] TRUE) (if (or A FALSE) (assign [A] OFF) else (assign [A] ON))] close P)",
+    " P: PROGRAM; CALL Q(1, -A, F(B), 'X' CAT C, D$K) ASSIGN(E, G.H, I$(1; 2)); Q: PROCEDURE(A, B, C, D, E) ASSIGN(F, G, H); CLOSE Q; CLOSE P; => (unit P program [] [(call Q [1 (sum -A) (call F B) (cat 'X' C) D$K] [E G.H I$[1;:2]]) (unit Q (procedure [A B C D E] [F G H]) [] [] close Q)] close P)",
+    " A: PROGRAM; B: PROCEDURE; C: FUNCTION; D: TASK; ; CLOSE D; RETURN 1; CLOSE C; E: ; CLOSE B; F: FUNCTION BOOLEAN; RETURN TRUE; CLOSE F; CLOSE A; => (unit A program [] [(unit B (procedure [] []) [] [(unit C (function []) [] [(unit D task [] [(null)] close D) (return 1)] close C) E: (null)] close B) (unit F (function [] boolean) [] [(return TRUE)] close F)] close A)",
+];
+
 /// Processes, events and shared data.
 const TIMED: [&str; 18] = [
     " POOL: COMPOOL; DECLARE G INTEGER; CLOSE POOL; => (unit POOL compool [(declare [] [(G integer)])] [] close POOL)",
@@ -71,6 +90,7 @@ fn programs_keep_their_rows(rt: HostRuntime) -> Result<(), Fail> {
     tell(alloc, Source::File, false, &COMPUTING, &mut told)?;
     tell(alloc, Source::File, false, &CALLING, &mut told)?;
     tell(alloc, Source::File, false, &TIMED, &mut told)?;
+    tell(alloc, Source::File, false, &MIXED, &mut told)?;
     assert!(rt; told.is_empty(), "{told}");
     Ok(())
 }

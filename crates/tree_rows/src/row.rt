@@ -52,12 +52,15 @@ fn returned(tree: &File) -> Option<&Expr> {
     }
     match tree.unit.elements.as_slice() {
         [
-            Element::Statement(Statement {
-                basic: Basic::Return {
-                    value: Some(value), ..
+            Element::Statement(
+                Statement {
+                    basic: Basic::Return {
+                        value: Some(value),
+                        ..
+                    },
+                    ..
                 },
-                ..
-            }),
+            ),
         ] => Some(value),
         _ => None,
     }

@@ -65,7 +65,10 @@ fn basic(tree: &Basic, pen: &mut Pen) -> Result<(), AllocError> {
             statement(consequence, pen)?;
             alternative(other, pen)?;
         }
-        Basic::Do { place, group: inner } => {
+        Basic::Do {
+            place,
+            group: inner,
+        } => {
             pen.open("do", *place)?;
             group(inner, pen)?;
         }

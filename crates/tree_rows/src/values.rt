@@ -46,7 +46,7 @@ const ALONE: [&str; 38] = [
 ];
 
 /// Names and calls before a parenthesis, and what is joined without a sign.
-const PRODUCTS: [&str; 27] = [
+const PRODUCTS: [&str; 29] = [
     "A B => (product A B)",
     "A B C => (product A B C)",
     "2 A => (product 2 A)",
@@ -60,6 +60,8 @@ const PRODUCTS: [&str; 27] = [
     "A B (C) => (product A (call B C))",
     "F(A)(B) => (product (call F A) {B})",
     "F(A) B => (product (call F A) B)",
+    "A.1 => (product A 100t)",
+    "2. A => (product 2000t A)",
     "A.B(1) => (product A.B {1})",
     "A$1(2) => (product A$1 {2})",
     "A$K(2) => (product A$K {2})",
