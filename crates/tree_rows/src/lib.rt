@@ -3,9 +3,15 @@
 #![tactic(auto)]
 
 #[cfg(test)]
-mod broken;
-#[cfg(test)]
 mod declared;
+#[cfg(test)]
+mod faulty;
+#[cfg(test)]
+mod faulty_statements;
+#[cfg(test)]
+mod faulty_units;
+#[cfg(test)]
+mod faulty_values;
 #[cfg(test)]
 mod files;
 #[cfg(test)]

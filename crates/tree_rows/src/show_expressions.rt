@@ -106,6 +106,14 @@ pub(crate) fn expression(tree: &Expr, pen: &mut Pen) -> Result<(), AllocError> {
             first,
             others,
         } => row("product", *place, first, others, pen),
+        _ => primary(tree, pen),
+    }
+}
+
+/// A power or a primary.
+#[cycle(showing)]
+fn primary(tree: &Expr, pen: &mut Pen) -> Result<(), AllocError> {
+    match tree {
         Expr::Power {
             place,
             base,
@@ -129,6 +137,7 @@ pub(crate) fn expression(tree: &Expr, pen: &mut Pen) -> Result<(), AllocError> {
             operand,
         } => single(word_of_conversion(*conversion), *place, operand, pen),
         Expr::Parenthesis { place, inner } => parenthesis(*place, inner, pen),
+        _ => pen.word("(another expression)"),
     }
 }
 

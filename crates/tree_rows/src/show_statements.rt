@@ -162,6 +162,14 @@ fn simple(tree: &Basic, pen: &mut Pen) -> Result<(), AllocError> {
             receiver_list(receivers, pen)?;
             expression(value, pen)?;
         }
+        _ => return other_simple(tree, pen),
+    }
+    pen.close()
+}
+
+/// A statement that holds no other one and is neither null nor an assignment.
+fn other_simple(tree: &Basic, pen: &mut Pen) -> Result<(), AllocError> {
+    match tree {
         Basic::Exit { place, label } => label_jump("exit", *place, label, pen)?,
         Basic::Repeat { place, label } => label_jump("repeat", *place, label, pen)?,
         Basic::Return { place, value } => {
