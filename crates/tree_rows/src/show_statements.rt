@@ -50,7 +50,7 @@ fn alternative(tree: &Option<Box<Statement>>, pen: &mut Pen) -> Result<(), Alloc
     }
 }
 
-/// A statement without its labels that holds other ones, or any other one.
+/// A statement without its labels: IF, DO, or another one.
 #[cycle(showing_statements)]
 fn basic(tree: &Basic, pen: &mut Pen) -> Result<(), AllocError> {
     match tree {
@@ -72,6 +72,15 @@ fn basic(tree: &Basic, pen: &mut Pen) -> Result<(), AllocError> {
             pen.open("do", *place)?;
             group(inner, pen)?;
         }
+        _ => return other_group(tree, pen),
+    }
+    pen.close()
+}
+
+/// A DO with a head, or any statement but IF and DO.
+#[cycle(showing_statements)]
+fn other_group(tree: &Basic, pen: &mut Pen) -> Result<(), AllocError> {
+    match tree {
         Basic::DoCase {
             place,
             selector: chosen,
@@ -92,15 +101,6 @@ fn basic(tree: &Basic, pen: &mut Pen) -> Result<(), AllocError> {
             guard(how_long, pen)?;
             group(inner, pen)?;
         }
-        _ => return other_holder(tree, pen),
-    }
-    pen.close()
-}
-
-/// A statement that holds other ones and isn't IF, DO, DO CASE, DO WHILE or DO UNTIL, or any other one.
-#[cycle(showing_statements)]
-fn other_holder(tree: &Basic, pen: &mut Pen) -> Result<(), AllocError> {
-    match tree {
         Basic::DoFor {
             place,
             temporary,
@@ -112,6 +112,15 @@ fn other_holder(tree: &Basic, pen: &mut Pen) -> Result<(), AllocError> {
             for_head(*place, *temporary, variable, values, how_long, pen)?;
             group(inner, pen)?;
         }
+        _ => return other_holder(tree, pen),
+    }
+    pen.close()
+}
+
+/// A statement that holds other ones and is neither IF nor DO, or one that holds none.
+#[cycle(showing_statements)]
+fn other_holder(tree: &Basic, pen: &mut Pen) -> Result<(), AllocError> {
+    match tree {
         Basic::Update { place, body, close } => {
             pen.open("update", *place)?;
             list(body, pen)?;
