@@ -205,10 +205,10 @@ fn source_of(alloc: Global, nest: Nest<'_>, count: usize) -> Result<String, Allo
 fn number(text: &str) -> usize {
     let mut number = 0;
     for byte in text.as_bytes() {
-        if !byte.is_ascii_digit() || MOST <= number {
-            break;
+        match *byte {
+            b'0'..=b'9' if number < MOST => number = number * 10 + usize::from(*byte - b'0'),
+            _ => break,
         }
-        number = number * 10 + usize::from(*byte - b'0');
     }
     number.min(MOST)
 }
@@ -220,7 +220,7 @@ fn deepest(
     nest: Nest<'_>,
     about: usize,
 ) -> Result<String, AllocError> {
-    let last = (about + 1).min(MOST);
+    let last = about.saturating_add(1).min(MOST);
     for count in about.saturating_sub(1)..=last {
         let text = source_of(alloc, nest, count)?;
         if let Some(fault) = broken(alloc, source, text.as_str())? {
