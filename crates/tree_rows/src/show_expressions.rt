@@ -6,9 +6,9 @@
 use crate::pen::Pen;
 use hal_base::Place;
 use hal_syntax::{
-    Conversion, Expr, LiteralValue, Position, Reference, Relation, Sign, SignedTerm, Sub, Subscript,
+    Conversion, Expr, Identifier, LiteralValue, Position, Reference, Relation, SignedTerm, Sub,
+    Subscript,
 };
-use hal_words::Name;
 use std::alloc::AllocError;
 
 fn word_of_relation(relation: Relation) -> &'static str {
@@ -70,74 +70,107 @@ fn decimal(thousandths: u64, place: Place, pen: &mut Pen) -> Result<(), AllocErr
     pen.place(place)
 }
 
+/// The kind of an expression that stands in brackets with its kind.
+fn word_of(tree: &Expr) -> &'static str {
+    match tree {
+        Expr::Or { .. } => "or",
+        Expr::And { .. } => "and",
+        Expr::Compare { relation, .. } => word_of_relation(*relation),
+        Expr::Cat { .. } => "cat",
+        Expr::Sum { .. } => "sum",
+        Expr::Product { .. } => "product",
+        Expr::Power { .. } => "power",
+        Expr::Not { .. } => "not",
+        Expr::Call { .. } => "call",
+        Expr::Convert { conversion, .. } => word_of_conversion(*conversion),
+        _ => "another expression",
+    }
+}
+
 /// An expression.
 #[cycle(showing)]
 pub(crate) fn expression(tree: &Expr, pen: &mut Pen) -> Result<(), AllocError> {
     match tree {
-        Expr::Or {
-            place,
-            first,
-            others,
-        } => row("or", *place, first, others, pen),
-        Expr::And {
-            place,
-            first,
-            others,
-        } => row("and", *place, first, others, pen),
-        Expr::Compare {
-            place,
-            left,
-            relation,
-            right,
-        } => pair(word_of_relation(*relation), *place, left, right, pen),
-        Expr::Cat {
-            place,
-            first,
-            others,
-        } => row("cat", *place, first, others, pen),
-        Expr::Sum {
-            place,
-            opening,
-            first,
-            others,
-        } => sum(*place, *opening, first, others, pen),
-        Expr::Product {
-            place,
-            first,
-            others,
-        } => row("product", *place, first, others, pen),
-        _ => primary(tree, pen),
-    }
-}
-
-/// A power or a primary.
-#[cycle(showing)]
-fn primary(tree: &Expr, pen: &mut Pen) -> Result<(), AllocError> {
-    match tree {
-        Expr::Power {
-            place,
-            base,
-            exponent,
-        } => pair("power", *place, base, exponent, pen),
-        Expr::Not { place, operand } => single("not", *place, operand, pen),
         Expr::Literal {
             place,
             literal: value,
         } => literal(value, *place, pen),
         Expr::Decimal { place, thousandths } => decimal(*thousandths, *place, pen),
-        Expr::Reference(tree) => reference(tree, pen),
+        Expr::Reference(inner) => reference(inner, pen),
+        Expr::Parenthesis { place, inner } => {
+            pen.word("{")?;
+            pen.place(*place)?;
+            pen.join();
+            expression(inner, pen)?;
+            pen.tail("}")
+        }
+        _ => {
+            pen.open(word_of(tree), tree.place())?;
+            parts_of(tree, pen)?;
+            pen.close()
+        }
+    }
+}
+
+/// The parts of an expression that stands in brackets with its kind: of one with two parts or more.
+#[cycle(showing)]
+fn parts_of(tree: &Expr, pen: &mut Pen) -> Result<(), AllocError> {
+    match tree {
+        Expr::Or { first, others, .. } => {
+            expression(first, pen)?;
+            expressions(others, pen)
+        }
+        Expr::And { first, others, .. } => {
+            expression(first, pen)?;
+            expressions(others, pen)
+        }
+        Expr::Cat { first, others, .. } => {
+            expression(first, pen)?;
+            expressions(others, pen)
+        }
+        Expr::Product { first, others, .. } => {
+            expression(first, pen)?;
+            expressions(others, pen)
+        }
+        Expr::Compare { left, right, .. } => {
+            expression(left, pen)?;
+            expression(right, pen)
+        }
+        Expr::Power { base, exponent, .. } => {
+            expression(base, pen)?;
+            expression(exponent, pen)
+        }
+        _ => other_parts_of(tree, pen),
+    }
+}
+
+/// The parts of a sum, a call, or an expression with one part.
+#[cycle(showing)]
+fn other_parts_of(tree: &Expr, pen: &mut Pen) -> Result<(), AllocError> {
+    match tree {
+        Expr::Sum {
+            opening,
+            first,
+            others,
+            ..
+        } => {
+            if let Some(sign) = opening {
+                pen.sign(*sign)?;
+            }
+            expression(first, pen)?;
+            terms(others, pen)
+        }
         Expr::Call {
-            place,
             name,
             arguments,
-        } => call(*place, name, arguments, pen),
-        Expr::Convert {
-            place,
-            conversion,
-            operand,
-        } => single(word_of_conversion(*conversion), *place, operand, pen),
-        Expr::Parenthesis { place, inner } => parenthesis(*place, inner, pen),
-        _ => pen.word("(another expression)"),
+            ..
+        } => {
+            pen.bytes(name.bytes())?;
+            expressions(arguments, pen)
+        }
+        Expr::Not { operand, .. } => expression(operand, pen),
+        Expr::Convert { operand, .. } => expression(operand, pen),
+        _ => Ok(()),
     }
 }
 
@@ -148,81 +181,6 @@ pub(crate) fn expressions(trees: &[Expr], pen: &mut Pen) -> Result<(), AllocErro
         expression(tree, pen)?;
     }
     Ok(())
-}
-
-/// A tree of some kind with two parts or more.
-#[cycle(showing)]
-fn row(
-    kind: &str,
-    place: Place,
-    first: &Expr,
-    others: &[Expr],
-    pen: &mut Pen,
-) -> Result<(), AllocError> {
-    pen.open(kind, place)?;
-    expression(first, pen)?;
-    expressions(others, pen)?;
-    pen.close()
-}
-
-/// A tree of some kind with two parts.
-#[cycle(showing)]
-fn pair(
-    kind: &str,
-    place: Place,
-    left: &Expr,
-    right: &Expr,
-    pen: &mut Pen,
-) -> Result<(), AllocError> {
-    pen.open(kind, place)?;
-    expression(left, pen)?;
-    expression(right, pen)?;
-    pen.close()
-}
-
-/// A tree of some kind with one part.
-#[cycle(showing)]
-fn single(kind: &str, place: Place, operand: &Expr, pen: &mut Pen) -> Result<(), AllocError> {
-    pen.open(kind, place)?;
-    expression(operand, pen)?;
-    pen.close()
-}
-
-/// A call.
-#[cycle(showing)]
-fn call(place: Place, name: &Name, arguments: &[Expr], pen: &mut Pen) -> Result<(), AllocError> {
-    pen.open("call", place)?;
-    pen.bytes(name.bytes())?;
-    expressions(arguments, pen)?;
-    pen.close()
-}
-
-/// An expression in parentheses.
-#[cycle(showing)]
-fn parenthesis(place: Place, inner: &Expr, pen: &mut Pen) -> Result<(), AllocError> {
-    pen.word("{")?;
-    pen.place(place)?;
-    pen.join();
-    expression(inner, pen)?;
-    pen.tail("}")
-}
-
-/// A sum.
-#[cycle(showing)]
-fn sum(
-    place: Place,
-    opening: Option<Sign>,
-    first: &Expr,
-    others: &[SignedTerm],
-    pen: &mut Pen,
-) -> Result<(), AllocError> {
-    pen.open("sum", place)?;
-    if let Some(sign) = opening {
-        pen.sign(sign)?;
-    }
-    expression(first, pen)?;
-    terms(others, pen)?;
-    pen.close()
 }
 
 /// Terms with their signs.
@@ -242,15 +200,21 @@ fn term(tree: &SignedTerm, pen: &mut Pen) -> Result<(), AllocError> {
     expression(&tree.term, pen)
 }
 
-/// A reference.
-#[cycle(showing)]
-pub(crate) fn reference(tree: &Reference, pen: &mut Pen) -> Result<(), AllocError> {
-    pen.name_at(&tree.name, tree.place)?;
-    for name in &tree.further {
+/// The further names of a reference.
+fn further(names: &[Identifier], pen: &mut Pen) -> Result<(), AllocError> {
+    for name in names {
         pen.tail(".")?;
         pen.join();
         pen.name(name)?;
     }
+    Ok(())
+}
+
+/// A reference.
+#[cycle(showing)]
+pub(crate) fn reference(tree: &Reference, pen: &mut Pen) -> Result<(), AllocError> {
+    pen.name_at(&tree.name, tree.place)?;
+    further(&tree.further, pen)?;
     subscript(&tree.subscript, pen)
 }
 
@@ -281,7 +245,18 @@ fn subscript(tree: &Subscript, pen: &mut Pen) -> Result<(), AllocError> {
             copies,
             arrays,
             components,
-        } => parts(*place, copies, arrays, components, pen),
+        } => {
+            dollar(*place, pen)?;
+            pen.open_list()?;
+            subs(copies, pen)?;
+            pen.tail(";")?;
+            pen.join();
+            subs(arrays, pen)?;
+            pen.tail(":")?;
+            pen.join();
+            subs(components, pen)?;
+            pen.close_list()
+        }
     }
 }
 
@@ -291,27 +266,6 @@ fn dollar(place: Place, pen: &mut Pen) -> Result<(), AllocError> {
     pen.place(place)?;
     pen.join();
     Ok(())
-}
-
-/// The three parts of a subscript.
-#[cycle(showing)]
-fn parts(
-    place: Place,
-    copies: &[Sub],
-    arrays: &[Sub],
-    components: &[Sub],
-    pen: &mut Pen,
-) -> Result<(), AllocError> {
-    dollar(place, pen)?;
-    pen.open_list()?;
-    subs(copies, pen)?;
-    pen.tail(";")?;
-    pen.join();
-    subs(arrays, pen)?;
-    pen.tail(":")?;
-    pen.join();
-    subs(components, pen)?;
-    pen.close_list()
 }
 
 /// The subscripts of one part.

@@ -11,13 +11,19 @@ use hal_base::Place;
 use hal_syntax::{Basic, EventChange, Expr, Group, Guard, Identifier, Reference, Span, Statement};
 use std::alloc::AllocError;
 
+/// The labels of a statement.
+fn labels(names: &[Identifier], pen: &mut Pen) -> Result<(), AllocError> {
+    for name in names {
+        pen.name(name)?;
+        pen.tail(":")?;
+    }
+    Ok(())
+}
+
 /// A statement.
 #[cycle(showing_statements)]
 pub(crate) fn statement(tree: &Statement, pen: &mut Pen) -> Result<(), AllocError> {
-    for label in &tree.labels {
-        pen.name(label)?;
-        pen.tail(":")?;
-    }
+    labels(&tree.labels, pen)?;
     basic(&tree.basic, pen)
 }
 
