@@ -72,7 +72,7 @@ one_head (function_head i m) (function_head j n) =
     let r = one_inputs i j in
     let s = one_returns_end m (back₂ SpellsReturnsEnd r.1 n) in (function_same r.0 s.0 s.1, s.2)
 
-head_starts : {h : Head} {b a : Words} → SpellsHead h b a → starts b ≡ 2
+pub head_starts : {h : Head} {b a : Words} → SpellsHead h b a → starts b ≡ 2
 head_starts program_head = refl
 head_starts compool_head = refl
 head_starts task_head = refl
@@ -80,7 +80,7 @@ head_starts (procedure_head i o m) = refl
 head_starts (function_head i m) = refl
 
 -- a statement is no unit
-statement_apart : {s : Statement} {u : Block} {b a c : Words} → SpellsStatement s b a → SpellsBlock u b c → ⊥
+pub statement_apart : {s : Statement} {u : Block} {b a c : Words} → SpellsStatement s b a → SpellsBlock u b c → ⊥
 statement_apart (labelled (no_labels n) d) (block h ds es q) = n begins_label
 statement_apart (labelled (more_labels ls) d) (block h ds es q) = (statement_starts (labelled ls d)).1 (head_starts h)
 
@@ -137,7 +137,7 @@ one_preface (templates d) includes = absurd (template_not_include d)
 one_preface (templates d) (templates e) = let r = one_template d e in (ap Templates r.0, r.1)
 
 -- a unit is no include and no template
-block_apart : {u : Block} {x : Preface} {b a c : Words} → SpellsBlock u b a → SpellsPreface x b c → ⊥
+pub block_apart : {u : Block} {x : Preface} {b a c : Words} → SpellsBlock u b a → SpellsPreface x b c → ⊥
 block_apart (block h ds es q) (templates (template k fs n)) = absurd (omega (arith, head_starts h))
 
 prefaces_same : {x y : Preface} {xs ys : List Preface} {u v : Block} → x ≡ y → file_of xs u ≡ file_of ys v → file_of (x ∷ xs) u ≡ file_of (y ∷ ys) v

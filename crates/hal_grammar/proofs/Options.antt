@@ -212,17 +212,17 @@ comma_weak : {p : Place} {b m : Words} → SpellsComma b (reserved_then reserved
 comma_weak (no_comma n) = omega arith
 comma_weak comma = omega arith
 
-cycle_weak : {x : Option Cycle} {b a : Words} → SpellsCycle x b a → strength a ≤ 0 → strength b ≤ 1
+pub cycle_weak : {x : Option Cycle} {b a : Words} → SpellsCycle x b a → strength a ≤ 0 → strength b ≤ 1
 cycle_weak (no_cycle n m) h = omega arith
 cycle_weak (cyclic d n m) h = comma_weak d
 cycle_weak (cyclic_every d e) h = comma_weak d
 cycle_weak (cyclic_after d e) h = comma_weak d
 
-dependent_weak : {x : Bool} {b a : Words} → SpellsDependent x b a → strength a ≤ 1 → strength b ≤ 1
+pub dependent_weak : {x : Bool} {b a : Words} → SpellsDependent x b a → strength a ≤ 1 → strength b ≤ 1
 dependent_weak (not_dependent n) h = h
 dependent_weak dependent h = omega arith
 
-priority_weak : {x : Option Expression} {b a : Words} → SpellsPriority x b a → strength a ≤ 1 → strength b ≤ 1
+pub priority_weak : {x : Option Expression} {b a : Words} → SpellsPriority x b a → strength a ≤ 1 → strength b ≤ 1
 priority_weak (no_priority n) h = h
 priority_weak (priority d) h = omega arith
 

@@ -11,6 +11,7 @@ use Rattle.hal_grammar.specs.Words.{Words, reserved_then, BeginsReserved, begins
 use Rattle.hal_grammar.specs.SpellsDeclarations.{SpellsNameEnd, SpellsDeclarations}
 use Rattle.hal_grammar.specs.SpellsStatements.{begins_label, no_labels, more_labels, SpellsStatement, labelled}
 use Rattle.hal_grammar.specs.SpellsFiles.{SpellsHead, program_head, compool_head, task_head, procedure_head, function_head, SpellsBlock, block, SpellsElements, closed, statement_first, block_first}
+use Rattle.hal_grammar.proofs.OneFile.{statement_apart}
 use Rattle.hal_grammar.proofs.OneStatement.{reserved_starts, starts, IsStart, statement_starts}
 use Rattle.hal_grammar.proofs.ShorterStatements.{statement_shorter}
 use Rattle.hal_grammar.proofs.ShorterFiles.{block_shorter}
@@ -127,18 +128,7 @@ unfolding block_of block_behind
 block_of_gives {n = n} bs words =
     followed_holds (label_gives words) (λ x r1 d. followed_holds (head_gives n r1) (λ h r2 e. weaker_holds (close_gives bs x h _ _) (λ u rest f. block_so d e (declarations_chain n r2) f)))
 
-head_starts : {h : Head} {b a : Words} → SpellsHead h b a → starts b ≡ 2
-head_starts program_head = refl
-head_starts compool_head = refl
-head_starts task_head = refl
-head_starts (procedure_head i o m) = refl
-head_starts (function_head i r) = refl
-
 -- a statement is no unit
-statement_apart : {s : Statement} {u : Block} {b a c : Words} → SpellsStatement s b a → SpellsBlock u b c → ⊥
-statement_apart (labelled (no_labels n) d) (block h ds es q) = n begins_label
-statement_apart (labelled (more_labels ls) d) (block h ds es q) = (statement_starts (labelled ls d)).1 (head_starts h)
-
 inner_no_statement : {n : ℕ} {s : Statement} {u : Block} {b a c : Words} → SpellsStatement s b a → InnerOf n u b c → ⊥
 inner_no_statement d (inner_of e l s) = statement_apart d e
 

@@ -9,7 +9,7 @@ use Rattle.hal_grammar.specs.Words.{Words, reserved_then, name_then, BeginsReser
 use Rattle.hal_grammar.specs.SpellsDeclarations.{SpellsNameEnd}
 use Rattle.hal_grammar.specs.SpellsFiles.{SpellsHead, program_head, compool_head, task_head, procedure_head, function_head, SpellsBlock, block, SpellsTemplate, template, SpellsPreface, includes, templates, SpellsFile, block_alone, preface_first}
 use Rattle.hal_grammar.proofs.ShorterFiles.{preface_shorter}
-use Rattle.hal_grammar.proofs.OneStatement.{starts}
+use Rattle.hal_grammar.proofs.OneFile.{block_apart}
 use Rattle.hal_parse_expr.specs.Reading.{made_of, before, name_at}
 use Rattle.hal_parse_expr.proofs.Shortening.{Shortens, all_none}
 use Rattle.hal_parse_file.specs.ReadingDeclarations.{label_at}
@@ -107,20 +107,6 @@ prefaces_chain n words = all_chain (preface_at n) (preface_gives n) words
 pub file_gives : (n : ℕ) (words : Words) → Holds (λ f rest. FileOf n f words rest) (file_at n words)
 unfolding file_at
 file_gives n words = made_holds _ ((blocks n).sound (prefaces_at n words).1) (λ u rest d. file_so (prefaces_chain n words) d.0 d.1)
-
-no_external_head : {h : Head} {p : Place} {b a : Words} → SpellsHead h (reserved_then reserved.External p b) a → ⊥
-no_external_head d = go d refl
-  where
-    go : {h : Head} {p : Place} {w b a : Words} → SpellsHead h w a → w ≡ reserved_then reserved.External p b → ⊥
-    go program_head e = absurd (omega (arith, ap starts e))
-    go compool_head e = absurd (omega (arith, ap starts e))
-    go task_head e = absurd (omega (arith, ap starts e))
-    go (procedure_head i o m) e = absurd (omega (arith, ap starts e))
-    go (function_head i r) e = absurd (omega (arith, ap starts e))
-
--- a unit is no include and no template
-block_apart : {u : Block} {x : Preface} {b a c : Words} → SpellsBlock u b a → SpellsPreface x b c → ⊥
-block_apart (block h ds es q) (templates (template k fs n)) = no_external_head h
 
 -- the prefaces of a file are read
 data ReadsPrefaces (n : ℕ) : File → Words → Words → Type 0 where

@@ -25,3 +25,9 @@ pub mod ReadersShorten
 pub mod CodeLists
 pub mod CodeStatements
 pub mod CodeWords
+pub mod CodeStuck
+pub mod Answered
+pub mod CodeDeclarations
+pub mod CodeInitials
+pub mod CodeItems
+pub mod CodeUnits

@@ -10,7 +10,7 @@ use Rattle.hal_grammar.specs.Words.{Words, reserved_then, symbol_then, name_then
 use Rattle.hal_grammar.specs.GoesOn.{strength}
 use Rattle.hal_grammar.specs.SpellsExpressions.{SpellsExpression}
 use Rattle.hal_grammar.specs.SpellsStatements.{SpellsGuard, SpellsStart, no_start, start_at, start_in, start_on, SpellsPriority, no_priority, priority, SpellsDependent, not_dependent, dependent, SpellsComma, no_comma, comma, SpellsCycle, no_cycle, cyclic, cyclic_every, cyclic_after, SpellsSchedule, scheduled_so}
-use Rattle.hal_grammar.proofs.Options.{guard_weak}
+use Rattle.hal_grammar.proofs.Options.{guard_weak, cycle_weak, dependent_weak, priority_weak}
 use Rattle.hal_parse_expr.specs.Reading.{past, is_reserved, where_true, past_symbol, is_symbol, name_at, made_of, followed}
 use Rattle.hal_parse_expr.specs.ReadingExpressions.{expression_at}
 use Rattle.hal_parse_file.specs.ReadingStatements.{start_on_at, start_in_at, start_at_at, priority_at, dependent_at, cycle_after_at, cycle_behind, repeat_at, comma_repeat, cycle_at, cycle_and_guard, rank_at, schedule_behind, schedule_at}
@@ -23,25 +23,6 @@ use Rattle.hal_parse_expr.proofs.Equations.{made_equals}
 use Rattle.hal_parse_file.proofs.Becomes.{followed_is, decided_is, decided_not, before_symbol_is, enclosed_is}
 use Rattle.hal_parse_file.proofs.Below.{ExpressionOf, expression_gives, expression_is}
 use Rattle.hal_parse_file.proofs.ConditionsRead.{guard_gives, guard_is}
-
--- before REPEAT, with a comma or without, no expression goes on
-comma_weak : {p : Place} {b m : Words} → SpellsComma b (reserved_then reserved.Repeat p m) → strength b ≤ 1
-comma_weak (no_comma n) = omega arith
-comma_weak comma = omega arith
-
-cycle_weak : {c : Option Cycle} {b a : Words} → SpellsCycle c b a → strength a ≤ 0 → strength b ≤ 1
-cycle_weak (no_cycle n m) h = omega arith
-cycle_weak (cyclic d n m) h = comma_weak d
-cycle_weak (cyclic_every d e) h = comma_weak d
-cycle_weak (cyclic_after d e) h = comma_weak d
-
-dependent_weak : {d : Bool} {b a : Words} → SpellsDependent d b a → strength a ≤ 1 → strength b ≤ 1
-dependent_weak (not_dependent n) h = h
-dependent_weak dependent h = omega arith
-
-priority_weak : {t : Option Expression} {b a : Words} → SpellsPriority t b a → strength a ≤ 1 → strength b ≤ 1
-priority_weak (no_priority n) h = h
-priority_weak (priority d) h = omega arith
 
 -- a start that is nested so deep at most
 abbrev StartOf : ℕ → Option Start → Words → Words → Type 0

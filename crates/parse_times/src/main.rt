@@ -1,0 +1,57 @@
+//! Makes a unit of so many bytes, as its first word says, 1000 where it has none, and parses its words so many times as its
+//! second word says, once where it has none; of the kind that its third word names, or of each kind. It prints how many
+//! words the unit has, and how often they were parsed. bench/parsing.py times it.
+#![tactic(auto)]
+
+mod texts;
+
+use hal_parse_file::parse;
+use hal_tokens::tokens;
+use std::alloc::Global;
+use std::{env, io};
+use texts::{KINDS, Kind};
+
+/// The number that the word at this place says, or this one.
+fn number(words: &[String], place: usize, or: usize) -> usize {
+    match words.get(place) {
+        None => or,
+        Some(word) => word.parse::<usize>().unwrap_or(or),
+    }
+}
+
+/// Whether the third word names the kind, or there is none.
+fn is_asked(words: &[String], kind: Kind) -> bool {
+    match words.get(2) {
+        None => true,
+        Some(word) => word.as_str() == kind.name(),
+    }
+}
+
+/// How many words the text has, and how often of so many times they are parsed; no word where a rule of words is broken.
+fn counts_of(alloc: Global, text: &[u8], times: usize) -> (usize, usize) {
+    let Ok(tokens) = tokens(alloc, text, 0) else {
+        return (0, 0);
+    };
+    let mut count = 0usize;
+    for _ in 0..times {
+        if parse(alloc, tokens.as_slice(), 0).is_ok() {
+            count = count.saturating_add(1);
+        }
+    }
+    (tokens.as_slice().len(), count)
+}
+
+fn main(rt: HostRuntime) -> io::Result<()> {
+    let words: Vec<String> = env::args(&rt)?.skip(1).collect(rt.alloc())?;
+    let size = number(words.as_slice(), 0, 1_000);
+    let times = number(words.as_slice(), 1, 1);
+    for kind in KINDS {
+        if is_asked(words.as_slice(), kind) {
+            let text = kind.text(rt.alloc(), size)?;
+            let (count, parsed) = counts_of(rt.alloc(), text.as_slice(), times);
+            let name = kind.name();
+            println!(rt; "{name} {count} words parsed {parsed}")?;
+        }
+    }
+    Ok(())
+}
