@@ -1,0 +1,151 @@
+//! The parts of statements as rows write them: `while A`, `(to 1 9)` and `(to 1 9 2)` for a range, `(list 1 3)`, `$1` and `$1:2` for errors,
+//! `every` where all are meant, `set E`; and of SCHEDULE `P at 1 priority 5 dependent repeat every 2 until E`.
+
+use crate::pen::Pen;
+use crate::show_expressions::{expression, expressions};
+use hal_base::Place;
+use hal_syntax::{
+    Cycle, EventAction, EventChange, Expr, Guard, Response, Schedule, Selector, Span, Start,
+};
+use std::alloc::AllocError;
+
+/// A word, its place and an expression.
+fn with_word(word: &str, place: Place, tree: &Expr, pen: &mut Pen) -> Result<(), AllocError> {
+    pen.word(word)?;
+    pen.place(place)?;
+    expression(tree, pen)
+}
+
+/// How long a loop goes on.
+pub(crate) fn guard(tree: &Guard, pen: &mut Pen) -> Result<(), AllocError> {
+    match tree {
+        Guard::While { place, condition } => with_word("while", *place, condition, pen),
+        Guard::Until { place, condition } => with_word("until", *place, condition, pen),
+    }
+}
+
+/// The same, or nothing.
+pub(crate) fn optional_guard(tree: &Option<Guard>, pen: &mut Pen) -> Result<(), AllocError> {
+    match tree {
+        None => Ok(()),
+        Some(tree) => guard(tree, pen),
+    }
+}
+
+/// The values of a loop's variable.
+pub(crate) fn span(tree: &Span, pen: &mut Pen) -> Result<(), AllocError> {
+    match tree {
+        Span::Range { first, last, step } => {
+            pen.word("(to")?;
+            expression(first, pen)?;
+            expression(last, pen)?;
+            if let Some(step) = step {
+                expression(step, pen)?;
+            }
+        }
+        Span::List { values } => {
+            pen.word("(list")?;
+            expressions(values, pen)?;
+        }
+    }
+    pen.close()
+}
+
+/// What a selector begins with.
+fn group(place: Place, number: u32, pen: &mut Pen) -> Result<(), AllocError> {
+    pen.word("$")?;
+    pen.place(place)?;
+    pen.join();
+    pen.number(u64::from(number))
+}
+
+/// The errors that are meant.
+pub(crate) fn selector(tree: &Selector, pen: &mut Pen) -> Result<(), AllocError> {
+    match tree {
+        Selector::Every => pen.word("every"),
+        Selector::Group {
+            place,
+            group: number,
+        } => group(*place, *number, pen),
+        Selector::One {
+            place,
+            group: first,
+            number,
+        } => {
+            group(*place, *first, pen)?;
+            pen.tail(":")?;
+            pen.join();
+            pen.number(u64::from(*number))
+        }
+    }
+}
+
+/// What happens to an event, and the event.
+pub(crate) fn event(tree: &EventChange, pen: &mut Pen) -> Result<(), AllocError> {
+    match tree.action {
+        EventAction::Signal => pen.word("signal")?,
+        EventAction::Set => pen.word("set")?,
+        EventAction::Reset => pen.word("reset")?,
+    }
+    pen.place(tree.place)?;
+    pen.name(&tree.name)
+}
+
+/// What answers an error.
+pub(crate) fn response(tree: Response, pen: &mut Pen) -> Result<(), AllocError> {
+    match tree {
+        Response::System => pen.word("system"),
+        Response::Ignore => pen.word("ignore"),
+    }
+}
+
+/// When a process starts.
+fn start(tree: &Start, pen: &mut Pen) -> Result<(), AllocError> {
+    match tree {
+        Start::At { place, time } => with_word("at", *place, time, pen),
+        Start::In { place, time } => with_word("in", *place, time, pen),
+        Start::On { place, event } => with_word("on", *place, event, pen),
+    }
+}
+
+/// The word REPEAT.
+fn repeat(place: Place, pen: &mut Pen) -> Result<(), AllocError> {
+    pen.word("repeat")?;
+    pen.place(place)
+}
+
+/// When a process runs again.
+fn cycle(tree: &Cycle, pen: &mut Pen) -> Result<(), AllocError> {
+    match tree {
+        Cycle::Repeat { place } => repeat(*place, pen),
+        Cycle::Every { place, time } => {
+            repeat(*place, pen)?;
+            pen.word("every")?;
+            expression(time, pen)
+        }
+        Cycle::After { place, time } => {
+            repeat(*place, pen)?;
+            pen.word("after")?;
+            expression(time, pen)
+        }
+    }
+}
+
+/// What SCHEDULE says.
+pub(crate) fn schedule(tree: &Schedule, pen: &mut Pen) -> Result<(), AllocError> {
+    pen.name(&tree.name)?;
+    if let Some(when) = &tree.start {
+        start(when, pen)?;
+    }
+    if let Some(priority) = &tree.priority {
+        pen.word("priority")?;
+        expression(priority, pen)?;
+    }
+    if tree.dependent {
+        pen.word("dependent")?;
+    }
+    if let Some(again) = &tree.cycle {
+        cycle(again, pen)?;
+    }
+    optional_guard(&tree.guard, pen)
+}
