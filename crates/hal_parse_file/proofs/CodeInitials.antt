@@ -19,7 +19,7 @@ values_some (suc n) words h = let e : n ≡ suc n - 1 = omega arith in ap (λ k.
 
 -- the values that begin with what is read
 gathered : (read : Reader Initial) → Read Initial → Read Initials
-gathered read o = made_of (λ f. MoreInitials f.0 (initials f.1)) (followed o (λ x rest. Some ((x, (all (after_comma read) rest).0), (all (after_comma read) rest).1)))
+gathered read o = made_of {X = Initial × List Initial} (λ f. MoreInitials f.0 (initials f.1)) (followed o (λ x rest. Some ((x, (all (after_comma read) rest).0), (all (after_comma read) rest).1)))
 
 pub no_initials : (n : ℕ) (words : Words) → None ≡ initial_of n (initials_below n) words → None ≡ initials_at n words
 unfolding gathered initials_of parted followed made_of
