@@ -21,6 +21,7 @@ read_or other (Some f) = f
 
 -- all words are read
 pub parsed : (words rest : Words) (file : File) → Some (file, rest) ≡ file_at NESTING_LIMIT words → length rest ≡ 0 → IsParsed words file
+unfolding read_or
 parsed words [] file e h =
     let s = file_sound NESTING_LIMIT words file (sym e) in
     record { is = record { spelled = s.0; shallow = s.1 }; only = λ other o. sym (ap (λ r. (read_or (file, []) r).0) (e ∙ file_complete NESTING_LIMIT words other o.spelled o.shallow)) }
@@ -32,6 +33,7 @@ no_file words e file o = none-some _ (e ∙ file_complete NESTING_LIMIT words fi
 
 -- words are left over
 pub more_words : (words rest : Words) (file : File) → Some (file, rest) ≡ file_at NESTING_LIMIT words → length rest ≢ 0 → (other : File) → IsFileOf words other → ⊥
+unfolding read_or
 more_words words rest file e h other o = h (ap (λ r. length (read_or (file, rest) r).1) (e ∙ file_complete NESTING_LIMIT words other o.spelled o.shallow))
 
 -- the place of a word of the list, where there is one, and else another place of one
@@ -41,7 +43,9 @@ stands_at unit first rest k other f = go (slice_get_cases (first ∷ rest) k).1
   where
     go : ((x : Token) × (k < length (first ∷ rest)) × (slice_get (first ∷ rest) k ≡ Some x) × (get_or (first ∷ rest) k x ≡ x)) ⊎ ((length (first ∷ rest) ≤ k) × (slice_get (first ∷ rest) k ≡ None)) →
         StandsIn unit (first ∷ rest) (place_or (slice_get (first ∷ rest) k) other)
-    go (inl c) = (c.0, rw c.3 at Contains-get_or {X = Token} (first ∷ rest) k c.0 c.1, ap (λ o. place_or o other) c.2)
+    go (inl c) =
+        let h : Contains (first ∷ rest) (get_or (first ∷ rest) k c.0) = Contains-get_or (first ∷ rest) k c.0 c.1 in
+        (c.0, rw c.3 at h, ap (λ o. place_or o other) c.2)
     go (inr c) = let d = f c.0 in (d.0, d.1, ap (λ o. place_or o other) c.1 ∙ d.2)
 
 last_stands : (unit : ℕ) (first : Token) (rest : Words) → StandsIn unit (first ∷ rest) (last_place unit (first ∷ rest))
