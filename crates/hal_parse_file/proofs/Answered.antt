@@ -1,5 +1,5 @@
 -- What `parse` answers, by what is read.
-use Rattle.std.proofs.Common.{◌≡◌, ◌≢◌, ◌≤◌, ◌⊎◌, ℕ, ◌-◌, ◌<◌, List, [], ◌∷◌, length, Contains, Option, Some, None, refl, sym, ap, ◌∙◌, arith, inl, inr, slice_get, get_or}
+use Rattle.std.proofs.Common.{◌≡◌, ◌≢◌, ◌≤◌, ◌⊎◌, ℕ, ◌-◌, ◌<◌, ◌==◌, Bool, true, false, nat_tests, List, [], ◌∷◌, length, Contains, Option, Some, None, refl, sym, ap, ◌∙◌, arith, inl, inr, slice_get, get_or}
 use Rattle.std.proofs.lemmas.Option.{none-some, slice_get_past, slice_get_cases}
 use Rattle.std.proofs.lemmas.List.Elements.{Contains-get_or}
 use Rattle.hal_base.specs.declared.limits.TheConstants.{NESTING_LIMIT}
@@ -20,21 +20,24 @@ read_or other None = other
 read_or other (Some f) = f
 
 -- all words are read
-pub parsed : (words rest : Words) (file : File) → Some (file, rest) ≡ file_at NESTING_LIMIT words → length rest ≡ 0 → IsParsed words file
+pub parsed : (words rest : Words) (file : File) → Some (file, rest) ≡ file_at NESTING_LIMIT words → (length rest == 0) ≡ true → IsParsed words file
 unfolding read_or
 parsed words [] file e h =
     let s = file_sound NESTING_LIMIT words file (sym e) in
     record { is = record { spelled = s.0; shallow = s.1 }; only = λ other o. sym (ap (λ r. (read_or (file, []) r).0) (e ∙ file_complete NESTING_LIMIT words other o.spelled o.shallow)) }
-parsed words (first ∷ rest) file e h = absurd (omega (arith, h))
+parsed words (first ∷ rest) file e h = absurd (grind (arith, nat_tests))
 
 -- nothing is read
 pub no_file : (words : Words) → None ≡ file_at NESTING_LIMIT words → (file : File) → IsFileOf words file → ⊥
 no_file words e file o = none-some _ (e ∙ file_complete NESTING_LIMIT words file o.spelled o.shallow)
 
--- words are left over
-pub more_words : (words rest : Words) (file : File) → Some (file, rest) ≡ file_at NESTING_LIMIT words → length rest ≢ 0 → (other : File) → IsFileOf words other → ⊥
+rest_of : (words rest : Words) (file other : File) → Some (file, rest) ≡ file_at NESTING_LIMIT words → IsFileOf words other → rest ≡ []
 unfolding read_or
-more_words words rest file e h other o = h (ap (λ r. length (read_or (file, rest) r).1) (e ∙ file_complete NESTING_LIMIT words other o.spelled o.shallow))
+rest_of words rest file other e o = ap (λ r. (read_or (file, rest) r).1) (e ∙ file_complete NESTING_LIMIT words other o.spelled o.shallow)
+
+-- words are left over
+pub more_words : (words rest : Words) (file : File) → Some (file, rest) ≡ file_at NESTING_LIMIT words → (length rest == 0) ≡ false → (other : File) → IsFileOf words other → ⊥
+more_words words rest file e h other o = let k = rw (rest_of words rest file other e o) at h in absurd cc
 
 -- the place of a word of the list, where there is one, and else another place of one
 stands_at : (unit : ℕ) (first : Token) (rest : Words) (k : ℕ) (other : Place) → ((length (first ∷ rest) ≤ k) → StandsIn unit (first ∷ rest) other) →

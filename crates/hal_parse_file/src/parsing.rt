@@ -27,7 +27,7 @@ pub fn parse(alloc: Global, words: &[Token], unit: u32) -> Result<File, Fault>
 }
 
 /// The file of these words, if they are those of one.
-#[tactic(auto, using(crate::proofs::Answered::parsed, crate::proofs::Answered::no_file, crate::proofs::Answered::more_words), unfolding(hal_parse_expr::specs::Seen::seen_as))]
+#[tactic(auto, using(crate::proofs::Answered::no_file), unfolding(hal_parse_expr::specs::Seen::seen_as))]
 fn whole_file(alloc: Global, words: &[Token]) -> Result<Option<File>, AllocError>
     ensures parsed { IfOk result (λ found. IfSome found (λ file. IsParsed words.now (seen_file file))) }
     ensures none { IfOk result (λ found. IfNone found ((file : grammar.File) → IsFileOf words.now file → ⊥)) }
