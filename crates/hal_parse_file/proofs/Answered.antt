@@ -1,14 +1,13 @@
 -- What `parse` answers, by what is read.
-use Rattle.std.proofs.Common.{◌≡◌, ◌≢◌, ◌≤◌, ◌⊎◌, ℕ, ◌-◌, ◌<◌, ◌==◌, Bool, true, false, List, [], ◌∷◌, length, Contains, Option, Some, None, refl, sym, ap, ◌∙◌, arith, inl, inr, slice_get, get_or}
+use Rattle.std.proofs.Common.{◌≡◌, ◌≤◌, ◌⊎◌, ℕ, ◌-◌, ◌<◌, ◌==◌, true, false, [], ◌∷◌, length, Contains, Some, None, sym, ap, ◌∙◌, arith, inl, inr, slice_get, get_or}
 use Rattle.std.proofs.lemmas.Bool.Decides.{nat_tests}
 use Rattle.std.proofs.lemmas.Option.{none-some, slice_get_past, slice_get_cases}
 use Rattle.std.proofs.lemmas.List.Elements.{Contains-get_or}
 use Rattle.hal_base.specs.declared.limits.TheConstants.{NESTING_LIMIT}
 use Rattle.hal_base.specs.declared.refusal.Place.{Place}
 use Rattle.hal_words.specs.declared.word.Token.{Token}
-use Rattle.hal_grammar.specs.Units.{File, nesting_of_file}
+use Rattle.hal_grammar.specs.Units.{File}
 use Rattle.hal_grammar.specs.Words.{Words}
-use Rattle.hal_grammar.specs.SpellsFiles.{SpellsFile}
 use Rattle.hal_parse_expr.specs.Reading.{Read}
 use Rattle.hal_parse_file.specs.ReadingFiles.{file_at}
 use Rattle.hal_parse_file.specs.Parsed.{IsFileOf, IsParsed, StandsIn}

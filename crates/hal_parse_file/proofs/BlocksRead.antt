@@ -9,8 +9,8 @@ use Rattle.hal_grammar.specs.Statements.{Statement, nesting_of_statement}
 use Rattle.hal_grammar.specs.Units.{Head, Block, BlockOf, Elements, NoElements, StatementFirst, BlockFirst, stands_inside, holds_elements, nesting_of_block, nesting_of_elements}
 use Rattle.hal_grammar.specs.Words.{Words, reserved_then, BeginsReserved, begins}
 use Rattle.hal_grammar.specs.SpellsDeclarations.{SpellsNameEnd, SpellsDeclarations}
-use Rattle.hal_grammar.specs.SpellsStatements.{begins_label, no_labels, more_labels, SpellsStatement, labelled}
-use Rattle.hal_grammar.specs.SpellsFiles.{SpellsHead, program_head, compool_head, task_head, procedure_head, function_head, SpellsBlock, block, SpellsElements, closed, statement_first, block_first}
+use Rattle.hal_grammar.specs.SpellsStatements.{SpellsStatement}
+use Rattle.hal_grammar.specs.SpellsFiles.{SpellsBlock, block, SpellsElements, closed, statement_first, block_first}
 use Rattle.hal_grammar.proofs.OneFile.{statement_apart}
 use Rattle.hal_grammar.proofs.OneStatement.{reserved_starts, starts, IsStart, statement_starts}
 use Rattle.hal_grammar.proofs.ShorterStatements.{statement_shorter}

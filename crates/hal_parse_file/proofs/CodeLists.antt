@@ -1,7 +1,7 @@
 -- Lists parted by commas, as the code gathers them.
-use Rattle.std.proofs.Common.{◌≡◌, ◌≢◌, ℕ, zero, suc, ◌-◌, List, [], ◌∷◌, ◌++◌, Option, Some, None, refl, ap, sym, ◌∙◌, arith}
+use Rattle.std.proofs.Common.{◌≡◌, ◌≢◌, ℕ, zero, suc, ◌-◌, List, [], ◌∷◌, Some, None, refl, ap, ◌∙◌, arith}
 use Rattle.hal_words.specs.declared.word.Symbol.TheVariants as symbol
-use Rattle.hal_grammar.specs.Expressions.{Expression, MoreExpressions}
+use Rattle.hal_grammar.specs.Expressions.{Expression}
 use Rattle.hal_grammar.specs.Statements.{Listed}
 use Rattle.hal_grammar.specs.Words.{Words}
 use Rattle.hal_parse_expr.specs.Reading.{Read, Reader, followed, made_of, before_symbol, all, after_comma, parted}

@@ -1,10 +1,10 @@
 -- Statements inside others, by the number of levels that are left.
-use Rattle.std.proofs.Common.{◌≡◌, ◌≢◌, ℕ, zero, suc, ◌-◌, Option, Some, None, refl, ap, sym, ◌∙◌, arith}
+use Rattle.std.proofs.Common.{◌≡◌, ◌≢◌, ℕ, zero, suc, ◌-◌, None, refl, ap, arith}
 use Rattle.hal_base.specs.declared.refusal.Place.{Place}
 use Rattle.hal_words.specs.declared.reserved.Reserved.TheVariants as reserved
-use Rattle.hal_grammar.specs.Statements.{Basic, Statement, Updates}
+use Rattle.hal_grammar.specs.Statements.{Updates}
 use Rattle.hal_grammar.specs.Words.{Words}
-use Rattle.hal_parse_expr.specs.Reading.{Read, Reader, followed, made_of, past, all}
+use Rattle.hal_parse_expr.specs.Reading.{followed, made_of, past}
 use Rattle.hal_parse_file.specs.ReadingDeclarations.{name_end_at, where_left}
 use Rattle.hal_parse_file.specs.ReadingStatements.{body_of, statement_at, statement_below, statements, statements_of, updates_of}
 

@@ -7,7 +7,7 @@ use Rattle.hal_grammar.specs.Declarations.{Declaration}
 use Rattle.hal_grammar.specs.Units.{Head, Block, Template, template_of, Preface, File, file_of, nesting_of_block, nesting_of_template, nesting_of_preface, nesting_of_file}
 use Rattle.hal_grammar.specs.Words.{Words, reserved_then, name_then, BeginsReserved}
 use Rattle.hal_grammar.specs.SpellsDeclarations.{SpellsNameEnd}
-use Rattle.hal_grammar.specs.SpellsFiles.{SpellsHead, program_head, compool_head, task_head, procedure_head, function_head, SpellsBlock, block, SpellsTemplate, template, SpellsPreface, includes, templates, SpellsFile, block_alone, preface_first}
+use Rattle.hal_grammar.specs.SpellsFiles.{SpellsBlock, SpellsTemplate, template, SpellsPreface, includes, templates, SpellsFile, block_alone, preface_first}
 use Rattle.hal_grammar.proofs.ShorterFiles.{preface_shorter}
 use Rattle.hal_grammar.proofs.OneFile.{block_apart}
 use Rattle.hal_parse_expr.specs.Reading.{made_of, before, name_at}

@@ -1,5 +1,5 @@
 -- What `parse` answers.
-use Rattle.std.specs.Prelude.{◌≡◌, ◌≤◌, ℕ, List, [], ◌∷◌, length, Contains, ⊤}
+use Rattle.std.specs.Prelude.{◌≡◌, ◌≤◌, ℕ, [], ◌∷◌, length, Contains, ⊤}
 use Rattle.hal_base.specs.declared.limits.TheConstants.{NESTING_LIMIT}
 use Rattle.hal_base.specs.declared.refusal.Place.{Place}
 use Rattle.hal_base.specs.declared.refusal.Refusal.{Refusal}

@@ -8,7 +8,7 @@ use Rattle.hal_words.specs.declared.word.Word.{Word}
 use Rattle.hal_words.specs.declared.word.Word.TheVariants as word
 use Rattle.hal_grammar.specs.Leaves.{Naming, Sign, Literal}
 use Rattle.hal_grammar.specs.Expressions.{Expression}
-use Rattle.hal_grammar.specs.Declarations.{Mark, SingleMark, DoubleMark, LatchedMark, StaticMark, AutomaticMark, DenseMark, AlignedMark, Kind, IntegerKind, BooleanKind, EventKind, BitKind, CharacterKind, StructureKind, Initial, Valued, LiteralTimes, NameTimes, ListTimes, Initials, NoInitials, MoreInitials, Attribute, Dimensions, Typed, Marked, LockGroup, LockAny, InitialValues, ConstantValues, Declared, declared_of, Part, part_of, Declaration, Declares, Structures}
+use Rattle.hal_grammar.specs.Declarations.{Mark, SingleMark, DoubleMark, LatchedMark, StaticMark, AutomaticMark, DenseMark, AlignedMark, Kind, IntegerKind, BooleanKind, EventKind, BitKind, CharacterKind, StructureKind, Initial, Valued, LiteralTimes, NameTimes, ListTimes, Initials, MoreInitials, Attribute, Dimensions, Typed, Marked, LockGroup, LockAny, InitialValues, ConstantValues, Declared, declared_of, Part, part_of, Declaration, Declares, Structures}
 use Rattle.hal_grammar.specs.Words.{Words}
 unfoldable pub use Rattle.hal_syntax.specs.Rows.{initials}
 use Rattle.hal_parse_expr.specs.Reading.{Reader, followed, made_of, decided, past, past_symbol, name_at, integer_at, before_symbol, all, parted}

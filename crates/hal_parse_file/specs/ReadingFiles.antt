@@ -8,8 +8,7 @@ use Rattle.hal_words.specs.declared.word.Word.{Word}
 use Rattle.hal_words.specs.declared.word.Word.TheVariants as word
 use Rattle.hal_grammar.specs.Leaves.{Naming}
 use Rattle.hal_grammar.specs.Declarations.{Declaration}
-use Rattle.hal_grammar.specs.Statements.{Statement}
-use Rattle.hal_grammar.specs.Units.{Mode, Reenters, Excludes, Precision, SinglePrecision, DoublePrecision, Returns, NoKind, HasKind, Head, ProgramHead, CompoolHead, TaskHead, ProcedureHead, FunctionHead, Block, BlockOf, Elements, NoElements, StatementFirst, BlockFirst, Template, template_of, Preface, Includes, Templates, File, file_of, stands_inside, holds_elements}
+use Rattle.hal_grammar.specs.Units.{Mode, Reenters, Excludes, Precision, SinglePrecision, DoublePrecision, Returns, NoKind, HasKind, Head, ProgramHead, CompoolHead, TaskHead, ProcedureHead, FunctionHead, Block, BlockOf, Template, template_of, Preface, Includes, Templates, File, file_of, stands_inside, holds_elements}
 use Rattle.hal_grammar.specs.Words.{Words}
 pub use Rattle.hal_syntax.specs.Rows.{Member as Element, OfStatement as StatementElement, OfBlock as BlockElement}
 unfoldable pub use Rattle.hal_syntax.specs.Rows.{elements}

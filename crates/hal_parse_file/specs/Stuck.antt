@@ -1,5 +1,5 @@
 -- Where the reading of words that are no file gets stuck: at the first word of the declaration, statement or unit that can't be read.
-use Rattle.std.specs.Prelude.{ℕ, zero, suc, ◌-◌, ◌||◌, List, length, Option, Some, None, Bool, true, false, slice_get, if◌then◌else◌}
+use Rattle.std.specs.Prelude.{ℕ, zero, suc, ◌-◌, ◌||◌, length, Option, Some, None, Bool, true, false, slice_get, if◌then◌else◌}
 use Rattle.hal_base.specs.declared.refusal.Place.{Place}
 use Rattle.hal_words.specs.declared.reserved.Reserved.TheVariants as reserved
 use Rattle.hal_words.specs.declared.word.Token.{Token}

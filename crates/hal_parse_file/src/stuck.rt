@@ -1,6 +1,6 @@
 //! Where the reading of words that are no file gets stuck.
 
-ghost use Rattle.std.specs.Prelude.{◌≡◌, ◌||◌, IfOk, false, true, if◌then◌else◌};
+ghost use Rattle.std.specs.Prelude.{◌≡◌, ◌||◌, IfOk, false, true};
 ghost use Rattle.hal_grammar.specs.Units.{stands_inside};
 ghost use Rattle.hal_syntax.specs.SeenUnits.{seen_head};
 ghost use Rattle.hal_parse_file.specs.Stuck.{block_stuck, body_stuck, close_stuck, file_stuck, headed_stuck, opened_stuck, stuck_place, last_place};

@@ -1,6 +1,6 @@
 //! Units, and what stands in them: a unit is one level deeper than what it stands in.
 
-ghost use Rattle.std.specs.Prelude.{◌≡◌, Bool, IfOk, map};
+ghost use Rattle.std.specs.Prelude.{◌≡◌, IfOk, map};
 ghost use Rattle.hal_grammar.specs.Units.{stands_inside};
 ghost use Rattle.hal_syntax.specs.SeenDeclarations.{seen_declaration};
 ghost use Rattle.hal_syntax.specs.SeenLeaves.{seen_name};

@@ -1,4 +1,4 @@
-use Rattle.std.proofs.Common.{rules, ◌≡◌, length, ap, sym, ◌∙◌, Some, None}
+use Rattle.std.proofs.Common.{rules, ◌≡◌, Some}
 use Rattle.hal_syntax.specs.SeenExpressions.{seen_reference}
 use Rattle.hal_parse_expr.specs.Reading.{after_comma}
 use Rattle.hal_parse_expr.specs.ReadingExpressions.{reference_at}
