@@ -169,7 +169,7 @@ struct Nest<'a> {
 }
 
 /// What a notation says.
-fn nest(notation: &str) -> Option<Nest<'_>> {
+fn nest_of(notation: &str) -> Option<Nest<'_>> {
     let (before, rest) = notation.split_once("~")?;
     let (opening, rest) = rest.split_once("~")?;
     let (middle, rest) = rest.split_once("~")?;
@@ -235,7 +235,7 @@ fn of_row(alloc: Global, source: Source, row: &str) -> Result<String, AllocError
     let Some((notation, said)) = row.split_once(ARROW) else {
         return String::from_str(alloc, "a row with no source");
     };
-    let Some(nest) = nest(notation) else {
+    let Some(nest) = nest_of(notation) else {
         return String::from_str(alloc, "a row with nothing to repeat");
     };
     let deepest = deepest(alloc, source, nest, number(said))?;
