@@ -87,9 +87,9 @@ impl Kind {
     /// Where the repeated text stands in the unit.
     fn frame(self) -> (&'static str, &'static str) {
         match self {
-            Kind::List => (" P: PROGRAM; DECLARE INTEGER, A", "; CLOSE P;\n"),
-            Kind::Sum => (" P: PROGRAM; A = 1", "; CLOSE P;\n"),
-            Kind::Product => (" P: PROGRAM; A = 1", "; CLOSE P;\n"),
+            Kind::List => (" P: PROGRAM; DECLARE INTEGER, A", " ; CLOSE P;\n"),
+            Kind::Sum => (" P: PROGRAM; A = 1", " ; CLOSE P;\n"),
+            Kind::Product => (" P: PROGRAM; A = 1", " ; CLOSE P;\n"),
             Kind::Labels => (" P: PROGRAM;\n", " A = 1; CLOSE P;\n"),
             Kind::Stuck => (" P: PROGRAM;\n", " ) CLOSE P;\n"),
             _ => (" P: PROGRAM;\n", " CLOSE P;\n"),
@@ -99,7 +99,7 @@ impl Kind {
     /// What is repeated.
     fn repeated(self, alloc: Global) -> Result<String, AllocError> {
         match self {
-            Kind::List => String::from_str(alloc, ", A\n"),
+            Kind::List => String::from_str(alloc, " , A\n"),
             Kind::Sum => String::from_str(alloc, " + A\n"),
             Kind::Product => String::from_str(alloc, " A\n"),
             Kind::Parentheses => parenthesized(alloc),
