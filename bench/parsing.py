@@ -14,7 +14,7 @@ from programs import program, run
 # Kinds of units, and the bytes of the larger one, which keep the limit of words.
 KINDS = (('list', 150_000), ('sum', 160_000), ('product', 180_000), ('parentheses', 60_000), ('groups', 175_000), ('labels', 120_000),
          ('ordinary', 140_000), ('units', 240_000), ('stuck', 240_000))
-TIMES = 10
+TIMES = 30
 HIGHEST = 2.5
 
 
