@@ -3,7 +3,7 @@
 
 A program of its own, crates/parse_times, makes a unit of one kind and parses its words. A row is a kind
 of unit of so many bytes: its words, the processor time of parsing it once (the difference between parsing
-it TIMES + 1 times and not at all; the least of three), the words a second, and the time's ratio to that of
+it TIMES times and not at all; the least of three), the words a second, and the time's ratio to that of
 a unit of half the bytes. The larger unit is nearly at the limit of 65,536 words. The ratio is to stay
 below 2.5 for each kind.
 """
