@@ -1,3 +1,7 @@
-pub mod Class
-pub mod Front
-pub mod Cuts
+pub mod Texts
+pub mod Defined
+pub mod Compiled
+pub mod Numbers
+pub mod Opened
+pub mod Walks
+pub mod Faults

@@ -1,11 +1,21 @@
-//! The lexer: the words of a unit of the second form, from its bytes.
+//! The words of a file: its items with REPLACE applied, each of them a word, and few enough.
 #![tactic(auto)]
 
-mod class;
-mod line;
-mod number;
-mod reserved;
-mod unit;
-mod word;
+mod child;
+mod compiled;
+mod compiling;
+mod definitions;
+mod file;
+mod file_words;
+mod frames;
+mod fronts;
+mod laws;
+mod replacing;
+mod temporaries;
+mod text_words;
+mod token_list;
+mod walk;
 
-pub use unit::tokens;
+pub use file::tokens;
+pub use laws::a_text_with_words_breaks_nothing;
+pub use token_list::Tokens;

@@ -1,8 +1,8 @@
 -- The loop over cycles does what the tasks of the definition say.
 use Rattle.std.proofs.Common.{◌≡◌, ℕ, ◌<◌, ◌≤◌, ◌⊎◌, inl, inr, List, [], ◌∷◌, ◌++◌, length, take, drop, ℤ, Bor, refl, sym, ◌∙◌, ap, subst, arith}
 use Rattle.std.proofs.Math.Seq.{take-append_seam}
-use Rattle.hal_tree.specs.Tree.{UnitTree}
-use Rattle.hal_tree.specs.Naming.{declared_names}
+use Rattle.hal_core.specs.Tree.{UnitTree}
+use Rattle.hal_core.specs.Naming.{declared_names}
 use Rattle.hal_values.specs.declared.request.Request.{Request}
 use Rattle.hal_values.specs.declared.request.Request.TheVariants.{Finish}
 use Rattle.hal_meaning.specs.declared.course.Course.{Course}

@@ -1,12 +1,13 @@
 -- What the entry of a name says of the declared names.
-use Rattle.std.proofs.Common.{◌≡◌, ℕ, suc, List, [], ◌∷◌, ◌++◌, length, Bool, true, false, cond, not, Option, Some, None, nat_eq, nat_lt, ◌+◌, refl, sym, ◌∙◌, ap, subst, arith, Decides, Contains}
+use Rattle.std.proofs.Common.{◌≡◌, ℕ, suc, List, [], ◌∷◌, ◌++◌, length, Bool, true, false, cond, not, ◌||◌, Option, Some, None, nat_eq, nat_lt, ◌+◌, refl, sym, ◌∙◌, ap, subst, arith, Decides, Contains}
 use Rattle.std.specs.Option.{is_some, option_map}
 use Rattle.std.specs.Cmp.Lexicographic.{pointwise, bytes_decides}
 use Rattle.std.proofs.lemmas.Bool.{false≢true}
-use Rattle.std.proofs.lemmas.Bool.Decides.{same_from_decides, Decides-like, Decides-ltb}
+use Rattle.std.proofs.lemmas.Bool.Decides.{same_from_decides, Decides-at, Decides-like, Decides-ltb}
 use Rattle.std.proofs.lemmas.List.Elements.{Contains-append_right}
 use Rattle.std.proofs.lemmas.Map.Made.{Contains-tail}
-use Rattle.hal_tree.specs.Naming.{IsOnce}
+use Rattle.hal_core.specs.Naming.{IsOnce}
+use Rattle.hal_core.specs.Uses.{is_among, is_once}
 use Rattle.hal_meaning.specs.declared.names.Entry.{Entry}
 use Rattle.hal_meaning.specs.Values.{cell_of}
 use Rattle.hal_meaning.specs.NameTable.{entry_at, later, entry_of, noted, found, IsTable, IsNoted}
@@ -43,10 +44,10 @@ abbrev pub Tells : List (List ℕ) → List ℕ → Option Entry → Type 0
 Tells names name None = ¬ Contains names name
 Tells names name (Some entry) = Contains names name × Decides entry.once (IsOnce names name)
 
-not_in_none : (name : List ℕ) → let none : List (List ℕ) = [] in ¬ Contains none name
+pub not_in_none : (name : List ℕ) → let none : List (List ℕ) = [] in ¬ Contains none name
 not_in_none name has = absurd (omega (arith, has.1))
 
-head_of : (declared : List ℕ) (names : List (List ℕ)) (name : List ℕ) → declared ≡ name → Contains (declared ∷ names) name
+pub head_of : (declared : List ℕ) (names : List (List ℕ)) (name : List ℕ) → declared ≡ name → Contains (declared ∷ names) name
 head_of declared names name same = (0, omega arith, same)
 
 tail_of : List (List ℕ) → List (List ℕ)
@@ -125,25 +126,60 @@ Tells-entry_of [] name = not_in_none name
 Tells-entry_of (declared ∷ names) name =
     tells_cases declared names name (entry_of names name) (pointwise nat_eq declared name) (bytes_decides declared name) (Tells-entry_of names name)
 
+-- the entry tells whether the name stands in the list, and whether once
+once_of : Option Entry → Bool
+once_of None = false
+once_of (Some entry) = entry.once
+
+later_some : (entry : Option Entry) → is_some (option_map later entry) ≡ is_some entry
+later_some None = refl
+later_some (Some entry) = refl
+
+later_once : (entry : Option Entry) → once_of (option_map later entry) ≡ once_of entry
+unfolding once_of
+later_once None = refl
+later_once (Some entry) = refl
+
+some_cases : (same rest : Bool) (entry : Option Entry) → is_some entry ≡ rest → is_some (cond same (Some (entry_at 0 (not (is_some entry)))) (option_map later entry)) ≡ (same || rest)
+some_cases true rest entry is = refl
+some_cases false rest entry is = later_some entry ∙ is
+
+among-entry : (names : List (List ℕ)) (name : List ℕ) → is_some (entry_of names name) ≡ is_among names name
+among-entry [] name = refl
+among-entry (declared ∷ names) name = some_cases (pointwise nat_eq declared name) (is_among names name) (entry_of names name) (among-entry names name)
+
+once_cases : (same among once : Bool) (entry : Option Entry) → is_some entry ≡ among → once_of entry ≡ once
+    → once_of (cond same (Some (entry_at 0 (not (is_some entry)))) (option_map later entry)) ≡ cond same (not among) once
+unfolding once_of
+once_cases true among once entry is same = ap not is
+once_cases false among once entry is same = later_once entry ∙ same
+
+once-entry : (names : List (List ℕ)) (name : List ℕ) → once_of (entry_of names name) ≡ is_once names name
+unfolding once_of
+once-entry [] name = refl
+once-entry (declared ∷ names) name =
+    once_cases (pointwise nat_eq declared name) (is_among names name) (is_once names name) (entry_of names name) (among-entry names name) (once-entry names name)
+
+-- an entry that was found, or none
+pub is_once-found : (names : List (List ℕ)) (name : List ℕ) (entry : Entry) → Some entry ≡ entry_of names name → entry.once ≡ is_once names name
+unfolding once_of
+is_once-found names name entry is = ap once_of is ∙ once-entry names name
+
+pub is_once-never : (names : List (List ℕ)) (name : List ℕ) → None ≡ entry_of names name → false ≡ is_once names name
+unfolding once_of
+is_once-never names name is = ap once_of is ∙ once-entry names name
+
 Contains-once : (names : List (List ℕ)) (name : List ℕ) → IsOnce names name → Contains names name
 Contains-once names name once =
     subst (λ (list : List (List ℕ)). Contains list name) (sym once.here) (Contains-append_right once.before (name ∷ once.after) name (head_of name once.after name refl))
 
--- an entry that was found, or none
-pub Decides-once : (names : List (List ℕ)) (name : List ℕ) (entry : Entry) → Some entry ≡ entry_of names name → Decides entry.once (IsOnce names name)
-Decides-once names name entry is = let tells = subst (Tells names name) (sym is) (Tells-entry_of names name) in tells.1
+once_tells : (names : List (List ℕ)) (name : List ℕ) (entry : Option Entry) → Tells names name entry → Decides (once_of entry) (IsOnce names name)
+unfolding once_of
+once_tells names name None tells = (λ e. absurd (false≢true e), λ once. absurd (tells (Contains-once names name once)))
+once_tells names name (Some entry) tells = tells.1
 
-pub Decides-never : (names : List (List ℕ)) (name : List ℕ) → None ≡ entry_of names name → Decides false (IsOnce names name)
-Decides-never names name is =
-    let tells = subst (Tells names name) (sym is) (Tells-entry_of names name) in
-    (λ e. absurd (false≢true e), λ once. absurd (tells (Contains-once names name once)))
-
-some_tells : (names : List (List ℕ)) (name : List ℕ) (entry : Option Entry) → Tells names name entry → Decides (is_some entry) (Contains names name)
-some_tells names name None tells = (λ e. absurd (false≢true e), λ has. absurd (tells has))
-some_tells names name (Some entry) tells = (λ _. tells.0, λ _. refl)
-
-pub Decides-is_some : (names : List (List ℕ)) (name : List ℕ) → Decides (is_some (entry_of names name)) (Contains names name)
-Decides-is_some names name = some_tells names name (entry_of names name) (Tells-entry_of names name)
+pub is_once-Decides : (names : List (List ℕ)) (name : List ℕ) → Decides (is_once names name) (IsOnce names name)
+is_once-Decides names name = Decides-at _ _ (sym (once-entry names name)) (once_tells names name (entry_of names name) (Tells-entry_of names name))
 
 -- the cell of an entry is the name's place
 ltb-suc : (m n : ℕ) → nat_lt (1 + m) (suc n) ≡ nat_lt m n

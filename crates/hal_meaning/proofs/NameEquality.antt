@@ -4,20 +4,20 @@ use Rattle.std.specs.Map.{lookup}
 use Rattle.std.specs.Cmp.Lexicographic.{pointwise, bytes_decides}
 use Rattle.std.proofs.Math.Seq.{take-append_seam}
 use Rattle.std.proofs.lemmas.Bool.Decides.{same_from_decides, Decides-and, Decides-eqb, Decides-like}
-use Rattle.hal_tree.specs.NameText.{filled}
-use Rattle.hal_tree.specs.contracts.name.NamePartialEq.TheImpl as derived
+use Rattle.hal_words.specs.Rooms.{filled}
+use Rattle.hal_words.specs.contracts.name.NamePartialEq.TheImpl as derived
 use Rattle.hal_meaning.specs.declared.names.Entry.{Entry}
 use Rattle.hal_meaning.specs.NameTable.{entry_of, found, noted, IsTable, IsNoted}
 
 -- names with the same room and the same length
-same_text : (a b : List ℕ) → (filled a ≡ filled b) × (length a ≡ length b) → a ≡ b
+same_text : (a b : List ℕ) → (filled 32 a ≡ filled 32 b) × (length a ≡ length b) → a ≡ b
 same_text a b same =
-    sym (take-append_seam a _) ∙ ap (λ room. take (length a) room) same.0 ∙ ap (λ n. take n (filled b)) same.1 ∙ take-append_seam b _
+    sym (take-append_seam a _) ∙ ap (λ room. take (length a) room) same.0 ∙ ap (λ n. take n (filled 32 b)) same.1 ∙ take-append_seam b _
 
 eq-Decides : (a b : List ℕ) → Decides ((derived.eq-value).it a b) (a ≡ b)
 eq-Decides a b =
-    Decides-like _ (same_text a b) (λ e. (ap filled e, ap length e))
-    (Decides-and _ _ (bytes_decides (filled a) (filled b)) (Decides-eqb (length a) (length b)))
+    Decides-like _ (same_text a b) (λ e. (ap (filled 32) e, ap length e))
+    (Decides-and _ _ (bytes_decides (filled 32 a) (filled 32 b)) (Decides-eqb (length a) (length b)))
 
 pub eq-pointwise : (a b : List ℕ) → (derived.eq-value).it a b ≡ pointwise nat_eq a b
 eq-pointwise a b = same_from_decides _ _ (eq-Decides a b) (bytes_decides a b)

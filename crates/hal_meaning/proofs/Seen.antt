@@ -1,16 +1,16 @@
 -- How a statement of a known kind is seen, what its names are, and what it comes to.
-use Rattle.std.proofs.Common.{◌≡◌, ◌<◌, ℕ, ℤ, List, [], ◌∷◌, length, map, All, Bool, true, false, Option, Some, None, Box, Bor, Vec, Decides, sym, ap, subst, ◌∙◌, arith}
+use Rattle.std.proofs.Common.{◌≡◌, ◌<◌, ℕ, ℤ, List, [], ◌∷◌, length, map, Bool, true, false, Option, Some, None, Box, Bor, Vec, sym, ap, subst, ◌∙◌, arith}
 use Rattle.std.specs.declared.alloc.Global.{Global}
 use Rattle.hal_base.specs.declared.refusal.Place.{Place}
-use Rattle.hal_tree.specs.declared.tree.Channel.{Channel}
-use Rattle.hal_tree.specs.declared.tree.Comparison.{Comparison}
-use Rattle.hal_tree.specs.declared.tree.Statement.{Statement}
-use Rattle.hal_tree.specs.declared.tree.StatementKind.{Assign, Write, If, While}
-use Rattle.hal_tree.specs.declared.tree.Sum.{Sum}
-use Rattle.hal_tree.specs.Tree.{ComparisonTree, StatementTree, Assigned, Written, Chosen, Looped, AlternativeTree, NoElse, Else}
-use Rattle.hal_tree.specs.Naming.{statement_names, body_names}
-use Rattle.hal_tree.specs.View.{sum_tree, comparison_tree, statement_tree, alternative_tree, body_tree, kind_tree}
-use Rattle.hal_tree.proofs.Made.{made_assigned, made_written, made_chosen, made_looped}
+use Rattle.hal_core.specs.declared.tree.Channel.{Channel}
+use Rattle.hal_core.specs.declared.tree.Comparison.{Comparison}
+use Rattle.hal_core.specs.declared.tree.Statement.{Statement}
+use Rattle.hal_core.specs.declared.tree.StatementKind.{Assign, Write, If, While}
+use Rattle.hal_core.specs.declared.tree.Sum.{Sum}
+use Rattle.hal_core.specs.Tree.{ComparisonTree, StatementTree, Assigned, Written, Chosen, Looped, AlternativeTree, NoElse, Else}
+use Rattle.hal_core.specs.Uses.{first_stray, statement_uses, body_uses}
+use Rattle.hal_core.specs.View.{sum_tree, comparison_tree, statement_tree, alternative_tree, body_tree, kind_tree}
+use Rattle.hal_core.proofs.Made.{made_assigned, made_written, made_chosen, made_looped}
 use Rattle.hal_values.specs.declared.environment.ErrNo.{ErrNo}
 use Rattle.hal_values.specs.declared.request.Request.{Request}
 use Rattle.hal_meaning.specs.declared.heard.Heard.{Heard}
@@ -47,17 +47,17 @@ pub seen_looped : (one : Statement) (condition : Comparison) (body : Vec Stateme
     → one.kind ≡ While condition body → statement_tree one ≡ Looped one.place (comparison_tree condition) (body_tree body.items)
 seen_looped one condition body is = ap (kind_tree one.place) is ∙ made_looped one.place condition body
 
--- the names of a statement, where it is seen so
-pub Decides-seen : (P : List ℕ → Type 0) (r : Bool) (one seen : StatementTree) → one ≡ seen → Decides r (All P (statement_names seen)) → Decides r (All P (statement_names one))
-Decides-seen P r one seen is decided = subst (λ (tree : StatementTree). Decides r (All P (statement_names tree))) (sym is) decided
+-- the first stray of a statement, where it is seen so
+pub stray-seen : (names : List (List ℕ)) (result : Option Place) (one seen : StatementTree) → one ≡ seen → result ≡ first_stray names (statement_uses seen) → result ≡ first_stray names (statement_uses one)
+stray-seen names result one seen is found = found ∙ ap (λ (tree : StatementTree). first_stray names (statement_uses tree)) (sym is)
 
--- the names of a statement in a box
-pub Decides-boxed : (P : List ℕ → Type 0) (r : Bool) (one boxed : Statement) → one ≡ boxed → Decides r (All P (statement_names (statement_tree one))) → Decides r (All P (statement_names (statement_tree boxed)))
-Decides-boxed P r one boxed is decided = subst (λ (s : Statement). Decides r (All P (statement_names (statement_tree s)))) is decided
+-- that of a statement in a box
+pub stray-boxed : (names : List (List ℕ)) (result : Option Place) (one boxed : Statement) → one ≡ boxed → result ≡ first_stray names (statement_uses (statement_tree one)) → result ≡ first_stray names (statement_uses (statement_tree boxed))
+stray-boxed names result one boxed is found = found ∙ ap (λ (s : Statement). first_stray names (statement_uses (statement_tree s))) is
 
--- the names of a group's body
-pub Decides-body : (P : List ℕ → Type 0) (r : Bool) (listed items : List Statement) → listed ≡ items → Decides r (All P (body_names (body_tree listed))) → Decides r (All P (body_names (body_tree items)))
-Decides-body P r listed items is decided = subst (λ (list : List Statement). Decides r (All P (body_names (body_tree list)))) is decided
+-- that of a group's body
+pub stray-body : (names : List (List ℕ)) (result : Option Place) (listed items : List Statement) → listed ≡ items → result ≡ first_stray names (body_uses (body_tree listed)) → result ≡ first_stray names (body_uses (body_tree items))
+stray-body names result listed items is found = found ∙ ap (λ (list : List Statement). first_stray names (body_uses (body_tree list))) is
 
 -- what a statement comes to, where it is seen so
 pub ComesTo-seen : (names : List (List ℕ)) (left : List Heard) (one seen : StatementTree) (state : State) (result : Result Flow) → one ≡ seen

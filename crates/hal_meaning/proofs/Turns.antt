@@ -1,9 +1,9 @@
 -- The evaluator's loops over a body's statements and over a group's turns do what the definition says.
 use Rattle.std.proofs.Common.{◌≡◌, ℕ, ◌<◌, ◌≤◌, List, [], ◌∷◌, length, Bool, true, false, ℤ, Bor, refl, sym, ◌∙◌, ap, subst, arith}
-use Rattle.hal_tree.specs.declared.tree.Statement.{Statement}
-use Rattle.hal_tree.specs.Tree.{UnitTree, ComparisonTree, BodyTree}
-use Rattle.hal_tree.specs.Naming.{declared_names}
-use Rattle.hal_tree.specs.View.{statement_tree, body_tree}
+use Rattle.hal_core.specs.declared.tree.Statement.{Statement}
+use Rattle.hal_core.specs.Tree.{UnitTree, ComparisonTree, BodyTree}
+use Rattle.hal_core.specs.Naming.{declared_names}
+use Rattle.hal_core.specs.View.{statement_tree, body_tree}
 use Rattle.hal_values.specs.declared.environment.ErrNo.{ErrNo}
 use Rattle.hal_values.specs.declared.request.Request.{Request}
 use Rattle.hal_values.specs.declared.request.Request.TheVariants.{Pass}

@@ -1,46 +1,45 @@
--- What holds of each name of a phrase holds of each name of its parts, and the other way round.
-use Rattle.std.proofs.Common.{◌≡◌, ℕ, ◌+◌, ◌<◌, List, [], ◌∷◌, ◌++◌, length, drop, get_or, flat_map, map, All, Bool, true, false, Decides, refl, sym, ◌∙◌, ap, subst, add-one}
+-- The first stray of a phrase is that of its first part that has one.
+use Rattle.std.proofs.Common.{◌≡◌, ℕ, ◌+◌, ◌<◌, List, [], ◌∷◌, ◌++◌, length, drop, get_or, flat_map, map, Bool, true, false, cond, Option, Some, None, refl, sym, ◌∙◌, ap, add-one}
 use Rattle.std.proofs.Math.Seq.{drop-cons}
-use Rattle.std.proofs.lemmas.Bool.{false≢true}
-use Rattle.std.proofs.lemmas.Bool.Decides.{Decides-like}
-use Rattle.std.proofs.lemmas.List.Elements.{All-nil, All-cons, All-head, All-tail, All-append}
-use Rattle.hal_tree.specs.declared.tree.Statement.{Statement}
-use Rattle.hal_tree.specs.Naming.{statement_names, body_names}
-use Rattle.hal_tree.specs.View.{statement_tree, body_tree}
+use Rattle.std.specs.Option.{option_or}
+use Rattle.hal_base.specs.declared.refusal.Place.{Place}
+use Rattle.hal_core.specs.declared.tree.Statement.{Statement}
+use Rattle.hal_core.specs.Uses.{Use, used, is_once, first_stray, statement_uses, body_uses}
+use Rattle.hal_core.specs.View.{statement_tree, body_tree}
 
-All-left : {X : Type 0} (P : X → Type 0) (xs ys : List X) → All P (xs ++ ys) → All P xs
-All-left P [] ys all = All-nil P
-All-left P (x ∷ xs) ys all = All-cons P x xs (All-head P x (xs ++ ys) all) (All-left P xs ys (All-tail P x (xs ++ ys) all))
+stray_cases : (once : Bool) (place : Place) (both front rest : Option Place) → both ≡ option_or front rest → cond once both (Some place) ≡ option_or (cond once front (Some place)) rest
+stray_cases true place both front rest is = is
+stray_cases false place both front rest is = refl
 
-All-right : {X : Type 0} (P : X → Type 0) (xs ys : List X) → All P (xs ++ ys) → All P ys
-All-right P [] ys all = all
-All-right P (x ∷ xs) ys all = All-right P xs ys (All-tail P x (xs ++ ys) all)
+pub stray-append : (names : List (List ℕ)) (xs ys : List Use) → first_stray names (xs ++ ys) ≡ option_or (first_stray names xs) (first_stray names ys)
+stray-append names [] ys = refl
+stray-append names (one ∷ xs) ys = stray_cases (is_once names one.name) one.place _ _ _ (stray-append names xs ys)
 
--- what is left to test decides the whole
-pub record Rests {X : Type 0} (P : X → Type 0) (rest whole : List X) : Type 0 where
-  pub onto : All P rest → All P whole
-  pub from : All P whole → All P rest
+-- the part in front has one
+pub stray-front : (names : List (List ℕ)) (xs ys : List Use) (place : Place) → Some place ≡ first_stray names xs → Some place ≡ first_stray names (xs ++ ys)
+stray-front names xs ys place here = sym (stray-append names xs ys ∙ ap (λ o. option_or o (first_stray names ys)) (sym here))
 
-pub Rests-start : {X : Type 0} (P : X → Type 0) (whole : List X) → Rests P whole whole
-Rests-start P whole = record { onto = λ all. all; from = λ all. all }
+-- the part in front has none
+pub stray-rest : (names : List (List ℕ)) (xs ys : List Use) (rest : Option Place) → None ≡ first_stray names xs → rest ≡ first_stray names ys → rest ≡ first_stray names (xs ++ ys)
+stray-rest names xs ys rest none same = same ∙ sym (stray-append names xs ys ∙ ap (λ o. option_or o (first_stray names ys)) (sym none))
 
--- the part in front holds
-pub Rests-next : {X : Type 0} (P : X → Type 0) (front rest both whole : List X) → Rests P both whole → both ≡ front ++ rest → Decides true (All P front) → Rests P rest whole
-Rests-next P front rest both whole rests same holds = record {
-  onto = λ others. rests.onto (subst (All P) (sym same) (All-append P front rest (holds.0 refl) others));
-  from = λ all. All-right P front rest (subst (All P) same (rests.from all));
-}
+-- a name, and uses behind it
+pub stray-target : (names : List (List ℕ)) (target : List ℕ) (place : Place) (uses : List Use) (once : Bool) → once ≡ is_once names target
+    → cond once (first_stray names uses) (Some place) ≡ first_stray names (used target place ∷ uses)
+stray-target names target place uses once is = ap (λ o. cond o (first_stray names uses) (Some place)) is
 
--- the part in front fails
-pub Rests-fails : {X : Type 0} (P : X → Type 0) (front rest both whole : List X) → Rests P both whole → both ≡ front ++ rest → Decides false (All P front) → Decides false (All P whole)
-Rests-fails P front rest both whole rests same fails =
-    (λ e. absurd (false≢true e), λ all. fails.1 (All-left P front rest (subst (All P) same (rests.from all))))
+-- what is left of a list has the first stray of the whole
+abbrev pub Leaves : List (List ℕ) → List Use → List Use → Type 0
+Leaves names rest whole = first_stray names rest ≡ first_stray names whole
 
-pub Decides-single : {X : Type 0} (P : X → Type 0) (r : Bool) (x : X) → Decides r (P x) → Decides r (All P (x ∷ []))
-Decides-single P r x is = Decides-like r (λ holds. All-cons P x [] holds (All-nil P)) (λ all. All-head P x [] all) is
+-- one item more had none
+pub Leaves-next : (names : List (List ℕ)) (front rest both whole : List Use) → Leaves names both whole → both ≡ front ++ rest → None ≡ first_stray names front → Leaves names rest whole
+Leaves-next names front rest both whole leaves same none = stray-rest names front rest (first_stray names rest) none refl ∙ sym (ap (first_stray names) same) ∙ leaves
 
-pub Decides-cons : {X : Type 0} (P : X → Type 0) (r : Bool) (x : X) (xs : List X) → Decides true (P x) → Decides r (All P xs) → Decides r (All P (x ∷ xs))
-Decides-cons P r x xs first is = Decides-like r (λ all. All-cons P x xs (first.0 refl) all) (λ all. All-tail P x xs all) is
+-- the item has one
+pub Leaves-here : (names : List (List ℕ)) (front rest both whole : List Use) (place : Place) → Leaves names both whole → both ≡ front ++ rest → Some place ≡ first_stray names front
+    → Some place ≡ first_stray names whole
+Leaves-here names front rest both whole place leaves same here = stray-front names front rest place here ∙ sym (ap (first_stray names) same) ∙ leaves
 
 -- the items from an index on
 pub drop-item : {X : Type 0} (xs : List X) (i : ℕ) (x : X) → i < length xs → x ≡ get_or xs i x → drop i xs ≡ x ∷ drop (i + 1) xs
@@ -54,25 +53,7 @@ pub flat_map-drop_plain : {X Z : Type 0} (f : X → List Z) (xs : List X) (i : �
     → flat_map f (drop i xs) ≡ f x ++ flat_map f (drop (i + 1) xs)
 flat_map-drop_plain f xs i x within is = ap (λ ys. flat_map f ys) (drop-item xs i x within is)
 
-pub map-drop : {X Y : Type 0} (g : X → Y) (xs : List X) (i : ℕ) (x : X) → i < length xs → x ≡ get_or xs i x
-    → map g (drop i xs) ≡ (g x ∷ []) ++ map g (drop (i + 1) xs)
-map-drop g xs i x within is = ap (map g) (drop-item xs i x within is)
-
--- a name of the first part fails
-pub Decides-front : {X : Type 0} (P : X → Type 0) (xs ys : List X) → Decides false (All P xs) → Decides false (All P (xs ++ ys))
-Decides-front P xs ys fails = (λ e. absurd (false≢true e), λ all. fails.1 (All-left P xs ys all))
-
--- the first part holds
-pub Decides-rest : {X : Type 0} (P : X → Type 0) (r : Bool) (xs ys : List X) → Decides true (All P xs) → Decides r (All P ys) → Decides r (All P (xs ++ ys))
-Decides-rest P r xs ys front is = Decides-like r (λ all. All-append P xs ys (front.0 refl) all) (λ all. All-right P xs ys all) is
-
-pub Decides-first : {X : Type 0} (P : X → Type 0) (x : X) (xs : List X) → Decides false (P x) → Decides false (All P (x ∷ xs))
-Decides-first P x xs fails = (λ e. absurd (false≢true e), λ all. fails.1 (All-head P x xs all))
-
-pub Decides-nil : {X : Type 0} (P : X → Type 0) → Decides true (All P [])
-Decides-nil P = (λ e. All-nil P, λ all. refl)
-
--- the names of a body from a statement on
+-- the uses of a body from a statement on
 pub body-drop : (body : List Statement) (i : ℕ) (one : Statement) → i < length body → one ≡ get_or body i one
-    → body_names (body_tree (drop i body)) ≡ statement_names (statement_tree one) ++ body_names (body_tree (drop (i + 1) body))
-body-drop body i one within is = ap (λ list. body_names (body_tree list)) (drop-item body i one within is)
+    → body_uses (body_tree (drop i body)) ≡ statement_uses (statement_tree one) ++ body_uses (body_tree (drop (i + 1) body))
+body-drop body i one within is = ap (λ list. body_uses (body_tree list)) (drop-item body i one within is)

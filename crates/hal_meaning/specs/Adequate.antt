@@ -1,8 +1,8 @@
 -- A request is asked after all lists of answers: there are never fewer answers than tasks begun.
 use Rattle.std.specs.Prelude.{◌≡◌, ℕ, zero, suc, ◌<◌, ◌≤◌, List, [], ◌∷◌, length, Bool, true, false, ℤ}
 use Rattle.std.proofs.Common.{refl, arith}
-use Rattle.hal_tree.specs.Tree.{ComparisonTree, StatementTree, Assigned, Written, Chosen, Looped, AlternativeTree, NoElse, Else, BodyTree, Ended, Then, UnitTree}
-use Rattle.hal_tree.specs.Naming.{declared_names}
+use Rattle.hal_core.specs.Tree.{ComparisonTree, StatementTree, Assigned, Written, Chosen, Looped, AlternativeTree, NoElse, Else, BodyTree, Ended, Then, UnitTree}
+use Rattle.hal_core.specs.Naming.{declared_names}
 use Rattle.hal_values.specs.declared.environment.ErrNo.{ErrNo}
 use Rattle.hal_values.specs.declared.request.Request.{Request}
 use Rattle.hal_values.specs.declared.request.Request.TheVariants.{Begin, Pass, Print, Stop, Finish}

@@ -3,7 +3,7 @@ use Rattle.std.specs.Prelude.{◌≡◌, ℕ, List, [], ◌∷◌, ◌++◌, map
 use Rattle.std.proofs.Common.{refl, sym, ap, inl, inr, ◌∙◌}
 use Rattle.std.proofs.lemmas.List.{append-nil}
 use Rattle.std.proofs.Math.Seq.{append_snoc}
-use Rattle.hal_tree.specs.Tree.{UnitTree}
+use Rattle.hal_core.specs.Tree.{UnitTree}
 use Rattle.hal_values.specs.declared.request.Request.{Request}
 use Rattle.hal_values.specs.declared.request.Request.TheVariants as request
 use Rattle.hal_values.specs.declared.tables.Tables.{Tables}

@@ -1,8 +1,8 @@
 -- How the evaluator's results are read: as those of the definitions.
 use Rattle.std.specs.Prelude.{◌≡◌, ◌<◌, ◌≤◌, ℕ, ℤ, List, length, Ok, Err, Result as Outcome}
 use Rattle.std.specs.Global.{Vec}
-use Rattle.hal_tree.specs.Tree.{UnitTree, ComparisonTree, BodyTree}
-use Rattle.hal_tree.specs.Naming.{declared_names}
+use Rattle.hal_core.specs.Tree.{UnitTree, ComparisonTree, BodyTree}
+use Rattle.hal_core.specs.Naming.{declared_names}
 use Rattle.hal_values.specs.declared.environment.ErrNo.{ErrNo}
 use Rattle.hal_values.specs.declared.request.Request.TheVariants.{Begin, Pass, Finish}
 use Rattle.hal_meaning.specs.declared.heard.Heard.{Heard}

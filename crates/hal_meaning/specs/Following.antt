@@ -1,8 +1,8 @@
 -- What an answer more changes: Begin is asked after Killed, and after an answer to Finish.
 use Rattle.std.specs.Prelude.{◌≡◌, ℕ, ◌⊎◌, List, [], ◌∷◌, ◌++◌, Bool, true, false, ℤ}
 use Rattle.std.proofs.Common.{refl, sym, ap, subst, ◌∙◌, inl, inr}
-use Rattle.hal_tree.specs.Tree.{ComparisonTree, StatementTree, Assigned, Written, Chosen, Looped, AlternativeTree, NoElse, Else, BodyTree, Ended, Then, UnitTree}
-use Rattle.hal_tree.specs.Naming.{declared_names}
+use Rattle.hal_core.specs.Tree.{ComparisonTree, StatementTree, Assigned, Written, Chosen, Looped, AlternativeTree, NoElse, Else, BodyTree, Ended, Then, UnitTree}
+use Rattle.hal_core.specs.Naming.{declared_names}
 use Rattle.hal_values.specs.declared.environment.ErrNo.{ErrNo}
 use Rattle.hal_values.specs.declared.request.Request.{Request}
 use Rattle.hal_values.specs.declared.request.Request.TheVariants.{Begin, Pass, Print, Finish}

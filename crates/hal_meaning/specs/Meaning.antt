@@ -5,10 +5,10 @@
 -- begins once an answer was taken, so tasks recurse on the answers.
 use Rattle.std.specs.Prelude.{ℕ, List, [], ◌∷◌, ◌++◌, map, length, nat_lt, Bool, true, false, ℤ, pos, Option, Some, None, slice_set, if◌then◌else◌}
 use Rattle.std.specs.Fmt.{signed_decimal}
-use Rattle.hal_tree.specs.declared.tree.Initial.{Initial}
-use Rattle.hal_tree.specs.declared.tree.Declaration.{Declaration}
-use Rattle.hal_tree.specs.Tree.{SumTree, ComparisonTree, StatementTree, Assigned, Written, Chosen, Looped, AlternativeTree, NoElse, Else, BodyTree, Ended, Then, UnitTree}
-use Rattle.hal_tree.specs.Naming.{declared_names}
+use Rattle.hal_core.specs.declared.tree.Initial.{Initial}
+use Rattle.hal_core.specs.declared.tree.Declaration.{Declaration}
+use Rattle.hal_core.specs.Tree.{SumTree, ComparisonTree, StatementTree, Assigned, Written, Chosen, Looped, AlternativeTree, NoElse, Else, BodyTree, Ended, Then, UnitTree}
+use Rattle.hal_core.specs.Naming.{declared_names}
 use Rattle.hal_values.specs.declared.environment.ErrNo.{ErrNo}
 use Rattle.hal_values.specs.declared.request.Request.{Request}
 use Rattle.hal_values.specs.declared.request.Request.TheVariants.{Begin, Pass, Print, Stop, Finish}

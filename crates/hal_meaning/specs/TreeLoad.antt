@@ -4,8 +4,8 @@ use Rattle.std.proofs.Common.{refl, ap, subst, ◌∙◌}
 use Rattle.std.proofs.lemmas.Bool.{leb-true, ltb-true}
 use Rattle.std.proofs.lemmas.List.{map-append}
 use Rattle.std.proofs.lemmas.List.Elements.{All-nil}
-use Rattle.hal_tree.specs.declared.tree.Declaration.{Declaration}
-use Rattle.hal_tree.specs.Tree.{UnitTree}
+use Rattle.hal_core.specs.declared.tree.Declaration.{Declaration}
+use Rattle.hal_core.specs.Tree.{UnitTree}
 use Rattle.hal_values.specs.declared.request.Request.{Request}
 use Rattle.hal_values.specs.declared.request.Request.TheVariants as request
 use Rattle.hal_values.specs.declared.tables.ReportBase.TheVariants as base

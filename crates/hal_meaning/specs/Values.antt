@@ -3,14 +3,14 @@ use Rattle.std.specs.Prelude.{ℕ, List, [], ◌∷◌, Bool, true, false, Optio
 use Rattle.std.specs.Option.{option_and_then}
 use Rattle.std.specs.Ordering.{int_eq}
 use Rattle.std.specs.Cmp.Lexicographic.{pointwise}
-use Rattle.hal_tree.specs.declared.tree.OperandKind.{OperandKind}
-use Rattle.hal_tree.specs.declared.tree.OperandKind.TheVariants.{Variable, Number}
-use Rattle.hal_tree.specs.declared.tree.Relation.{Relation}
-use Rattle.hal_tree.specs.declared.tree.Relation.TheVariants.{Equal, Less, Greater}
-use Rattle.hal_tree.specs.declared.tree.Sign.{Sign}
-use Rattle.hal_tree.specs.declared.tree.Sign.TheVariants.{Plus, Minus}
-use Rattle.hal_tree.specs.declared.tree.Term.{Term}
-use Rattle.hal_tree.specs.Tree.{SumTree, ComparisonTree}
+use Rattle.hal_core.specs.declared.tree.OperandKind.{OperandKind}
+use Rattle.hal_core.specs.declared.tree.OperandKind.TheVariants.{Variable, Number}
+use Rattle.hal_core.specs.declared.tree.Relation.{Relation}
+use Rattle.hal_core.specs.declared.tree.Relation.TheVariants.{Equal, Less, Greater}
+use Rattle.hal_core.specs.declared.tree.Sign.{Sign}
+use Rattle.hal_core.specs.declared.tree.Sign.TheVariants.{Plus, Minus}
+use Rattle.hal_core.specs.declared.tree.Term.{Term}
+use Rattle.hal_core.specs.Tree.{SumTree, ComparisonTree}
 use Rattle.hal_values.specs.declared.environment.ErrNo.{ErrNo}
 
 -- a value, or the error that arises in its place

@@ -1,6 +1,6 @@
 ghost use Rattle.std.specs.Prelude.{◌≡◌, IfOk};
-ghost use Rattle.hal_tree.specs.View.{unit_tree};
-ghost use Rattle.hal_tree.specs.Naming.{declared_names};
+ghost use Rattle.hal_core.specs.View.{unit_tree};
+ghost use Rattle.hal_core.specs.Naming.{declared_names};
 ghost use Rattle.hal_meaning.specs.Meaning.{Asks, first_values, meaning, next_heard, own_heard};
 ghost use Rattle.hal_meaning.specs.Course.{ComesTo, IsShorter, body_then_finish, passage, result_of, state_of};
 
@@ -9,7 +9,7 @@ use crate::heard::Heard;
 use crate::names::Names;
 use crate::own::Own;
 use crate::statements::statements;
-use hal_tree::Unit;
+use hal_core::Unit;
 use hal_values::Request;
 use std::alloc::{AllocError, Global};
 

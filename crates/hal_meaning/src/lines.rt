@@ -1,12 +1,12 @@
 ghost use Rattle.std.specs.Prelude.{◌≡◌, IfOk, map};
-ghost use Rattle.hal_tree.specs.View.{sum_tree};
+ghost use Rattle.hal_core.specs.View.{sum_tree};
 ghost use Rattle.hal_meaning.specs.Values.{checked_then};
 ghost use Rattle.hal_meaning.specs.Meaning.{in_line, items_values, line_text};
 ghost use Rattle.hal_meaning.specs.Course.{checked, values_checked};
 
 use crate::names::Names;
 use crate::sums::sum_value;
-use hal_tree::Sum;
+use hal_core::Sum;
 use hal_values::{ErrNo, Line};
 use std::alloc::{AllocError, Global};
 

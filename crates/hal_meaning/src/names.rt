@@ -1,8 +1,9 @@
 ghost use Rattle.std.specs.Prelude.{◌≡◌, IfOk, OnOk, map};
-ghost use Rattle.hal_tree.specs.declared.tree.Declaration.{Declaration};
+ghost use Rattle.hal_core.specs.declared.tree.Declaration.{Declaration};
 ghost use Rattle.hal_meaning.specs.NameTable.{IsNoted, noted};
 
-use hal_tree::{Declaration, Name};
+use hal_core::Declaration;
+use hal_words::Name;
 use indexmap::IndexMap;
 use std::alloc::{AllocError, Global};
 use std::marker::Model;
@@ -35,9 +36,8 @@ impl Model for Names {
 }
 
 impl Names {
-    ghost use Rattle.std.specs.Prelude.{◌≡◌, Contains};
-    ghost use Rattle.std.specs.Bool.{Decides};
-    ghost use Rattle.hal_tree.specs.Naming.{IsOnce};
+    ghost use Rattle.std.specs.Prelude.{◌≡◌};
+    ghost use Rattle.hal_core.specs.Uses.{is_once};
     ghost use Rattle.hal_meaning.specs.Values.{cell_of};
 
     /// The names of these declarations.
@@ -68,16 +68,9 @@ impl Names {
         Some(entry.cell)
     }
 
-    /// Whether a variable has this name.
-    pub(crate) fn declares(&self, name: &Name) -> bool
-        ensures { Decides result (Contains self.now name.now) }
-    {
-        self.index.contains_key(name)
-    }
-
     /// Whether one variable and no other has this name.
     pub(crate) fn declares_once(&self, name: &Name) -> bool
-        ensures { Decides result (IsOnce self.now name.now) }
+        ensures { result ≡ is_once self.now name.now }
     {
         match self.index.get(name) {
             Some(entry) => entry.once,

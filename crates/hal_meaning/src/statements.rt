@@ -1,5 +1,5 @@
 ghost use Rattle.std.specs.Prelude.{◌≡◌, IfOk, map};
-ghost use Rattle.hal_tree.specs.View.{body_tree, comparison_tree, statement_tree, sum_tree};
+ghost use Rattle.hal_core.specs.View.{body_tree, comparison_tree, statement_tree, sum_tree};
 ghost use Rattle.hal_meaning.specs.Values.{cell_of};
 ghost use Rattle.hal_meaning.specs.Meaning.{assignment, statement, statements, stored_at, write};
 ghost use Rattle.hal_meaning.specs.Course.{ComesTo, IsShorter, IsWithin, group, result_of, state_of, turn};
@@ -9,8 +9,9 @@ use crate::heard::Heard;
 use crate::lines::written;
 use crate::names::Names;
 use crate::sums::{comparison_value, single_value};
-use hal_tree::{Channel, Comparison, Name, Statement, StatementKind, Sum};
+use hal_core::{Channel, Comparison, Statement, StatementKind, Sum};
 use hal_values::Request;
+use hal_words::Name;
 use std::alloc::{AllocError, Global};
 
 /// Gives the variable of this name a value. Where there is none, nothing is stored.

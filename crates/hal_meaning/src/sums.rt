@@ -1,10 +1,10 @@
 ghost use Rattle.std.specs.Prelude.{◌≡◌, ℤ};
-ghost use Rattle.hal_tree.specs.View.{comparison_tree, sum_tree};
+ghost use Rattle.hal_core.specs.View.{comparison_tree, sum_tree};
 ghost use Rattle.hal_meaning.specs.Values.{checked_then, comparison_value, in_double, in_single, operand_value, relation_holds, signed_sum, sum_value};
 ghost use Rattle.hal_meaning.specs.Course.{checked};
 
 use crate::names::Names;
-use hal_tree::{Comparison, OperandKind, Relation, Sign, Sum};
+use hal_core::{Comparison, OperandKind, Relation, Sign, Sum};
 use hal_values::ErrNo;
 
 /// An integer outside its range.

@@ -1,11 +1,12 @@
 ghost use Rattle.std.specs.Prelude.{◌≡◌, ◌≤◌, ◌∷◌, ◌++◌, length, IfOk};
 ghost use Rattle.hal_base.specs.declared.limits.TheConstants.{TOKEN_LIMIT};
-ghost use Rattle.hal_tree.specs.View.{unit_tree};
+ghost use Rattle.hal_core.specs.View.{unit_tree};
 ghost use Rattle.hal_meaning.specs.Small.{IsSmall};
 ghost use Rattle.hal_meaning.specs.TreeLoad.{report_name, report_names, tables_of};
 
-use hal_tree::{Declaration, Name, Unit};
+use hal_core::{Declaration, Unit};
 use hal_values::{Listing, ReportBase, ReportName, Tables, Text};
+use hal_words::Name;
 use std::alloc::{AllocError, Global};
 
 /// `UNIT.VARIABLE`

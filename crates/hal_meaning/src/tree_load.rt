@@ -1,12 +1,10 @@
-ghost use Rattle.std.specs.Prelude.{ℕ, List};
-ghost use Rattle.hal_tree.specs.SecondForm.{IsSecondForm};
-ghost use Rattle.hal_tree.specs.View.{unit_tree};
+ghost use Rattle.std.specs.Prelude.{List};
+ghost use Rattle.hal_core.specs.View.{unit_tree};
 ghost use Rattle.hal_meaning.specs.declared.heard.Heard.{Heard};
 ghost use Rattle.hal_meaning.specs.Meaning.{meaning};
 ghost use Rattle.hal_meaning.specs.Adequate.{IsAsked};
-ghost use Rattle.hal_meaning.specs.Small.{IsSmall};
 
-use hal_tree::Unit;
+use hal_core::Unit;
 use hal_values::Load;
 
 /// A unit as a load: its one process is the program, and there is no shared data.
@@ -16,7 +14,7 @@ pub struct TreeLoad {
 }
 
 impl Load for TreeLoad {
-    ghost use Rattle.hal_tree.specs.View.{unit_tree};
+    ghost use Rattle.hal_core.specs.View.{unit_tree};
     ghost use Rattle.hal_meaning.specs.TreeLoad.{block_of, next_of, own_of, tables_of, unit_is_load};
 
     ghost tables = { λ load. tables_of (unit_tree load.unit) };
@@ -33,9 +31,4 @@ impl Load for TreeLoad {
 /// A law of every unit: whatever was heard, one of the requests of this form is asked.
 pub fn a_unit_always_asks(unit: &Unit)
     ensures { (heards : List Heard) → IsAsked (meaning (unit_tree unit.now) heards) }
-{}
-
-/// A law of every unit of the second form: it is small enough for its tables.
-pub fn a_unit_of_the_second_form_is_small(unit: &Unit)
-    ensures { (number : ℕ) (text : List ℕ) → IsSecondForm number text (unit_tree unit.now) → IsSmall (unit_tree unit.now) }
 {}

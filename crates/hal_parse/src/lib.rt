@@ -1,22 +1,35 @@
-//! The parser of the second form of HAL/S units: from the words of a unit to the tree that spells
-//! them. It is a descent through the grammar, at most as deep as statements may be nested; every
-//! list is a loop, and no word is looked at more than a few times.
+//! The parser of files: from words to declarations, statements, units and the whole file.
 #![tactic(auto)]
 
-mod assignment;
-mod close;
-mod comparison;
-mod condition;
-mod declaration;
-mod head;
-mod initial;
-mod keyword;
-mod named;
-mod statement;
-mod sum;
-mod symbol;
-mod term;
-mod unit;
-mod write;
+mod attribute_words;
+mod attributes;
+mod beginning;
+mod branches;
+mod conditions;
+mod declarations;
+mod events;
+mod files;
+mod groups;
+mod handlers;
+mod heading;
+mod heads;
+mod initials;
+mod inside;
+mod items;
+mod kinds;
+mod modes;
+mod names;
+mod parsing;
+mod phrases;
+mod returns;
+mod schedules;
+mod selectors;
+mod simple;
+mod statements;
+mod stuck;
+mod templates;
+mod units;
+mod updates;
+mod waits;
 
-pub use unit::{one_tree, parse};
+pub use parsing::parse;

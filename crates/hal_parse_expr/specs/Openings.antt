@@ -6,9 +6,9 @@ use Rattle.hal_words.specs.declared.word.Symbol.TheVariants as symbol
 use Rattle.hal_words.specs.declared.word.Word.{Word}
 use Rattle.hal_words.specs.declared.word.Word.TheVariants as word
 use Rattle.hal_grammar.specs.Expressions.{Expression, Literally, Thousandths, Enclosed}
-use Rattle.hal_syntax.specs.declared.leaf.Conversion.TheVariants as conversion
-use Rattle.hal_syntax.specs.declared.leaf.LiteralValue.TheVariants as literal
-use Rattle.hal_syntax.specs.SeenLeaves.{seen_conversion, seen_literal}
+use Rattle.hal_tree.specs.declared.leaf.Conversion.TheVariants as conversion
+use Rattle.hal_tree.specs.declared.leaf.LiteralValue.TheVariants as literal
+use Rattle.hal_tree.specs.SeenLeaves.{seen_conversion, seen_literal}
 use Rattle.hal_parse_expr.specs.Reading.{Reader, made_of}
 use Rattle.hal_parse_expr.specs.ReadingExpressions.{closed, converted_at, expression_of, named_at, negated_at}
 use Rattle.hal_parse_expr.specs.declared.opening.Opening.{Opening}

@@ -9,8 +9,8 @@ use Rattle.hal_words.specs.declared.word.Word.{Word}
 use Rattle.hal_words.specs.declared.word.Word.TheVariants as word
 use Rattle.hal_grammar.specs.Leaves.{Naming, Sign, Added, Subtracted, Relation, IsEqual, IsLess, IsGreater, IsAtMost, IsAtLeast, IsNotEqual, IsNotLess, IsNotGreater, Conversion, ToInteger, ToBits, ToText, Literal, WholeNumber, QuotedText, BitPattern, TrueBit, FalseBit, OnBit, OffBit}
 use Rattle.hal_grammar.specs.Expressions.{Expression, Ors, Ands, Compared, Joined, Summed, Multiplied, Powered, Negated, Literally, Thousandths, Referred, Called, Converted, Enclosed, Expressions, MoreExpressions, Reference, Refers, Subscript, Unsubscripted, ByName, ByInteger, ByParts, Subscripts, NoSubscripts, MoreSubscripts, Sub, EveryPlace, OnePlace, Range, Portion, Position, FromBeginning, FromEnd, place_of}
-unfoldable pub use Rattle.hal_syntax.specs.Rows.{expressions, terms, subscripts}
-pub use Rattle.hal_syntax.specs.Rows.{SignedTerm}
+unfoldable pub use Rattle.hal_tree.specs.Rows.{expressions, terms, subscripts}
+pub use Rattle.hal_tree.specs.Rows.{SignedTerm}
 use Rattle.hal_parse_expr.specs.Reading.{Reader, followed, made_of, with_tail, or_else, decided, past, past_symbol, name_at, integer_at, before_symbol, all, parted}
 
 -- the sign that a word is

@@ -1,6 +1,6 @@
 -- The three parts of a list of subscripts, as the reader gives them.
 use Rattle.std.specs.Prelude.{map}
-use Rattle.hal_syntax.specs.SeenExpressions.{seen_sub}
+use Rattle.hal_tree.specs.SeenExpressions.{seen_sub}
 use Rattle.hal_parse_expr.specs.ReadingExpressions.{Parts, subscripts}
 use Rattle.hal_parse_expr.specs.declared.subscripts.Parts as rust
 

@@ -1,19 +1,19 @@
 //! Factors: primaries, and powers of primaries.
 
 ghost use Rattle.std.specs.Prelude.{◌≡◌, IfOk};
-ghost use Rattle.hal_syntax.specs.SeenExpressions.{seen_expression};
+ghost use Rattle.hal_tree.specs.SeenExpressions.{seen_expression};
 ghost use Rattle.hal_parse_expr.specs.ReadingExpressions.{exponent_of, factor_of, further_factor, primary_at};
 ghost use Rattle.hal_parse_expr.specs.Seen.{seen_as};
 
 use crate::leading::{past, past_symbol};
 use crate::primaries::primary;
-use hal_syntax::Expr;
+use hal_tree::Expr;
 use hal_words::{Reserved, Symbol, Token};
 use std::alloc::{AllocError, Global};
 
 /// A primary, or a primary to the power of a primary.
 #[cycle(expressions)]
-#[tactic(auto, using(hal_syntax::proofs::MadeExpressions::made_power), unfolding(crate::specs::ReadingExpressions::factor_of, crate::specs::ReadingExpressions::exponent_of, crate::specs::Reading::followed, crate::specs::Reading::with_tail, crate::specs::Seen::seen_as))]
+#[tactic(auto, using(hal_tree::proofs::MadeExpressions::made_power), unfolding(crate::specs::ReadingExpressions::factor_of, crate::specs::ReadingExpressions::exponent_of, crate::specs::Reading::followed, crate::specs::Reading::with_tail, crate::specs::Seen::seen_as))]
 pub(crate) fn factor(
     alloc: Global,
     words: &[Token],

@@ -1,12 +1,12 @@
 //! Rows of operands: with OR, AND or CAT between them, or factors one after another.
 
 ghost use Rattle.std.specs.Prelude.{◌≡◌, map, IfOk};
-ghost use Rattle.hal_syntax.specs.SeenExpressions.{seen_expression};
+ghost use Rattle.hal_tree.specs.SeenExpressions.{seen_expression};
 ghost use Rattle.hal_parse_expr.specs.ReadingExpressions.{expressions, row_of};
 ghost use Rattle.hal_parse_expr.specs.Joints.{make_of};
 
 use hal_base::Place;
-use hal_syntax::Expr;
+use hal_tree::Expr;
 use std::alloc::{AllocError, Global};
 
 /// What stands between the operands of a row.
@@ -20,7 +20,7 @@ pub(crate) enum Joint {
 }
 
 /// A row of two operands at least.
-#[tactic(auto, using(hal_syntax::proofs::MadeExpressions::made_or, hal_syntax::proofs::MadeExpressions::made_and, hal_syntax::proofs::MadeExpressions::made_cat, hal_syntax::proofs::MadeExpressions::made_product), unfolding(crate::specs::Joints::make_of))]
+#[tactic(auto, using(hal_tree::proofs::MadeExpressions::made_or, hal_tree::proofs::MadeExpressions::made_and, hal_tree::proofs::MadeExpressions::made_cat, hal_tree::proofs::MadeExpressions::made_product), unfolding(crate::specs::Joints::make_of))]
 fn node(joint: Joint, place: Place, first: Box<Expr>, others: Vec<Expr>) -> Expr
     ensures { seen_expression result ≡ make_of joint place (seen_expression first.value) (expressions (map seen_expression others.items)) }
 {

@@ -2,14 +2,14 @@
 
 ghost use Rattle.std.specs.Prelude.{◌≡◌, IfOk};
 ghost use Rattle.std.specs.Option.{option_map};
-ghost use Rattle.hal_syntax.specs.SeenLeaves.{seen_literal, seen_name, seen_relation, seen_sign};
+ghost use Rattle.hal_tree.specs.SeenLeaves.{seen_literal, seen_name, seen_relation, seen_sign};
 ghost use Rattle.hal_parse_expr.specs.Reading.{all, integer_at, name_at};
 ghost use Rattle.hal_parse_expr.specs.ReadingExpressions.{further_at, literal_of, negated_relation, plain_relation, relation_at, said, sign_at, sign_of};
 ghost use Rattle.hal_parse_expr.specs.Seen.{seen_as, seen_list, seen_placed};
 
 use crate::leading::{past, past_symbol};
 use hal_base::Place;
-use hal_syntax::{Identifier, LiteralValue, Relation, Sign};
+use hal_tree::{Identifier, LiteralValue, Relation, Sign};
 use hal_words::{Reserved, Symbol, Token, Word};
 use std::alloc::{AllocError, Global};
 

@@ -2,8 +2,8 @@
 
 ghost use Rattle.std.specs.Prelude.{◌≡◌, IfOk};
 ghost use Rattle.hal_words.specs.declared.reserved.Reserved.TheVariants as reserved;
-ghost use Rattle.hal_syntax.specs.SeenExpressions.{seen_expression};
-ghost use Rattle.hal_syntax.specs.SeenLeaves.{seen_relation};
+ghost use Rattle.hal_tree.specs.SeenExpressions.{seen_expression};
+ghost use Rattle.hal_tree.specs.SeenLeaves.{seen_relation};
 ghost use Rattle.hal_parse_expr.specs.Reading.{all};
 ghost use Rattle.hal_parse_expr.specs.ReadingExpressions.{behind, both_of, cat_of, comparison_of, expression_of, primary_at, related, sum_of, term_of};
 ghost use Rattle.hal_parse_expr.specs.Joints.{more_of};
@@ -14,7 +14,7 @@ use crate::joint::{Joint, row};
 use crate::leading::past;
 use crate::leaves::relation;
 use crate::sums::sum;
-use hal_syntax::{Expr, Relation};
+use hal_tree::{Expr, Relation};
 use hal_words::{Reserved, Token};
 use std::alloc::{AllocError, Global};
 
@@ -56,7 +56,7 @@ fn conjunction(
 
 /// Two chains of CAT with a relation between them, or one alone.
 #[cycle(expressions)]
-#[tactic(auto, using(hal_syntax::proofs::MadeExpressions::made_compare), unfolding(crate::specs::ReadingExpressions::comparison_of, crate::specs::Reading::followed, crate::specs::Reading::with_tail, crate::specs::Seen::seen_as, crate::specs::Seen::seen_pair))]
+#[tactic(auto, using(hal_tree::proofs::MadeExpressions::made_compare), unfolding(crate::specs::ReadingExpressions::comparison_of, crate::specs::Reading::followed, crate::specs::Reading::with_tail, crate::specs::Seen::seen_as, crate::specs::Seen::seen_pair))]
 fn comparison(
     alloc: Global,
     words: &[Token],

@@ -1,14 +1,14 @@
 //! Expressions parted by commas.
 
 ghost use Rattle.std.specs.Prelude.{◌≡◌, IfOk};
-ghost use Rattle.hal_syntax.specs.SeenExpressions.{seen_expression};
+ghost use Rattle.hal_tree.specs.SeenExpressions.{seen_expression};
 ghost use Rattle.hal_parse_expr.specs.Reading.{after_comma};
 ghost use Rattle.hal_parse_expr.specs.ReadingExpressions.{expression_of, expressions, expressions_of, primary_at};
 ghost use Rattle.hal_parse_expr.specs.Seen.{seen_as, seen_as_list};
 
 use crate::leading::past_symbol;
 use crate::levels::expression;
-use hal_syntax::Expr;
+use hal_tree::Expr;
 use hal_words::{Symbol, Token};
 use std::alloc::{AllocError, Global};
 

@@ -5,14 +5,14 @@ ghost use Rattle.hal_base.specs.declared.limits.TheConstants.{NESTING_LIMIT};
 ghost use Rattle.hal_grammar.specs.Expressions.{nesting, nesting_of_all, nesting_of_reference};
 ghost use Rattle.hal_grammar.specs.Words.{Words};
 ghost use Rattle.hal_grammar.specs.SpellsExpressions.{SpellsExpression, SpellsExpressions, SpellsReference};
-ghost use Rattle.hal_syntax.specs.SeenExpressions.{seen_expression};
+ghost use Rattle.hal_tree.specs.SeenExpressions.{seen_expression};
 ghost use Rattle.hal_parse_expr.specs.Best.{BestOf};
 ghost use Rattle.hal_parse_expr.specs.ReadingExpressions.{expression_at, expressions_at, reference_at};
 ghost use Rattle.hal_parse_expr.specs.Seen.{seen_as};
 
 use crate::readers::read_expression;
 use hal_base::NESTING_LIMIT;
-use hal_syntax::Expr;
+use hal_tree::Expr;
 use hal_words::Token;
 use std::alloc::{AllocError, Global};
 

@@ -3,7 +3,7 @@
 ghost use Rattle.std.specs.Prelude.{◌≡◌};
 ghost use Rattle.hal_parse_expr.specs.Openings.{opens};
 
-use hal_syntax::{Conversion, LiteralValue};
+use hal_tree::{Conversion, LiteralValue};
 use hal_words::{Name, Reserved, Symbol, Word};
 
 /// A word with which a primary begins.

@@ -2,7 +2,7 @@
 
 ghost use Rattle.std.specs.Prelude.{◌≡◌, IfOk};
 ghost use Rattle.hal_words.specs.declared.reserved.Reserved.TheVariants as reserved;
-ghost use Rattle.hal_syntax.specs.SeenExpressions.{seen_expression, seen_position, seen_sub};
+ghost use Rattle.hal_tree.specs.SeenExpressions.{seen_expression, seen_position, seen_sub};
 ghost use Rattle.hal_parse_expr.specs.ReadingExpressions.{at_position, from_end, portion_from, position_of, primary_at, range_from, sub_of, to_position};
 ghost use Rattle.hal_parse_expr.specs.Seen.{seen_as};
 ghost use Rattle.hal_parse_expr.specs.Reading.{followed, past};
@@ -10,13 +10,13 @@ ghost use Rattle.hal_grammar.specs.Expressions.{FromBeginning};
 
 use crate::leading::{past, past_symbol};
 use crate::sums::{sum, terms};
-use hal_syntax::{Expr, Position, Sub};
+use hal_tree::{Expr, Position, Sub};
 use hal_words::{Reserved, Symbol, Token};
 use std::alloc::{AllocError, Global};
 
 /// One subscript.
 #[cycle(expressions)]
-#[tactic(auto, using(hal_syntax::proofs::MadeExpressions::made_every), unfolding(crate::specs::ReadingExpressions::sub_of, crate::specs::ReadingExpressions::every_at, crate::specs::Reading::or_else, crate::specs::Reading::followed, crate::specs::Reading::made_of, crate::specs::Seen::seen_as, crate::specs::Seen::seen))]
+#[tactic(auto, using(hal_tree::proofs::MadeExpressions::made_every), unfolding(crate::specs::ReadingExpressions::sub_of, crate::specs::ReadingExpressions::every_at, crate::specs::Reading::or_else, crate::specs::Reading::followed, crate::specs::Reading::made_of, crate::specs::Seen::seen_as, crate::specs::Seen::seen))]
 pub(crate) fn sub(
     alloc: Global,
     words: &[Token],
@@ -35,7 +35,7 @@ pub(crate) fn sub(
 
 /// What a place begins: so many places from one on, a range, or the place alone.
 #[cycle(expressions)]
-#[tactic(auto, using(hal_syntax::proofs::MadeExpressions::made_from_beginning, hal_syntax::proofs::MadeExpressions::made_from_end), unfolding(crate::specs::ReadingExpressions::portion_from))]
+#[tactic(auto, using(hal_tree::proofs::MadeExpressions::made_from_beginning, hal_tree::proofs::MadeExpressions::made_from_end), unfolding(crate::specs::ReadingExpressions::portion_from))]
 fn portion_from(
     alloc: Global,
     first: Position,
@@ -55,7 +55,7 @@ fn portion_from(
 
 /// A sum AT a place, or the place that it is.
 #[cycle(expressions)]
-#[tactic(auto, using(hal_syntax::proofs::MadeExpressions::made_portion, hal_syntax::proofs::MadeExpressions::made_from_beginning), unfolding(crate::specs::ReadingExpressions::portion_from, crate::specs::ReadingExpressions::at_position, crate::specs::Reading::or_else, crate::specs::Reading::made_of, crate::specs::Seen::seen_as))]
+#[tactic(auto, using(hal_tree::proofs::MadeExpressions::made_portion, hal_tree::proofs::MadeExpressions::made_from_beginning), unfolding(crate::specs::ReadingExpressions::portion_from, crate::specs::ReadingExpressions::at_position, crate::specs::Reading::or_else, crate::specs::Reading::made_of, crate::specs::Seen::seen_as))]
 fn portion_of(
     alloc: Global,
     count: Expr,
@@ -73,7 +73,7 @@ fn portion_of(
 
 /// A place, or the range that it begins.
 #[cycle(expressions)]
-#[tactic(auto, using(hal_syntax::proofs::MadeExpressions::made_range, hal_syntax::proofs::MadeExpressions::made_one), unfolding(crate::specs::ReadingExpressions::range_from, crate::specs::ReadingExpressions::to_position, crate::specs::Reading::with_tail, crate::specs::Seen::seen_as))]
+#[tactic(auto, using(hal_tree::proofs::MadeExpressions::made_range, hal_tree::proofs::MadeExpressions::made_one), unfolding(crate::specs::ReadingExpressions::range_from, crate::specs::ReadingExpressions::to_position, crate::specs::Reading::with_tail, crate::specs::Seen::seen_as))]
 fn range_from(
     alloc: Global,
     first: Position,
@@ -107,7 +107,7 @@ fn place_behind(
 
 /// A place as it is counted from the beginning or from the end.
 #[cycle(expressions)]
-#[tactic(auto, using(hal_syntax::proofs::MadeExpressions::made_from_beginning, hal_syntax::proofs::MadeExpressions::made_from_end), unfolding(crate::specs::ReadingExpressions::position_of, crate::specs::ReadingExpressions::from_end, crate::specs::Reading::or_else, crate::specs::Reading::followed, crate::specs::Reading::made_of, crate::specs::Seen::seen_as, crate::specs::Seen::seen, crate::specs::Seen::seen_list))]
+#[tactic(auto, using(hal_tree::proofs::MadeExpressions::made_from_beginning, hal_tree::proofs::MadeExpressions::made_from_end), unfolding(crate::specs::ReadingExpressions::position_of, crate::specs::ReadingExpressions::from_end, crate::specs::Reading::or_else, crate::specs::Reading::followed, crate::specs::Reading::made_of, crate::specs::Seen::seen_as, crate::specs::Seen::seen, crate::specs::Seen::seen_list))]
 fn position(
     alloc: Global,
     words: &[Token],

@@ -1,8 +1,8 @@
 //! Primaries: what NOT, a literal, a name, a conversion or a parenthesis begins. Only here an expression stands in another one.
 
 ghost use Rattle.std.specs.Prelude.{◌≡◌, IfOk};
-ghost use Rattle.hal_syntax.specs.SeenExpressions.{seen_expression};
-ghost use Rattle.hal_syntax.specs.SeenLeaves.{seen_conversion};
+ghost use Rattle.hal_tree.specs.SeenExpressions.{seen_expression};
+ghost use Rattle.hal_tree.specs.SeenLeaves.{seen_conversion};
 ghost use Rattle.hal_parse_expr.specs.Openings.{opened_at};
 ghost use Rattle.hal_parse_expr.specs.Reading.{made_of};
 ghost use Rattle.hal_parse_expr.specs.ReadingExpressions.{closed, converted_at, deeper_than, expression_of, expressions, expressions_of, named_at, negated_at, primary_at};
@@ -15,7 +15,7 @@ use crate::lists::expressions;
 use crate::opening::{Opening, opened_by};
 use crate::references::reference_behind;
 use hal_base::Place;
-use hal_syntax::{Conversion, Expr};
+use hal_tree::{Conversion, Expr};
 use hal_words::{Name, Symbol, Token};
 use std::alloc::{AllocError, Global};
 
@@ -40,7 +40,7 @@ pub(crate) fn primary(
 
 /// The primary that a word opens.
 #[cycle(expressions)]
-#[tactic(auto, using(hal_syntax::proofs::MadeExpressions::made_decimal, hal_syntax::proofs::MadeExpressions::made_literal), unfolding(crate::specs::Openings::opened_at, crate::specs::Seen::seen_as))]
+#[tactic(auto, using(hal_tree::proofs::MadeExpressions::made_decimal, hal_tree::proofs::MadeExpressions::made_literal), unfolding(crate::specs::Openings::opened_at, crate::specs::Seen::seen_as))]
 fn opened(
     alloc: Global,
     place: Place,
@@ -62,7 +62,7 @@ fn opened(
 
 /// `(inner)`
 #[cycle(expressions)]
-#[tactic(auto, using(hal_syntax::proofs::MadeExpressions::made_parenthesis), unfolding(crate::specs::Reading::made_of, crate::specs::Seen::seen_as))]
+#[tactic(auto, using(hal_tree::proofs::MadeExpressions::made_parenthesis), unfolding(crate::specs::Reading::made_of, crate::specs::Seen::seen_as))]
 fn parenthesis(
     alloc: Global,
     place: Place,
@@ -80,7 +80,7 @@ fn parenthesis(
 
 /// `NOT operand`
 #[cycle(expressions)]
-#[tactic(auto, using(hal_syntax::proofs::MadeExpressions::made_not, crate::proofs::Depths::deeper_none, crate::proofs::Depths::deeper_some), unfolding(crate::specs::ReadingExpressions::negated_at, crate::specs::Reading::made_of, crate::specs::Seen::seen_as))]
+#[tactic(auto, using(hal_tree::proofs::MadeExpressions::made_not, crate::proofs::Depths::deeper_none, crate::proofs::Depths::deeper_some), unfolding(crate::specs::ReadingExpressions::negated_at, crate::specs::Reading::made_of, crate::specs::Seen::seen_as))]
 fn negation(
     alloc: Global,
     place: Place,
@@ -101,7 +101,7 @@ fn negation(
 
 /// `INTEGER(operand)`
 #[cycle(expressions)]
-#[tactic(auto, using(hal_syntax::proofs::MadeExpressions::made_convert), unfolding(crate::specs::ReadingExpressions::converted_at, crate::specs::Reading::followed, crate::specs::Reading::made_of, crate::specs::Seen::seen_as, crate::specs::Seen::seen))]
+#[tactic(auto, using(hal_tree::proofs::MadeExpressions::made_convert), unfolding(crate::specs::ReadingExpressions::converted_at, crate::specs::Reading::followed, crate::specs::Reading::made_of, crate::specs::Seen::seen_as, crate::specs::Seen::seen))]
 fn converted(
     alloc: Global,
     place: Place,
@@ -128,7 +128,7 @@ fn converted(
 
 /// Behind a name: arguments, where a parenthesis opens, else the rest of a reference.
 #[cycle(expressions)]
-#[tactic(auto, using(hal_syntax::proofs::MadeExpressions::made_referred), unfolding(crate::specs::ReadingExpressions::named_at, crate::specs::Reading::made_of, crate::specs::Seen::seen_as, crate::specs::Seen::seen))]
+#[tactic(auto, using(hal_tree::proofs::MadeExpressions::made_referred), unfolding(crate::specs::ReadingExpressions::named_at, crate::specs::Reading::made_of, crate::specs::Seen::seen_as, crate::specs::Seen::seen))]
 fn named(
     alloc: Global,
     place: Place,
@@ -149,7 +149,7 @@ fn named(
 
 /// The arguments of the call form.
 #[cycle(expressions)]
-#[tactic(auto, using(hal_syntax::proofs::MadeExpressions::made_call), unfolding(crate::specs::Reading::made_of, crate::specs::Seen::seen_as, crate::specs::Seen::seen_as_list))]
+#[tactic(auto, using(hal_tree::proofs::MadeExpressions::made_call), unfolding(crate::specs::Reading::made_of, crate::specs::Seen::seen_as, crate::specs::Seen::seen_as_list))]
 fn called(
     alloc: Global,
     place: Place,

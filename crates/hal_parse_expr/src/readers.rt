@@ -1,7 +1,7 @@
 //! What other phrases are read by: expressions, lists of them, references and arguments, nested at most so deep.
 
 ghost use Rattle.std.specs.Prelude.{◌≡◌, IfOk};
-ghost use Rattle.hal_syntax.specs.SeenExpressions.{seen_expression, seen_reference};
+ghost use Rattle.hal_tree.specs.SeenExpressions.{seen_expression, seen_reference};
 ghost use Rattle.hal_parse_expr.specs.ReadingExpressions.{closed, deeper_than, expression_at, expressions, expressions_at, expressions_of, reference_at};
 ghost use Rattle.hal_parse_expr.specs.Seen.{seen_as, seen_as_list};
 
@@ -10,7 +10,7 @@ use crate::levels::expression;
 use crate::lists::expressions;
 use crate::primaries::closed_expressions;
 use crate::references::reference_behind;
-use hal_syntax::{Expr, Reference};
+use hal_tree::{Expr, Reference};
 use hal_words::Token;
 use std::alloc::{AllocError, Global};
 

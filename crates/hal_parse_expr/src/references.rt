@@ -1,7 +1,7 @@
 //! References: a name, further names, and a subscript or none.
 
 ghost use Rattle.std.specs.Prelude.{◌≡◌, IfOk};
-ghost use Rattle.hal_syntax.specs.SeenExpressions.{seen_reference, seen_subscript};
+ghost use Rattle.hal_tree.specs.SeenExpressions.{seen_reference, seen_subscript};
 ghost use Rattle.hal_parse_expr.specs.ReadingExpressions.{deeper_than, reference_at, reference_behind, subscript_behind, subscript_of, subscript_or_none, primary_at, enclosed_parts};
 ghost use Rattle.hal_parse_expr.specs.Seen.{seen_as};
 
@@ -9,13 +9,13 @@ use crate::leading::past_symbol;
 use crate::leaves::{further_names, integer, name};
 use crate::subscripts::{Parts, three_parts};
 use hal_base::Place;
-use hal_syntax::{Reference, Subscript};
+use hal_tree::{Reference, Subscript};
 use hal_words::{Name, Symbol, Token};
 use std::alloc::{AllocError, Global};
 
 /// What stands behind the first name of a reference.
 #[cycle(expressions)]
-#[tactic(auto, using(hal_syntax::proofs::MadeExpressions::made_reference), unfolding(crate::specs::ReadingExpressions::reference_behind, crate::specs::Reading::made_of, crate::specs::Seen::seen_as, crate::specs::Seen::seen_list))]
+#[tactic(auto, using(hal_tree::proofs::MadeExpressions::made_reference), unfolding(crate::specs::ReadingExpressions::reference_behind, crate::specs::Reading::made_of, crate::specs::Seen::seen_as, crate::specs::Seen::seen_list))]
 pub(crate) fn reference_behind(
     alloc: Global,
     place: Place,
@@ -40,7 +40,7 @@ pub(crate) fn reference_behind(
 
 /// A subscript, or none.
 #[cycle(expressions)]
-#[tactic(auto, using(hal_syntax::proofs::MadeExpressions::made_unsubscripted), unfolding(crate::specs::ReadingExpressions::subscript_or_none, crate::specs::Reading::or_else, crate::specs::Seen::seen_as))]
+#[tactic(auto, using(hal_tree::proofs::MadeExpressions::made_unsubscripted), unfolding(crate::specs::ReadingExpressions::subscript_or_none, crate::specs::Reading::or_else, crate::specs::Seen::seen_as))]
 fn subscript_or_none(
     alloc: Global,
     words: &[Token],
@@ -75,7 +75,7 @@ fn subscript(
 
 /// What stands behind `$`.
 #[cycle(expressions)]
-#[tactic(auto, using(hal_syntax::proofs::MadeExpressions::made_by_name, hal_syntax::proofs::MadeExpressions::made_by_integer), unfolding(crate::specs::ReadingExpressions::subscript_behind, crate::specs::Reading::made_of, crate::specs::Reading::or_else, crate::specs::Seen::seen_as, crate::specs::Seen::seen_placed))]
+#[tactic(auto, using(hal_tree::proofs::MadeExpressions::made_by_name, hal_tree::proofs::MadeExpressions::made_by_integer), unfolding(crate::specs::ReadingExpressions::subscript_behind, crate::specs::Reading::made_of, crate::specs::Reading::or_else, crate::specs::Seen::seen_as, crate::specs::Seen::seen_placed))]
 fn subscript_behind(
     alloc: Global,
     place: Place,
@@ -95,7 +95,7 @@ fn subscript_behind(
 
 /// A list of subscripts in parentheses.
 #[cycle(expressions)]
-#[tactic(auto, using(hal_syntax::proofs::MadeExpressions::made_by_parts), unfolding(crate::specs::ReadingExpressions::enclosed_parts, crate::specs::Reading::followed, crate::specs::Reading::made_of, crate::specs::Seen::seen_as, crate::specs::Seen::seen, crate::specs::SeenParts::seen_parts))]
+#[tactic(auto, using(hal_tree::proofs::MadeExpressions::made_by_parts), unfolding(crate::specs::ReadingExpressions::enclosed_parts, crate::specs::Reading::followed, crate::specs::Reading::made_of, crate::specs::Seen::seen_as, crate::specs::Seen::seen, crate::specs::SeenParts::seen_parts))]
 fn enclosed_parts(
     alloc: Global,
     place: Place,

@@ -1,7 +1,7 @@
 //! The three parts of a list of subscripts.
 
 ghost use Rattle.std.specs.Prelude.{◌≡◌, IfOk, map};
-ghost use Rattle.hal_syntax.specs.SeenExpressions.{seen_sub};
+ghost use Rattle.hal_tree.specs.SeenExpressions.{seen_sub};
 ghost use Rattle.hal_parse_expr.specs.Reading.{after_comma, made_of};
 ghost use Rattle.hal_parse_expr.specs.ReadingExpressions.{arrays_of, arrays_then, components_of, copies_then, parts_of, primary_at, sub_of, subs_of, subscripts};
 ghost use Rattle.hal_parse_expr.specs.Seen.{seen_as, seen_as_list};
@@ -9,7 +9,7 @@ ghost use Rattle.hal_parse_expr.specs.SeenParts.{seen_parts};
 
 use crate::leading::past_symbol;
 use crate::positions::sub;
-use hal_syntax::Sub;
+use hal_tree::Sub;
 use hal_words::{Symbol, Token};
 use std::alloc::{AllocError, Global};
 

@@ -1,14 +1,14 @@
 //! Sums of signed terms.
 
 ghost use Rattle.std.specs.Prelude.{◌≡◌, Some, IfOk, map};
-ghost use Rattle.hal_syntax.specs.SeenExpressions.{seen_expression, seen_signed};
+ghost use Rattle.hal_tree.specs.SeenExpressions.{seen_expression, seen_signed};
 ghost use Rattle.hal_parse_expr.specs.Reading.{all};
 ghost use Rattle.hal_parse_expr.specs.ReadingExpressions.{primary_at, signed_sum, signed_term, sum_from, sum_of, unsigned_sum};
 ghost use Rattle.hal_parse_expr.specs.Seen.{seen_as, seen_list};
 
 use crate::leaves::sign;
 use crate::levels::term;
-use hal_syntax::{Expr, SignedTerm};
+use hal_tree::{Expr, SignedTerm};
 use hal_words::Token;
 use std::alloc::{AllocError, Global};
 
@@ -47,7 +47,7 @@ fn unsigned_sum(
 }
 
 /// A term, or the sum that it begins.
-#[tactic(auto, using(hal_syntax::proofs::MadeExpressions::made_sum, crate::proofs::RowsMade::sum_alone, crate::proofs::RowsMade::sum_more))]
+#[tactic(auto, using(hal_tree::proofs::MadeExpressions::made_sum, crate::proofs::RowsMade::sum_alone, crate::proofs::RowsMade::sum_more))]
 fn sum_from(alloc: Global, first: Expr, others: Vec<SignedTerm>) -> Result<Expr, AllocError>
     ensures { IfOk result (λ whole. seen_expression whole ≡ sum_from (seen_expression first) (map seen_signed others.items)) }
 {
@@ -64,7 +64,7 @@ fn sum_from(alloc: Global, first: Expr, others: Vec<SignedTerm>) -> Result<Expr,
 
 /// A sum with an opening sign.
 #[cycle(expressions)]
-#[tactic(auto, using(hal_syntax::proofs::MadeExpressions::made_sum, hal_syntax::proofs::MadeExpressions::made_signed), unfolding(crate::specs::ReadingExpressions::signed_sum, crate::specs::Reading::followed, crate::specs::Seen::seen_as, crate::specs::Seen::seen_list))]
+#[tactic(auto, using(hal_tree::proofs::MadeExpressions::made_sum, hal_tree::proofs::MadeExpressions::made_signed), unfolding(crate::specs::ReadingExpressions::signed_sum, crate::specs::Reading::followed, crate::specs::Seen::seen_as, crate::specs::Seen::seen_list))]
 fn opened_sum(
     alloc: Global,
     words: &[Token],
@@ -87,7 +87,7 @@ fn opened_sum(
 
 /// A sign and a term.
 #[cycle(expressions)]
-#[tactic(auto, using(hal_syntax::proofs::MadeExpressions::made_signed), unfolding(crate::specs::ReadingExpressions::signed_term, crate::specs::Reading::followed, crate::specs::Reading::made_of, crate::specs::Seen::seen_as, crate::specs::Seen::seen_placed))]
+#[tactic(auto, using(hal_tree::proofs::MadeExpressions::made_signed), unfolding(crate::specs::ReadingExpressions::signed_term, crate::specs::Reading::followed, crate::specs::Reading::made_of, crate::specs::Seen::seen_as, crate::specs::Seen::seen_placed))]
 fn signed_term(
     alloc: Global,
     words: &[Token],

@@ -2,7 +2,7 @@
 use Rattle.std.proofs.Common.{◌≡◌, ℕ, ◌⊎◌, inl, inr, List, Option, Some, None, IfSome, ap, ◌∙◌, sym, subst, arith}
 use Rattle.hal_base.specs.Files.{File}
 use Rattle.hal_base.specs.declared.refusal.Refusal.{Refusal}
-use Rattle.hal_tree.specs.Tree.{UnitTree}
+use Rattle.hal_core.specs.Tree.{UnitTree}
 use Rattle.exec_model.specs.declared.script.ScriptLine.{ScriptLine}
 use Rattle.hal_script.specs.declared.fault.ScriptFault.{ScriptFault}
 use Rattle.exec_model.specs.declared.event.Event.{Event}

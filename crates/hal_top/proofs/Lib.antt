@@ -1,13 +1,15 @@
 pub mod Drained
 pub mod Exclusions
-pub mod Forms
+pub mod FewDeclarations
 pub mod Headline
 pub mod Joined
 pub mod LeftNames
 pub mod Lists
+pub mod Meanings
 pub mod Prepared
 pub mod Ranges
 pub mod Reports
 pub mod Running
+pub mod Stages
 pub mod Telling
 pub mod PassedRests

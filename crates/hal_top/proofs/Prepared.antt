@@ -9,7 +9,7 @@ use Rattle.hal_top.specs.Causes.{IsPresent, Fetched}
 use Rattle.hal_top.specs.Works.{IsWorkOf, Told}
 
 told-fetched : (files : List File) (words : List (List ℕ)) (script unit : List ℕ) (answer : Result Work Refused) → Fetched files words script unit → IsWorkOf script unit answer → Told files words answer
-told-fetched files words script unit (Ok work) fetched is = record { script_text = script; unit_text = unit; fetched = fetched; read = is.0; form = is.1 }
+told-fetched files words script unit (Ok work) fetched is = record { script_text = script; unit_text = unit; fetched = fetched; read = is.0; has = is.1 }
 told-fetched files words script unit (Err (Script fault)) fetched is = record { script = script; unit = unit; fetched = fetched; first = is }
 told-fetched files words script unit (Err (Rule refusal)) fetched is = record { script = script; unit = unit; script_lines = is.0.0; fetched = fetched; read = is.0.1; broken = is.1 }
 told-fetched files words script unit (Err Memory) fetched is = tt

@@ -1,6 +1,6 @@
 -- What the one process of a unit asks, and what it is told.
 use Rattle.std.proofs.Common.{◌≡◌, ℕ, zero, suc, ◌<◌, List, [], ◌∷◌, ◌++◌, None, IfSome, IsSomeAnd, map, refl, ap, ◌∙◌, arith}
-use Rattle.hal_tree.specs.Tree.{UnitTree}
+use Rattle.hal_core.specs.Tree.{UnitTree}
 use Rattle.hal_values.specs.declared.answer.Answer.{Answer}
 use Rattle.hal_values.specs.declared.answer.Answer.TheVariants as answer
 use Rattle.hal_values.specs.declared.value.Value.TheVariants as value

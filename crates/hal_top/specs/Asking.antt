@@ -1,7 +1,7 @@
 -- What is kept of the one process of a unit.
 use Rattle.std.specs.Prelude.{◌≡◌, ℕ, ◌+◌, ◌≤◌, List, [], ◌∷◌, Option, None}
-use Rattle.hal_tree.specs.View.{unit_tree}
-use Rattle.hal_tree.specs.Naming.{declared_names}
+use Rattle.hal_core.specs.View.{unit_tree}
+use Rattle.hal_core.specs.Naming.{declared_names}
 use Rattle.hal_values.specs.declared.tables.Tables.{Tables}
 use Rattle.hal_values.specs.declared.value.Value.{Value}
 use Rattle.hal_values.specs.Answers.{Answered}

@@ -5,13 +5,12 @@ use Rattle.std.specs.Str.Lines.{lines}
 use Rattle.hal_base.specs.declared.limits.TheConstants.{TEXT_LIMIT}
 use Rattle.hal_base.specs.declared.refusal.Refusal.{Refusal}
 use Rattle.hal_base.specs.Files.{File, file_named}
-use Rattle.hal_tree.specs.Cutting.{place_at}
-use Rattle.hal_tree.specs.Tree.{UnitTree}
-use Rattle.hal_tree.specs.SecondForm.{IsSecondForm}
+use Rattle.hal_core.specs.Tree.{UnitTree}
 use Rattle.exec_model.specs.declared.script.ScriptLine.{ScriptLine}
 use Rattle.hal_script.specs.declared.fault.ScriptFault.{ScriptFault}
 use Rattle.hal_script.specs.ScriptTexts.{IsScriptOf, IsFault}
 use Rattle.hal_top.specs.CommandLine.{IsRunLine}
+use Rattle.hal_top.specs.UnitTexts.{HasMeaning, Breaks}
 
 -- the file is there with these bytes, and they are not too many
 abbrev pub IsPresent : List File → List ℕ → List ℕ → Type 0
@@ -51,12 +50,7 @@ pub record IsFaulty (files : List File) (words : List (List ℕ)) (fault : Scrip
   pub fetched : Fetched files words script unit
   pub first : IsFault (lines script) fault
 
--- a unit that is not in the second form breaks rule 400 at line 1, column 1
-pub record Breaks (number : ℕ) (text : List ℕ) (refusal : Refusal) : Type 0 where
-  pub rule : refusal.rule.0 ≡ 400
-  pub place : refusal.place ≡ place_at number 1 1
-  pub formless : (tree : UnitTree) → IsSecondForm number text tree → ⊥
-
+-- a unit breaks this rule at this place
 pub record IsBroken (files : List File) (words : List (List ℕ)) (refusal : Refusal) : Type 0 where
   pub script : List ℕ
   pub unit : List ℕ
@@ -65,10 +59,10 @@ pub record IsBroken (files : List File) (words : List (List ℕ)) (refusal : Ref
   pub read : IsScriptOf (lines script) script_lines
   pub broken : Breaks 0 unit refusal
 
--- nothing is wrong: this is the script, and this the unit's tree
+-- nothing is wrong: this is the script, and this tree is the unit's meaning
 pub record IsWork (files : List File) (words : List (List ℕ)) (script : List ScriptLine) (tree : UnitTree) : Type 0 where
   pub script_text : List ℕ
   pub unit_text : List ℕ
   pub fetched : Fetched files words script_text unit_text
   pub read : IsScriptOf (lines script_text) script
-  pub form : IsSecondForm 0 unit_text tree
+  pub has : HasMeaning 0 unit_text tree

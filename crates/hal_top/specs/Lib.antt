@@ -1,4 +1,5 @@
 pub mod CommandLine
+pub mod UnitTexts
 pub mod Causes
 pub mod Outcomes
 pub mod Draining

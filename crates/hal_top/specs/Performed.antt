@@ -2,7 +2,7 @@
 use Rattle.std.specs.Prelude.{◌≡◌, ℕ, ◌⊎◌, List, Option, length}
 use Rattle.hal_base.specs.Faults.{Rose}
 use Rattle.hal_base.specs.Sink.{Takes}
-use Rattle.hal_tree.specs.Tree.{UnitTree}
+use Rattle.hal_core.specs.Tree.{UnitTree}
 use Rattle.exec_model.specs.declared.script.ScriptLine.{ScriptLine}
 use Rattle.exec_model.specs.declared.event.Event.{Event}
 use Rattle.hal_values.specs.Loads.{Meaning}

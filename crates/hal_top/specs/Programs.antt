@@ -1,19 +1,28 @@
 -- The program of a unit's text.
-use Rattle.std.specs.Prelude.{◌≡◌, ℕ, List, Option, Some, None}
-use Rattle.hal_tree.specs.Tree.{UnitTree}
-use Rattle.hal_tree.specs.View.{unit_tree}
-use Rattle.hal_tree.specs.Naming.{declared_names}
-use Rattle.hal_tree.specs.SecondForm.{IsSecondForm}
+use Rattle.std.specs.Prelude.{◌≡◌, ◌≤◌, ℕ, List, Some, length}
+use Rattle.hal_grammar.specs.Units.{File}
+use Rattle.hal_core.specs.Tree.{UnitTree}
+use Rattle.hal_core.specs.View.{unit_tree}
+use Rattle.hal_core.specs.Naming.{IsNamed, declared_names}
+use Rattle.hal_built.specs.SecondForm.{second_form}
 use Rattle.hal_meaning.specs.Small.{IsSmall}
 use Rattle.hal_top.specs.declared.program.Program.{Program}
+use Rattle.hal_top.specs.UnitTexts.{HasMeaning}
 
 -- the names are those that the unit declares, and the unit is small enough for its tables
 pub record IsRunnable (program : Program) : Type 0 where
   pub names : program.names ≡ declared_names (unit_tree program.unit)
   pub small : IsSmall (unit_tree program.unit)
 
--- the tree that the text is in the second form with, and no other is; or there is none
-abbrev pub IsProgramOf : List ℕ → Option Program → Type 0
-IsProgramOf text (Some program) =
-    IsSecondForm 0 text (unit_tree program.unit) × ((tree : UnitTree) → IsSecondForm 0 text tree → tree ≡ unit_tree program.unit) × IsRunnable program
-IsProgramOf text None = (tree : UnitTree) → IsSecondForm 0 text tree → ⊥
+-- the file has this unit's tree, with right names
+pub record IsProgramIn (file : File) (program : Program) : Type 0 where
+  pub built : second_form file ≡ Some (unit_tree program.unit)
+  pub named : IsNamed (unit_tree program.unit)
+  pub names : program.names ≡ declared_names (unit_tree program.unit)
+  pub short : length (unit_tree program.unit).name ≤ 32
+
+-- the tree that is the text's meaning, and no other is
+pub record IsProgramOf (text : List ℕ) (program : Program) : Type 0 where
+  pub has : HasMeaning 0 text (unit_tree program.unit)
+  pub only : (tree : UnitTree) → HasMeaning 0 text tree → tree ≡ unit_tree program.unit
+  pub runnable : IsRunnable program

@@ -2,8 +2,7 @@
 use Rattle.std.specs.Prelude.{◌≡◌, ℕ, List, Result, Ok, Err}
 use Rattle.std.specs.Str.Lines.{lines}
 use Rattle.hal_base.specs.Files.{File}
-use Rattle.hal_tree.specs.View.{unit_tree}
-use Rattle.hal_tree.specs.SecondForm.{IsSecondForm}
+use Rattle.hal_core.specs.View.{unit_tree}
 use Rattle.exec_model.specs.declared.script.ScriptLine.{ScriptLine}
 use Rattle.hal_script.specs.ScriptTexts.{IsScriptOf, IsFault}
 use Rattle.hal_top.specs.declared.fetch.NoFile.{NoFile}
@@ -11,7 +10,8 @@ use Rattle.hal_top.specs.declared.fetch.NoFile.TheVariants as file
 use Rattle.hal_top.specs.declared.prepare.Work.{Work}
 use Rattle.hal_top.specs.declared.refused.Refused.{Refused}
 use Rattle.hal_top.specs.declared.refused.Refused.TheVariants.{Usage, Absent, TooLong, Script, Rule, Shelf, Memory}
-use Rattle.hal_top.specs.Causes.{Breaks, IsWork}
+use Rattle.hal_top.specs.Causes.{IsWork}
+use Rattle.hal_top.specs.UnitTexts.{HasMeaning, Breaks}
 use Rattle.hal_top.specs.Told.{IsCause}
 
 -- the refusal for a file with this number that isn't fit
@@ -23,7 +23,7 @@ IsCauseOfFile file.Memory number refused = refused ≡ Memory
 
 -- the work of a script's and a unit's bytes, or which of them is wrong
 abbrev pub IsWorkOf : List ℕ → List ℕ → Result Work Refused → Type 0
-IsWorkOf script unit (Ok work) = IsScriptOf (lines script) work.script × IsSecondForm 0 unit (unit_tree work.program.unit)
+IsWorkOf script unit (Ok work) = IsScriptOf (lines script) work.script × HasMeaning 0 unit (unit_tree work.program.unit)
 IsWorkOf script unit (Err (Script fault)) = IsFault (lines script) fault
 IsWorkOf script unit (Err (Rule refusal)) = ((orders : List ScriptLine) × IsScriptOf (lines script) orders) × Breaks 0 unit refusal
 IsWorkOf script unit (Err Memory) = Unit {0}

@@ -4,6 +4,7 @@
 mod drain;
 mod elements;
 mod fetch;
+mod laws;
 mod outcome;
 mod owners;
 mod perform;
@@ -18,5 +19,6 @@ mod tree_procs;
 mod values;
 mod words;
 
+pub use laws::{a_text_has_one_meaning, a_text_with_a_meaning_breaks_nothing};
 pub use outcome::Outcome;
 pub use top::hal;

@@ -5,7 +5,7 @@ ghost use Rattle.hal_values.specs.Tables.{process_count};
 ghost use Rattle.exec_model.specs.Moments.{answers_in};
 ghost use Rattle.exec_model.specs.Running.{running_moment};
 ghost use Rattle.exec_model.specs.Runs.{IsRunTo};
-ghost use Rattle.hal_tree.specs.View.{unit_tree};
+ghost use Rattle.hal_core.specs.View.{unit_tree};
 ghost use Rattle.hal_top.specs.Performed.{HasReport, Performs, Reported};
 ghost use Rattle.hal_top.specs.Programs.{IsRunnable};
 

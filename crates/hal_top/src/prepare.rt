@@ -9,7 +9,7 @@ use crate::program::{Program, program_of};
 use crate::refused::Refused;
 use crate::words::run_line;
 use exec_model::Script;
-use hal_base::{Place, Refusal, Rule, Shelf};
+use hal_base::{Fault, Shelf};
 use hal_script::{ScriptError, read_script};
 use std::alloc::Global;
 
@@ -19,16 +19,6 @@ pub struct Work {
     pub script: Script,
     pub program: Program,
 }
-
-/// Where rule 400 is broken: the whole unit is at fault.
-const FORMLESS: Refusal = Refusal {
-    rule: Rule(400),
-    place: Place {
-        unit: 0,
-        line: 1,
-        column: 1,
-    },
-};
 
 /// The refusal for a file that isn't fit.
 fn refused_file(fault: NoFile, number: u32) -> Refused
@@ -53,9 +43,9 @@ fn work_of(alloc: Global, script: &[u8], unit: &[u8]) -> Result<Work, Refused>
         Err(ScriptError::Memory(_)) => return Err(Refused::Memory),
     };
     match program_of(alloc, unit) {
-        Ok(Some(program)) => Ok(Work { script, program }),
-        Ok(None) => Err(Refused::Rule(FORMLESS)),
-        Err(_) => Err(Refused::Memory),
+        Ok(program) => Ok(Work { script, program }),
+        Err(Fault::Broken(refusal)) => Err(Refused::Rule(refusal)),
+        Err(Fault::Memory(_)) => Err(Refused::Memory),
     }
 }
 

@@ -3,7 +3,7 @@ ghost use Rattle.hal_base.specs.Faults.{Rose};
 ghost use Rattle.hal_base.specs.declared.refusal.Refusal.{Refusal};
 ghost use Rattle.hal_script.specs.declared.fault.ScriptFault.{ScriptFault};
 ghost use Rattle.exec_model.specs.declared.script.ScriptLine.{ScriptLine};
-ghost use Rattle.hal_tree.specs.Tree.{UnitTree};
+ghost use Rattle.hal_core.specs.Tree.{UnitTree};
 ghost use Rattle.hal_top.specs.CommandLine.{texts, HasNoForm};
 ghost use Rattle.hal_top.specs.Causes.{IsAbsent, IsTooLong, IsFirstWrong, IsFaulty, IsBroken, IsWork};
 ghost use Rattle.hal_top.specs.Outcomes.{IsStatus, IsRefusal, IsExcused, Completes, IsTold, Prints, PrintsReport, PrintsFront, refusal_line};

@@ -21,7 +21,7 @@ pub(crate) struct TreeProcs {
 impl Model for TreeProcs {
     ghost use Rattle.std.specs.Prelude.{◌+◌, ◌≤◌, vec_len, vec_capacity};
     ghost use Rattle.std.specs.Coded.{codes};
-    ghost use Rattle.hal_tree.specs.contracts.tree.StatementKind as kind;
+    ghost use Rattle.hal_core.specs.contracts.tree.StatementKind as kind;
     ghost use Rattle.hal_top.specs.Asking.{Asking, IsAsking};
 
     ghost Value = { Asking };

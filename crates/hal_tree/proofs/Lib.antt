@@ -1,2 +1,4 @@
-pub mod Made
-pub mod Names
+pub mod MadeExpressions
+pub mod MadeDeclarations
+pub mod MadeStatements
+pub mod MadeUnits

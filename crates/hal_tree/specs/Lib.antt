@@ -1,10 +1,6 @@
-pub mod NameText
-pub mod Letters
-pub mod Reserved
-pub mod Spelling
-pub mod Cutting
-pub mod Tree
-pub mod View
-pub mod Spells
-pub mod Naming
-pub mod SecondForm
+pub mod Rows
+pub mod SeenLeaves
+pub mod SeenExpressions
+pub mod SeenDeclarations
+pub mod SeenStatements
+pub mod SeenUnits

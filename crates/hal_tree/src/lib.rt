@@ -1,16 +1,18 @@
-//! Words and trees: what a word is, how a unit's bytes are cut into words, which trees there are,
-//! and which words a tree spells. The definitions stand in `specs/`; nothing here reads a text.
+//! The trees of HAL/S source as the program holds them. `specs/` says which tree of the grammar each of them is.
 #![tactic(auto)]
 
-mod name;
-mod tokens;
-mod tree;
-mod word;
+pub mod copy;
+mod declaration;
+mod expression;
+mod leaf;
+mod statement;
+mod unit;
 
-pub use name::Name;
-pub use tokens::Tokens;
-pub use tree::{
-    Channel, Comparison, Declaration, Initial, Operand, OperandKind, Relation, Sign, Statement,
-    StatementKind, Sum, Term, Unit,
+pub use declaration::{Attribute, Declaration, Declared, Initial, Mark, Part, Type};
+pub use expression::{Expr, Position, Reference, SignedTerm, Sub, Subscript};
+pub use leaf::{Conversion, Identifier, LiteralValue, Relation, Sign};
+pub use statement::{
+    Basic, Cycle, EventAction, EventChange, Group, Guard, Response, Schedule, Selector, Span,
+    Start, Statement,
 };
-pub use word::{Keyword, Symbol, Token, Word};
+pub use unit::{Element, File, Head, Mode, Precision, Preface, Returns, Template, Unit};

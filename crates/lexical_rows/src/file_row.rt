@@ -3,7 +3,7 @@
 
 use crate::row::{BAR, tell_unless_kept};
 use crate::{file_writer, reader, writer};
-use hal_tokens::tokens;
+use hal_lexer::tokens;
 use std::alloc::{AllocError, Global};
 
 /// The number of each file.

@@ -5,7 +5,7 @@
 use crate::file_row::UNIT;
 use crate::writer;
 use hal_base::{Fault, Place};
-use hal_tokens::Tokens;
+use hal_lexer::Tokens;
 use hal_words::{Symbol, Token, Word};
 use std::alloc::{AllocError, Global};
 

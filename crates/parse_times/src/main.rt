@@ -5,8 +5,8 @@
 
 mod texts;
 
-use hal_parse_file::parse;
-use hal_tokens::tokens;
+use hal_lexer::tokens;
+use hal_parse::parse;
 use std::alloc::Global;
 use std::{env, io};
 use texts::{KINDS, Kind};

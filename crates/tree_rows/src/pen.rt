@@ -2,7 +2,7 @@
 //! place, as `<2:5>`, where the rows want places.
 
 use hal_base::Place;
-use hal_syntax::{Identifier, Sign};
+use hal_tree::{Identifier, Sign};
 use hal_words::Name;
 use std::alloc::{AllocError, Global};
 

@@ -6,9 +6,9 @@ use crate::show_declarations::declarations;
 use crate::show_expressions::expression;
 use crate::show_units::{elements, file};
 use hal_base::Fault;
-use hal_parse_file::parse;
-use hal_syntax::{Basic, Element, Expr, File, Statement};
-use hal_tokens::tokens;
+use hal_lexer::tokens;
+use hal_parse::parse;
+use hal_tree::{Basic, Element, Expr, File, Statement};
 use std::alloc::{AllocError, Global};
 
 /// What a row separates its source from its tree with.

@@ -6,7 +6,7 @@
 use crate::pen::Pen;
 use crate::show_expressions::{expression, expressions, literal};
 use hal_base::Place;
-use hal_syntax::{Attribute, Declaration, Declared, Expr, Initial, Mark, Part, Sign, Type};
+use hal_tree::{Attribute, Declaration, Declared, Expr, Initial, Mark, Part, Sign, Type};
 use hal_words::Name;
 use std::alloc::AllocError;
 

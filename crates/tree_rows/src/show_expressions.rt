@@ -5,7 +5,7 @@
 
 use crate::pen::Pen;
 use hal_base::Place;
-use hal_syntax::{
+use hal_tree::{
     Conversion, Expr, Identifier, LiteralValue, Position, Reference, Relation, SignedTerm, Sub,
     Subscript,
 };

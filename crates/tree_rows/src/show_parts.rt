@@ -4,7 +4,7 @@
 use crate::pen::Pen;
 use crate::show_expressions::{expression, expressions};
 use hal_base::Place;
-use hal_syntax::{
+use hal_tree::{
     Cycle, EventAction, EventChange, Expr, Guard, Response, Schedule, Selector, Span, Start,
 };
 use std::alloc::AllocError;

@@ -8,7 +8,7 @@ use crate::pen::Pen;
 use crate::show_expressions::{expression, expressions, reference, references};
 use crate::show_parts::{event, guard, optional_guard, response, schedule, selector, span};
 use hal_base::Place;
-use hal_syntax::{Basic, EventChange, Expr, Group, Guard, Identifier, Reference, Span, Statement};
+use hal_tree::{Basic, EventChange, Expr, Group, Guard, Identifier, Reference, Span, Statement};
 use std::alloc::AllocError;
 
 /// The labels of a statement.

@@ -6,7 +6,7 @@ use crate::pen::Pen;
 use crate::show_declarations::{declarations, type_of};
 use crate::show_statements::statement;
 use hal_base::Place;
-use hal_syntax::{
+use hal_tree::{
     Element, File, Head, Identifier, Mode, Precision, Preface, Returns, Template, Unit,
 };
 use std::alloc::AllocError;

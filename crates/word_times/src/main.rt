@@ -5,7 +5,7 @@
 
 mod texts;
 
-use hal_tokens::tokens;
+use hal_lexer::tokens;
 use std::alloc::Global;
 use std::{env, io};
 use texts::{KINDS, Kind};

@@ -1,8 +1,3 @@
 pub mod Texts
-pub mod Ahead
-pub mod Cuts
-pub mod Spellings
-pub mod HelloCut
-pub mod HelloSpelled
-pub mod CountCut
-pub mod CountSpelled
+pub mod HelloMeaning
+pub mod CountMeaning

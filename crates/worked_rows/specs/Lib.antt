@@ -1,4 +1,5 @@
 pub mod Trees
+pub mod Files
 pub mod Runs
 pub mod HelloWords
 pub mod CountWords

@@ -1,11 +1,11 @@
 -- The trees of the worked units, written by hand, with their places counted by hand.
 use Rattle.std.specs.Prelude.{ℕ, [], ◌∷◌, Some, None, codes, pos}
 use Rattle.hal_base.specs.declared.refusal.Place.{Place}
-use Rattle.hal_tree.specs.declared.tree.OperandKind.TheVariants.{Variable, Number}
-use Rattle.hal_tree.specs.declared.tree.Relation.TheVariants.{Equal, Less}
-use Rattle.hal_tree.specs.declared.tree.Sign.TheVariants.{Plus}
-use Rattle.hal_tree.specs.Cutting.{place_at}
-use Rattle.hal_tree.specs.Tree.{Assigned, Written, Chosen, Looped, NoElse, UnitTree, body_of}
+use Rattle.hal_core.specs.declared.tree.OperandKind.TheVariants.{Variable, Number}
+use Rattle.hal_core.specs.declared.tree.Relation.TheVariants.{Equal, Less}
+use Rattle.hal_core.specs.declared.tree.Sign.TheVariants.{Plus}
+use Rattle.hal_words.specs.Lines.{place_at}
+use Rattle.hal_core.specs.Tree.{Assigned, Written, Chosen, Looped, NoElse, UnitTree, body_of}
 
 -- a column of the one line of the one unit
 abbrev pub column : ℕ → Place
@@ -16,7 +16,7 @@ abbrev pub hello_tree : UnitTree
 hello_tree = record {
   place = column 2;
   name = codes "HELLO";
-  declarations = record { place = column 18; name = codes "N"; initial = Some (record { place = column 44; value = pos 40 }) } ∷ [];
+  declarations = record { place = column 26; name = codes "N"; initial = Some (record { place = column 44; value = pos 40 }) } ∷ [];
   body = body_of
       (Assigned (column 49) (codes "N") (record {
         first = record { place = column 53; kind = Variable (codes "N") };
@@ -31,7 +31,7 @@ abbrev pub overflow_tree : UnitTree
 overflow_tree = record {
   place = column 2;
   name = codes "P";
-  declarations = record { place = column 14; name = codes "N"; initial = Some (record { place = column 40; value = pos 32767 }) } ∷ [];
+  declarations = record { place = column 22; name = codes "N"; initial = Some (record { place = column 40; value = pos 32767 }) } ∷ [];
   body = body_of
       (Assigned (column 48) (codes "N") (record {
         first = record { place = column 52; kind = Variable (codes "N") };
@@ -46,7 +46,7 @@ abbrev pub count_tree : UnitTree
 count_tree = record {
   place = column 2;
   name = codes "P";
-  declarations = record { place = column 14; name = codes "N"; initial = None } ∷ [];
+  declarations = record { place = column 22; name = codes "N"; initial = None } ∷ [];
   body = body_of
       (Looped (column 33)
       (record {

@@ -1,16 +1,18 @@
 //! The worked rows that follow from the definitions alone: no code of `hal` takes part in them.
 
-ghost use Rattle.std.specs.Prelude.{◌≡◌, [], ◌∷◌, codes};
+ghost use Rattle.std.specs.Prelude.{◌≡◌, [], ◌∷◌, Some, codes};
 ghost use Rattle.std.specs.Str.Lines.{lines};
-ghost use Rattle.hal_tree.specs.Cutting.{IsCut};
-ghost use Rattle.hal_tree.specs.Spells.{SpellsUnit};
-ghost use Rattle.hal_tree.specs.Naming.{IsNamed};
-ghost use Rattle.hal_tree.specs.SecondForm.{IsSecondForm};
+ghost use Rattle.hal_words.specs.Words.{IsCut};
+ghost use Rattle.hal_grammar.specs.SpellsFiles.{SpellsFile};
+ghost use Rattle.hal_core.specs.Naming.{IsNamed};
+ghost use Rattle.hal_built.specs.SecondForm.{second_form};
+ghost use Rattle.hal_top.specs.UnitTexts.{HasMeaning};
 ghost use Rattle.hal_script.specs.ScriptTexts.{IsScriptOf};
 ghost use Rattle.hal_script.specs.Journals.{journal_text};
 ghost use Rattle.hal_meaning.specs.TreeLoad.{load_of};
 ghost use Rattle.exec_model.specs.Report.{report};
 ghost use Rattle.exec_model.specs.Runs.{IsRunTo, after};
+ghost use Rattle.worked_rows.specs.Files.{hello_file};
 ghost use Rattle.worked_rows.specs.Trees.{hello_tree, overflow_tree, count_tree};
 ghost use Rattle.worked_rows.specs.HelloWords.{hello_text, hello_tokens};
 ghost use Rattle.worked_rows.specs.CountWords.{count_text};
@@ -48,9 +50,14 @@ pub fn count_is_closed()
     ensures journal { journal_text count_journal ≡ codes "act 0\nact 0\nact 0\ntick 5\nact 0\nact 0\nact 0\n" }
 {}
 
-/// The tree of HELLO spells its words.
+/// The words of HELLO are those of its file.
 pub fn hello_is_spelled()
-    ensures { SpellsUnit hello_tree hello_tokens [] }
+    ensures { SpellsFile hello_file hello_tokens [] }
+{}
+
+/// Each phrase of HELLO has a meaning, and this is its tree.
+pub fn hello_is_built()
+    ensures { second_form hello_file ≡ Some hello_tree }
 {}
 
 /// HELLO declares the names that it uses, each once.
@@ -73,12 +80,12 @@ pub fn hello_is_cut()
     ensures { IsCut 0 hello_text hello_tokens }
 {}
 
-/// So the text of HELLO is in the second form, with the tree of HELLO.
-pub fn hello_is_of_second_form()
-    ensures { IsSecondForm 0 hello_text hello_tree }
+/// So the text of HELLO has the meaning that the tree of HELLO says.
+pub fn hello_has_its_meaning()
+    ensures { HasMeaning 0 hello_text hello_tree }
 {}
 
-/// The text of the unit with a group is in the second form, with its tree.
-pub fn count_is_of_second_form()
-    ensures { IsSecondForm 0 count_text count_tree }
+/// The text of the unit with a group has the meaning that its tree says.
+pub fn count_has_its_meaning()
+    ensures { HasMeaning 0 count_text count_tree }
 {}

@@ -20,7 +20,7 @@ mod scripts;
 mod units;
 
 pub use laws::{
-    count_is_closed, count_is_of_second_form, hello_is_begun, hello_is_closed, hello_is_cut,
-    hello_is_named, hello_is_of_second_form, hello_is_spelled, hello_is_untouched, overflow_fails,
-    run_10_is_a_script, ticks_are_a_script,
+    count_has_its_meaning, count_is_closed, hello_has_its_meaning, hello_is_begun, hello_is_built,
+    hello_is_closed, hello_is_cut, hello_is_named, hello_is_spelled, hello_is_untouched,
+    overflow_fails, run_10_is_a_script, ticks_are_a_script,
 };

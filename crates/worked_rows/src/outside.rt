@@ -139,7 +139,7 @@ fn a_file_has_a_mebibyte_at_most(rt: HostRuntime) -> Result<(), Fail> {
     for (script, unit, status, line, file) in [
         (1_048_577, 1_048_577, 4, "s.txt: too long\n", 0),
         (0, 1_048_577, 4, "p.hal: too long\n", 1),
-        (1_048_576, 1_048_576, 5, "p.hal:1:1: rule 400\n", 1),
+        (1_048_576, 1_048_576, 5, "p.hal:1:1: rule 401\n", 1),
     ] {
         let (outcome, taken) = run(
             alloc,

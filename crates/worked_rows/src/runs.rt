@@ -3,7 +3,7 @@ use exec_model::Event;
 use std::test::Fail;
 
 /// Units and scripts, the number of events, and the report.
-const ROWS: [(&str, &str, usize, &str); 19] = [
+const ROWS: [(&str, &str, usize, &str); 27] = [
     (HELLO, "RUN 10\n", 3, HELLO_REPORT),
     (HELLO, "RUN 1\n", 1, "live HELLO\nHELLO.N = 42\n"),
     (HELLO, "", 0, "live HELLO\nHELLO.N = 40\n"),
@@ -88,6 +88,61 @@ const ROWS: [(&str, &str, usize, &str); 19] = [
         "RUN 1\n",
         1,
         "live A_NAME_OF_THIRTY_TWO_BYTES_56789\n",
+    ),
+    // Small letters are capitals, but not in quotes; tabs are blanks.
+    (
+        " p: program;\tdeclare n integer initial(3);\r\n write(6) N; Close P;\r\n",
+        "RUN 10\n",
+        3,
+        "6: 3\nend P 0 closed 1\nP.N = 3\n",
+    ),
+    // Comments part words, over lines too.
+    (
+        "C A LINE OF REMARKS\n P:/*A*/PROGRAM; /* DECLARE\nCOMMENT\n N */ WRITE(6) 1;\nD NOTHING\n CLOSE P;",
+        "RUN 10\n",
+        3,
+        "6: 1\nend P 0 closed 1\n",
+    ),
+    // The first byte of a main line may be M.
+    (
+        "M P: PROGRAM;\nm CLOSE P;",
+        "RUN 10\n",
+        2,
+        "end P 0 closed 1\n",
+    ),
+    // REPLACE stands anywhere, and its text stands in place of the name behind it.
+    (
+        " P: PROGRAM; DECLARE N INTEGER; REPLACE STEP BY \"N + 2\"; N = STEP; N = STEP; WRITE(6) N; CLOSE P;",
+        "RUN 9",
+        3,
+        "6: 4\nend P 0 closed 1\nP.N = 4\n",
+    ),
+    (
+        " REPLACE TIMES BY \"DO WHILE N <\"; REPLACE ADDED BY \"N = N + 1; END\"; P: PROGRAM; DECLARE N INTEGER; TIMES 2; ADDED; CLOSE P;",
+        "RUN 9",
+        4,
+        "end P 0 closed 1\nP.N = 2\n",
+    ),
+    // A WRITE needs no items.
+    (
+        " P: PROGRAM; WRITE(6); CLOSE P;",
+        "RUN 9",
+        3,
+        "6:\nend P 0 closed 1\n",
+    ),
+    // Numbers from -32768 to 32767 are initial values.
+    (
+        " P: PROGRAM; DECLARE N INTEGER INITIAL(32767); DECLARE M INTEGER INITIAL(-32768); DECLARE K INTEGER INITIAL(-0); CLOSE;",
+        "RUN 9",
+        2,
+        "end P 0 closed 1\nP.N = 32767\nP.M = -32768\nP.K = 0\n",
+    ),
+    // A name of a built-in function is a name like any other.
+    (
+        " ABS: PROGRAM; DECLARE SHORT INTEGER INITIAL(5); WRITE(6) SHORT; CLOSE ABS;",
+        "RUN 9",
+        3,
+        "6: 5\nend ABS 0 closed 1\nABS.SHORT = 5\n",
     ),
     // The values of a state are those with which the next request is asked.
     (

@@ -1,7 +1,7 @@
 use Rattle.std.proofs.Common.{◌≡◌, sym, subst, IfOk}
 use Rattle.hal_words.specs.declared.reserved.Reserved.TheVariants as reserved
 use Rattle.hal_grammar.specs.Expressions.{Ors, Ands, Joined, Multiplied}
-use Rattle.hal_syntax.specs.SeenExpressions.{seen_expression, seen_signed, seen_sub}
+use Rattle.hal_tree.specs.SeenExpressions.{seen_expression, seen_signed, seen_sub}
 use Rattle.hal_parse_expr.specs.Reading.{after_comma}
 use Rattle.hal_parse_expr.specs.ReadingExpressions.{behind, both_of, cat_of, comparison_of, expression_of, factor_of, further_factor, primary_at, signed_term, sub_of, sum_of, term_of}
 use Rattle.hal_parse_expr.specs.Joints.{more_of, make_of}

@@ -1,5 +1,5 @@
 use Rattle.std.proofs.Common.{◌≡◌, ◌+◌, ◌*◌, length, map}
-use Rattle.hal_syntax.specs.SeenExpressions.{seen_expression, seen_signed, seen_sub}
+use Rattle.hal_tree.specs.SeenExpressions.{seen_expression, seen_signed, seen_sub}
 use Rattle.hal_parse_expr.specs.Reading.{all, after_comma}
 use Rattle.hal_parse_expr.specs.ReadingExpressions.{expression_of, primary_at, signed_term, sub_of}
 use Rattle.hal_parse_expr.specs.Joints.{more_of}

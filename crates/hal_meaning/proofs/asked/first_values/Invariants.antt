@@ -1,5 +1,5 @@
 use Rattle.std.proofs.Common.{◌≡◌, ◌++◌, drop, map}
-use Rattle.hal_tree.specs.declared.tree.Declaration.{Declaration}
+use Rattle.hal_core.specs.declared.tree.Declaration.{Declaration}
 use Rattle.hal_meaning.specs.Meaning.{initial_value}
 use Rattle.hal_meaning.proofs.asked.first_values.Given as goal
 

@@ -1,5 +1,5 @@
 use Rattle.std.proofs.lemmas.Result.{IfOk-weaker}
-use Rattle.hal_tree.specs.View.{unit_tree}
+use Rattle.hal_core.specs.View.{unit_tree}
 use Rattle.hal_meaning.specs.Course.{body_then_finish}
 use Rattle.hal_meaning.proofs.Seen.{ComesTo-asked}
 use Rattle.hal_meaning.proofs.asked.passage.Goals as goal

@@ -1,7 +1,7 @@
 use Rattle.std.proofs.Common.{List, map, ap, ◌∙◌, sym}
 use Rattle.std.proofs.lemmas.Result.{IfOk-weaker}
-use Rattle.hal_tree.specs.declared.tree.Sum.{Sum}
-use Rattle.hal_tree.specs.View.{comparison_tree, body_tree, alternative_tree, statement_tree, sum_tree}
+use Rattle.hal_core.specs.declared.tree.Sum.{Sum}
+use Rattle.hal_core.specs.View.{comparison_tree, body_tree, alternative_tree, statement_tree, sum_tree}
 use Rattle.hal_meaning.specs.Values.{Good}
 use Rattle.hal_meaning.specs.Meaning.{write, statements}
 use Rattle.hal_meaning.specs.Course.{checked, state_of}

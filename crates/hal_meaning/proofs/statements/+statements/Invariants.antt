@@ -1,5 +1,5 @@
 use Rattle.std.proofs.Common.{length, drop}
-use Rattle.hal_tree.specs.View.{body_tree, comparison_tree}
+use Rattle.hal_core.specs.View.{body_tree, comparison_tree}
 use Rattle.hal_meaning.proofs.Turns.{Resumes, Turns}
 use Rattle.hal_meaning.proofs.statements.+statements.Given as goal
 

@@ -1,4 +1,4 @@
-use Rattle.hal_tree.specs.View.{unit_tree}
+use Rattle.hal_core.specs.View.{unit_tree}
 use Rattle.hal_meaning.specs.Adequate.{meaning-asks}
 use Rattle.hal_meaning.proofs.tree_load.a_unit_always_asks.Goals as goal
 

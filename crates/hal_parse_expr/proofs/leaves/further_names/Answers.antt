@@ -1,4 +1,4 @@
-use Rattle.hal_syntax.specs.SeenLeaves.{seen_name}
+use Rattle.hal_tree.specs.SeenLeaves.{seen_name}
 use Rattle.hal_parse_expr.specs.ReadingExpressions.{further_at}
 use Rattle.hal_parse_expr.specs.Seen.{seen_as, seen_list}
 use Rattle.hal_parse_expr.proofs.Loops.{loop_smaller, loop_step, loop_end}

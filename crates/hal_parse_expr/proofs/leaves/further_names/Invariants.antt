@@ -1,5 +1,5 @@
 use Rattle.std.proofs.Common.{◌≡◌, length, map}
-use Rattle.hal_syntax.specs.SeenLeaves.{seen_name}
+use Rattle.hal_tree.specs.SeenLeaves.{seen_name}
 use Rattle.hal_parse_expr.specs.Reading.{all}
 use Rattle.hal_parse_expr.specs.ReadingExpressions.{further_at}
 use Rattle.hal_parse_expr.proofs.Loops.{with_front}

@@ -1,6 +1,6 @@
 use Rattle.std.proofs.Common.{◌∷◌, [], List, ap, subst}
-use Rattle.hal_tree.specs.declared.tree.Unit.{Unit}
-use Rattle.hal_tree.specs.View.{unit_tree}
+use Rattle.hal_core.specs.declared.tree.Unit.{Unit}
+use Rattle.hal_core.specs.View.{unit_tree}
 use Rattle.hal_meaning.specs.declared.heard.Heard.{Heard}
 use Rattle.hal_meaning.specs.Answering.{answers_of}
 use Rattle.hal_top.specs.Performed.{HasReport}

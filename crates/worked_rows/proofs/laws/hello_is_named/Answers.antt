@@ -1,4 +1,4 @@
-use Rattle.worked_rows.proofs.HelloSpelled.{IsNamed-hello}
+use Rattle.worked_rows.proofs.HelloMeaning.{IsNamed-hello}
 use Rattle.worked_rows.proofs.laws.hello_is_named.Goals as goal
 
 pub returns : goal.returns

@@ -1,5 +1,5 @@
-use Rattle.worked_rows.proofs.HelloSpelled.{SpellsUnit-hello}
+use Rattle.worked_rows.proofs.HelloMeaning.{SpellsFile-hello}
 use Rattle.worked_rows.proofs.laws.hello_is_spelled.Goals as goal
 
 pub returns : goal.returns
-returns c = SpellsUnit-hello
+returns c = SpellsFile-hello

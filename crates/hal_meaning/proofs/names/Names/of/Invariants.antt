@@ -1,5 +1,5 @@
 use Rattle.std.proofs.Common.{◌≡◌, ◌++◌, drop, map}
-use Rattle.hal_tree.specs.declared.tree.Declaration.{Declaration}
+use Rattle.hal_core.specs.declared.tree.Declaration.{Declaration}
 use Rattle.hal_meaning.specs.NameTable.{IsTable}
 use Rattle.hal_meaning.proofs.names.Names.of.Given as goal
 

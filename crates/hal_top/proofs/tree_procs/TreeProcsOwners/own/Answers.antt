@@ -1,6 +1,6 @@
 use Rattle.std.proofs.Common.{◌≡◌, map, ap, sym, subst, ◌∙◌}
-use Rattle.hal_tree.specs.Tree.{UnitTree}
-use Rattle.hal_tree.specs.View.{unit_tree}
+use Rattle.hal_core.specs.Tree.{UnitTree}
+use Rattle.hal_core.specs.View.{unit_tree}
 use Rattle.hal_values.specs.Requests.{HasProcess}
 use Rattle.hal_values.specs.declared.value.Value.TheVariants as value
 use Rattle.hal_meaning.specs.Meaning.{own_heard}

@@ -1,6 +1,6 @@
 use Rattle.std.proofs.Common.{◌≡◌, ◌∷◌, ◌++◌, [], List, None, IsSomeAnd, IfSome, sym, subst, rules, arith}
-use Rattle.hal_tree.specs.Tree.{UnitTree}
-use Rattle.hal_tree.specs.View.{unit_tree}
+use Rattle.hal_core.specs.Tree.{UnitTree}
+use Rattle.hal_core.specs.View.{unit_tree}
 use Rattle.hal_values.specs.Loads.{FitsNext}
 use Rattle.hal_values.specs.Requests.{HasProcess}
 use Rattle.hal_meaning.specs.declared.heard.Heard.{Heard}

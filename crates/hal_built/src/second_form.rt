@@ -1,0 +1,8 @@
+//! The trees that the meaning speaks of, from the trees of the whole language.
+
+mod declarations;
+mod statements;
+mod sums;
+mod units;
+
+pub(crate) use units::second_form;

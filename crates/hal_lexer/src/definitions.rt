@@ -1,0 +1,81 @@
+use hal_words::Name;
+use indexmap::IndexMap;
+use std::alloc::{AllocError, Global};
+use std::marker::Model;
+
+/// The text that stands in place of a name.
+#[derive(Clone, Copy, Debug)]
+pub(crate) struct Definition<'a> {
+    name: Name,
+    text: &'a [u8],
+}
+
+/// The definitions so far; of two with one name the later one holds. A contract sees the list, the
+/// latest first.
+#[derive(Drop)]
+pub(crate) struct Definitions<'a> {
+    list: Vec<Definition<'a>>,
+    latest: IndexMap<Name, usize>,
+}
+
+impl<'a> Model for Definitions<'a> {
+    ghost use Rattle.std.specs.Prelude.{reverse, map};
+    ghost use Rattle.hal_words.specs.Replacing as replacing;
+    ghost use Rattle.hal_lexer.specs.Defined.{pair_of, IsIndex};
+
+    ghost Value = { replacing.Definitions };
+
+    ghost view = { λ d. reverse (map pair_of d.list.items) };
+
+    ghost invariant = { λ d. IsIndex d.latest.entries (map pair_of d.list.items) };
+}
+
+impl<'a> Definitions<'a> {
+    ghost use Rattle.std.specs.Prelude.{◌≡◌, ◌∷◌, [], OnOk, IfSome, length};
+    ghost use Rattle.std.specs.Option.{option_map};
+    ghost use Rattle.hal_words.specs.Reserved.{look_up};
+    ghost use Rattle.hal_lexer.specs.Texts.{IsText};
+
+    /// No definition.
+    pub(crate) fn new(alloc: Global) -> Definitions<'a>
+        ensures { result ≡ [] }
+    {
+        Definitions {
+            list: Vec::new(alloc),
+            latest: IndexMap::new(alloc),
+        }
+    }
+
+    /// How many definitions there are.
+    pub(crate) fn len(&self) -> usize
+        ensures { result ≡ length self.now }
+    {
+        self.list.len()
+    }
+
+    /// Adds a definition.
+    pub(crate) fn push(&mut self, name: Name, text: &'a [u8]) -> Result<(), AllocError>
+        requires { IsText text.now }
+        ensures { OnOk result (self.new ≡ (name, text.now) ∷ self.old) }
+    {
+        let number = self.list.len();
+        if self.list.push(Definition { name, text }).is_err() {
+            return Err(AllocError);
+        }
+        if self.latest.insert(name, number).is_err() {
+            self.list.pop();
+            return Err(AllocError);
+        }
+        Ok(())
+    }
+
+    /// The text that stands in place of this name.
+    pub(crate) fn text(&self, name: &Name) -> Option<&'a [u8]>
+        ensures found { option_map (λ text. text.now) result ≡ look_up self.now name.now }
+        ensures text { IfSome result (λ text. IsText text.now) }
+    {
+        let index = self.latest.get(name)?;
+        let definition = self.list.get(*index)?;
+        Some(definition.text)
+    }
+}

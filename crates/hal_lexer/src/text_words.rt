@@ -1,0 +1,71 @@
+//! The word that a piece is.
+
+ghost use Rattle.std.specs.Prelude.{◌≡◌, ◌<◌, ◌∷◌, [], false, length, IfOk, IfErr, IfSome, IfNone};
+ghost use Rattle.hal_base.specs.declared.refusal.Place.{Place};
+ghost use Rattle.hal_words.specs.Pieces.{Is};
+ghost use Rattle.hal_words.specs.Lines.{item};
+ghost use Rattle.hal_words.specs.Items.{main_item};
+ghost use Rattle.hal_words.specs.Replacing.{as_word, is_replace, text_items};
+ghost use Rattle.hal_pieces.specs.Seen.{seen};
+ghost use Rattle.hal_lexer.specs.Faults.{IsFaultItem};
+ghost use Rattle.hal_lexer.specs.Opened.{IsSpoilt};
+ghost use Rattle.hal_lexer.specs.Texts.{IsNoMark, IsText};
+
+use crate::fronts::front;
+use hal_base::{Fault, Place};
+use hal_pieces::{Piece, broken};
+use hal_words::{Reserved, Word};
+
+/// The word that a piece is. A text between two `"` stands only in a definition.
+pub(crate) fn word_of(piece: &Piece, place: Place) -> Result<Word, Fault>
+    ensures word { IfOk result (λ word. seen piece.now ≡ Is word) }
+    ensures broken { IfErr result (λ fault. IsFaultItem (as_word (seen piece.now) place) fault) }
+{
+    match piece {
+        Piece::Word(word) => Ok(*word),
+        Piece::Replacement(_) | Piece::Open => Err(broken(201, place)),
+        Piece::Wrong(rule) => Err(broken(rule.0, place)),
+    }
+}
+
+/// The word that a piece of a text is.
+fn word_of_text(piece: &Piece, place: Place) -> Result<Word, Fault>
+    requires { IsNoMark (seen piece.now) }
+    ensures word { IfOk result (λ word. (at : Place) → main_item (seen piece.now) at ≡ item (Is word) at) }
+    ensures broken { IfErr result (λ fault. IsFaultItem (main_item (seen piece.now) place) fault) }
+{
+    match piece {
+        Piece::Word(Word::Reserved(Reserved::Include)) => {
+            Err(broken(103, Place { column: 1, ..place }))
+        }
+        _ => word_of(piece, place),
+    }
+}
+
+/// Whether the word is REPLACE, which has no form within a text.
+pub(crate) fn is_replace(word: &Word) -> bool
+    ensures { result ≡ is_replace (Is word.now) }
+{
+    matches!(word, Word::Reserved(Reserved::Replace))
+}
+
+/// The word that a text goes on with, and what follows it; None where no word is left. What is wrong in
+/// the text is so at this place.
+pub(crate) fn next_word(text: &[u8], place: Place) -> Result<Option<(Word, &[u8])>, Fault>
+    requires { IsText text.now }
+    ensures found { IfOk result (λ next. IfSome next (λ f. (at : Place) → text_items at text.now ≡ item (Is f.0) at ∷ text_items at f.1.now)) }
+    ensures word { IfOk result (λ next. IfSome next (λ f. is_replace (Is f.0) ≡ false)) }
+    ensures text { IfOk result (λ next. IfSome next (λ f. IsText f.1.now)) }
+    ensures shorter { IfOk result (λ next. IfSome next (λ f. length f.1.now < length text.now)) }
+    ensures none { IfOk result (λ next. IfNone next ((at : Place) → text_items at text.now ≡ [])) }
+    ensures broken { IfErr result (IsSpoilt place text.now) }
+{
+    let Some((piece, rest)) = front(text) else {
+        return Ok(None);
+    };
+    let word = word_of_text(&piece, place)?;
+    if is_replace(&word) {
+        return Err(broken(207, place));
+    }
+    Ok(Some((word, rest)))
+}

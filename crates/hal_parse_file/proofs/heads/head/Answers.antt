@@ -1,8 +1,0 @@
-use Rattle.std.proofs.Common.{rules, ◌≡◌}
-use Rattle.hal_parse_expr.specs.Seen.{seen_as}
-use Rattle.hal_parse_file.proofs.CodeUnits.{nothing_headed}
-use Rattle.hal_parse_file.proofs.heads.head.Goals as goal
-
-pub returns-in_default-headed_by : goal.returns-in_default-headed_by
-unfolding seen_as
-returns-in_default-headed_by c = nothing_headed c.args.depth c.in-Some.ensures.cases.0 c.in_default-headed_by.ensures

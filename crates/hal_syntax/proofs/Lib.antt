@@ -1,4 +1,0 @@
-pub mod MadeExpressions
-pub mod MadeDeclarations
-pub mod MadeStatements
-pub mod MadeUnits

@@ -1,6 +1,0 @@
-pub mod Rows
-pub mod SeenLeaves
-pub mod SeenExpressions
-pub mod SeenDeclarations
-pub mod SeenStatements
-pub mod SeenUnits

@@ -1,7 +1,0 @@
-pub mod Texts
-pub mod Defined
-pub mod Compiled
-pub mod Numbers
-pub mod Opened
-pub mod Walks
-pub mod Faults
