@@ -391,7 +391,7 @@ fn units_break_a_rule_at_a_place(rt: HostRuntime) -> Result<(), Fail> {
     tell_rows(rt.alloc(), &FILES, &mut told)?;
     tell_rows(rt.alloc(), &EXPRESSIONS, &mut told)?;
     tell_rows(rt.alloc(), &DECLARATIONS, &mut told)?;
-    assert_eq!(rt; told, "");
+    assert_eq!(rt; told.as_str(), "");
     Ok(())
 }
 
@@ -401,6 +401,6 @@ fn phrases_and_names_break_a_rule_at_a_place(rt: HostRuntime) -> Result<(), Fail
     tell_rows(rt.alloc(), &STATEMENTS, &mut told)?;
     tell_rows(rt.alloc(), &UNITS, &mut told)?;
     tell_rows(rt.alloc(), &NAMES, &mut told)?;
-    assert_eq!(rt; told, "");
+    assert_eq!(rt; told.as_str(), "");
     Ok(())
 }
