@@ -1,10 +1,10 @@
 -- A unit has no more declarations than its text has words.
-use Rattle.std.proofs.Common.{◌≡◌, ◌≤◌, ◌+◌, ℕ, suc, Bool, true, false, cond, List, [], ◌∷◌, length, Option, Some, None, refl, ap, sym, subst, ◌∙◌, arith}
+use Rattle.std.proofs.Common.{◌≡◌, ◌≤◌, ◌+◌, suc, Bool, true, false, cond, List, [], ◌∷◌, length, Option, Some, None, refl, ap, sym, ◌∙◌, arith}
 use Rattle.std.proofs.lemmas.Option.{none-some, same_Some}
 use Rattle.hal_words.specs.declared.word.Token.{Token}
 use Rattle.hal_grammar.specs.Leaves.{Naming}
 use Rattle.hal_grammar.specs.Declarations.{Declaration}
-use Rattle.hal_grammar.specs.Units.{Head, ProgramHead, CompoolHead, TaskHead, ProcedureHead, FunctionHead, Block, BlockOf, Elements, Preface, File}
+use Rattle.hal_grammar.specs.Units.{ProgramHead, CompoolHead, TaskHead, ProcedureHead, FunctionHead, Block, BlockOf, Preface, File}
 use Rattle.hal_grammar.specs.Words.{Words}
 use Rattle.hal_grammar.specs.SpellsDeclarations.{SpellsDeclarations, no_declarations, more_declarations}
 use Rattle.hal_grammar.specs.SpellsFiles.{SpellsBlock, block, SpellsFile, block_alone, preface_first}

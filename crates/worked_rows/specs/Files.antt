@@ -1,5 +1,5 @@
 -- The files of the worked units, written by hand.
-use Rattle.std.specs.Prelude.{ℕ, List, [], ◌∷◌, Some, None, codes}
+use Rattle.std.specs.Prelude.{ℕ, [], ◌∷◌, Some, None, codes}
 use Rattle.hal_grammar.specs.Leaves.{naming, Added, IsEqual, IsLess, WholeNumber}
 use Rattle.hal_grammar.specs.Expressions.{Expression, Compared, Summed, Literally, Referred, NoExpressions, MoreExpressions, NoTerms, MoreTerms, Reference, Refers, Unsubscripted}
 use Rattle.hal_grammar.specs.Declarations.{IntegerKind, Valued, NoInitials, MoreInitials, Typed, InitialValues, declared_of, Declares}

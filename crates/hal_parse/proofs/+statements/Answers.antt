@@ -1,4 +1,3 @@
-use Rattle.std.proofs.Common.{rules, ◌≡◌}
 use Rattle.hal_tree.specs.SeenStatements.{seen_statement}
 use Rattle.hal_parse_expr.specs.Seen.{seen_as, seen_list}
 use Rattle.hal_parse_expr.proofs.Loops.{loop_smaller, loop_step, loop_end}

@@ -1,4 +1,3 @@
-use Rattle.std.proofs.Common.{rules, ◌≡◌, Some}
 use Rattle.hal_tree.specs.SeenExpressions.{seen_expression}
 use Rattle.hal_tree.specs.SeenStatements.{seen_span}
 use Rattle.hal_parse_expr.specs.Reading.{after_comma}

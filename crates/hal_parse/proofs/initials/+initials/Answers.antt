@@ -1,4 +1,3 @@
-use Rattle.std.proofs.Common.{rules, ◌≡◌}
 use Rattle.hal_tree.specs.SeenDeclarations.{seen_initial}
 use Rattle.hal_parse_expr.specs.Reading.{after_comma}
 use Rattle.hal_parse_expr.specs.Seen.{seen_as, seen_as_list}

@@ -1,4 +1,3 @@
-use Rattle.std.proofs.Common.{rules, ◌≡◌}
 use Rattle.hal_parse_expr.specs.Seen.{seen_as}
 use Rattle.hal_parse.proofs.CodeDeclarations.{no_type}
 use Rattle.hal_parse.proofs.kinds.kind.Goals as goal

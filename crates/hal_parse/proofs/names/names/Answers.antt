@@ -1,4 +1,3 @@
-use Rattle.std.proofs.Common.{rules, ◌≡◌, Some}
 use Rattle.hal_tree.specs.SeenLeaves.{seen_name}
 use Rattle.hal_parse_expr.specs.Reading.{after_comma, name_at}
 use Rattle.hal_parse_expr.specs.Seen.{seen_as, seen_as_list}

@@ -1,4 +1,4 @@
-use Rattle.std.proofs.Common.{rules, ◌≡◌, sym, ◌∙◌}
+use Rattle.std.proofs.Common.{sym, ◌∙◌}
 use Rattle.hal_tree.specs.SeenUnits.{seen_file}
 use Rattle.hal_parse_expr.specs.Seen.{seen_as}
 use Rattle.hal_parse.proofs.Answered.{parsed, more_words}

@@ -1,4 +1,3 @@
-use Rattle.std.proofs.Common.{rules, ◌≡◌, Some}
 use Rattle.hal_tree.specs.SeenExpressions.{seen_reference}
 use Rattle.hal_parse_expr.specs.Reading.{after_comma}
 use Rattle.hal_parse_expr.specs.ReadingExpressions.{reference_at}
