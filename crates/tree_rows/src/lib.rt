@@ -15,6 +15,8 @@ mod faulty_values;
 #[cfg(test)]
 mod files;
 #[cfg(test)]
+mod longest;
+#[cfg(test)]
 mod nesting;
 #[cfg(test)]
 mod pen;

@@ -8,6 +8,7 @@ use crate::show_units::{elements, file};
 use hal_base::Fault;
 use hal_lexer::tokens;
 use hal_parse::parse;
+use hal_tree::copy::copy_file;
 use hal_tree::{Basic, Element, Expr, File, Statement};
 use std::alloc::{AllocError, Global};
 
@@ -82,7 +83,7 @@ fn write_tree(source: Source, tree: &File, pen: &mut Pen) -> Result<(), AllocErr
 }
 
 /// A broken rule, and where it is broken.
-fn write_fault(fault: &Fault, pen: &mut Pen) -> Result<(), AllocError> {
+pub(crate) fn write_fault(fault: &Fault, pen: &mut Pen) -> Result<(), AllocError> {
     match fault {
         Fault::Broken(refusal) => {
             pen.word("rule")?;
@@ -109,7 +110,7 @@ fn tree_of(alloc: Global, source: Source, text: &str) -> Result<File, Fault> {
     parse(alloc, words.as_slice(), UNIT)
 }
 
-/// What a source gives.
+/// What a source gives: a copy of its tree is written, so that each row tries copies too.
 fn given(
     alloc: Global,
     source: Source,
@@ -119,7 +120,7 @@ fn given(
     let mut pen = Pen::new(alloc, has_places);
     match tree_of(alloc, source, text) {
         Err(fault) => write_fault(&fault, &mut pen)?,
-        Ok(tree) => write_tree(source, &tree, &mut pen)?,
+        Ok(tree) => write_tree(source, &copy_file(alloc, &tree)?, &mut pen)?,
     }
     Ok(pen.into_text())
 }
