@@ -1,6 +1,6 @@
 use crate::loads::{Step, Unit, cycle, load};
+use crate::plays::procs_of;
 use crate::scripted::Scripted;
-use crate::scripted_procs::ScriptedProcs;
 use hal_values::{Cycle, EventStart, Guard, Item, Listing, Pause, Plan, ReportBase, Spot, When};
 use std::alloc::{AllocError, Global};
 use std::test::Fail;
@@ -60,33 +60,27 @@ const WRONG: [Step; 11] = [
     Step::Update(2, 0, 1, -32_769),
 ];
 
-#[test]
-fn a_load_in_order_is_right(rt: HostRuntime) -> Result<(), Fail> {
-    let alloc = rt.alloc();
-    let load = load(alloc, &TWO)?;
-    let is_right = load.is_right();
-    assert!(rt; is_right);
-    if is_right {
-        let _procs = ScriptedProcs::start(alloc, load)?;
-    }
-    Ok(())
-}
-
-/// The load with one body more, which asks this.
-fn asking(alloc: Global, step: Step) -> Result<Scripted, AllocError> {
-    let mut load = load(alloc, &TWO)?;
+/// Adds a body that asks this.
+fn push_asking(alloc: Global, load: &mut Scripted, step: Step) -> Result<(), AllocError> {
     let mut more = Listing::empty(alloc);
     more.push(cycle(alloc, &[Step::Now, step])?)?;
-    load.bodies.push(more)?;
-    Ok(load)
+    load.bodies.push(more)
+}
+
+/// Whether the load with one body more, which asks this, is right.
+fn is_right_with(alloc: Global, step: Step) -> Result<bool, AllocError> {
+    let mut load = load(alloc, &TWO)?;
+    push_asking(alloc, &mut load, step)?;
+    Ok(load.is_right())
 }
 
 #[test]
-fn what_is_not_in_order_is_refused(rt: HostRuntime) -> Result<(), Fail> {
+fn loads_are_right_where_all_is_in_order(rt: HostRuntime) -> Result<(), Fail> {
     let alloc = rt.alloc();
-    assert!(rt; asking(alloc, Step::Now)?.is_right());
+    assert!(rt; procs_of(alloc, &TWO)?.is_some());
+    assert!(rt; is_right_with(alloc, Step::Now)?);
     for step in WRONG {
-        assert!(rt; !asking(alloc, step)?.is_right());
+        assert!(rt; !is_right_with(alloc, step)?);
     }
     Ok(())
 }

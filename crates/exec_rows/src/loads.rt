@@ -109,7 +109,7 @@ fn bodies(
 }
 
 /// Integers of 16 bits in these lock groups.
-pub(crate) fn cells(alloc: Global, groups: &[u8]) -> Result<Listing<Cell>, AllocError> {
+fn cells(alloc: Global, groups: &[u8]) -> Result<Listing<Cell>, AllocError> {
     let mut cells = Listing::empty(alloc);
     for group in groups {
         cells.push(Cell {
@@ -181,34 +181,4 @@ pub(crate) fn load(alloc: Global, unit: &Unit) -> Result<Scripted, AllocError> {
         tables: tables(alloc, unit)?,
         bodies: bodies(alloc, unit.bodies)?,
     })
-}
-
-/// The load that has these processes, and no bodies.
-pub(crate) fn bare(alloc: Global, names: &[&str]) -> Result<Scripted, AllocError> {
-    let tables = Tables {
-        cells: Listing::empty(alloc),
-        processes: processes(alloc, names)?,
-        first: 0,
-        events: Listing::empty(alloc),
-        expressions: Listing::empty(alloc),
-        names: Listing::empty(alloc),
-    };
-    Ok(Scripted {
-        tables,
-        bodies: Listing::empty(alloc),
-    })
-}
-
-/// The next process of the load has so many cycles, each of which asks this.
-pub(crate) fn push_body(
-    alloc: Global,
-    load: &mut Scripted,
-    steps: &[Step],
-    count: u32,
-) -> Result<(), AllocError> {
-    let mut body = Listing::empty(alloc);
-    for _ in 0..count {
-        body.push(cycle(alloc, steps)?)?;
-    }
-    load.bodies.push(body)
 }

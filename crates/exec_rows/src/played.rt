@@ -1,15 +1,12 @@
 //! The plain executive over the loads of the rows.
 
-ghost use Rattle.std.specs.Prelude.{◌≤◌};
-
-use crate::plays::{Line, play};
+use crate::loads::Unit;
+use crate::plays::{Line, play, started};
 use crate::row_loads::{
-    cancelled, counting, guarded, preempted, signalled, stopped, terminated, twice,
+    CANCELLED, COUNTING, GUARDED, PREEMPTED, SIGNALLED, STOPPED, TERMINATED, TWICE,
 };
-use crate::scripted::Scripted;
 use crate::scripted_procs::ScriptedProcs;
-use exec_model::{End, Event, How, Plain, Script};
-use hal_base::LANE_LIMIT;
+use exec_model::{End, Event, How, Plain};
 use hal_values::{ErrNo, Value};
 use std::alloc::{AllocError, Global};
 use std::test::Fail;
@@ -116,18 +113,15 @@ fn comes(
 /// The load is right, each event of the script may come in its run, and this comes of them.
 fn shows(
     alloc: Global,
-    load: Scripted,
+    unit: &Unit,
     lanes: u8,
     script: &[Line],
     outcome: Outcome,
 ) -> Result<bool, AllocError> {
-    if !load.is_right() || lanes < 1 || lanes > LANE_LIMIT {
-        return Ok(false);
+    match started(alloc, unit, lanes)? {
+        None => Ok(false),
+        Some(mut plain) => comes(alloc, &mut plain, script, outcome),
     }
-    let procs = ScriptedProcs::start(alloc, load)?;
-    let no_lines = Script::new(Vec::new(alloc));
-    let mut plain = Plain::start(alloc, procs, &no_lines, lanes)?;
-    comes(alloc, &mut plain, script, outcome)
 }
 
 fn a_failed_schedule_is_ignored(alloc: Global) -> Result<bool, AllocError> {
@@ -145,7 +139,7 @@ fn a_failed_schedule_is_ignored(alloc: Global) -> Result<bool, AllocError> {
         ends: &ends,
         store: &[],
     };
-    shows(alloc, twice(alloc)?, 1, &script, outcome)
+    shows(alloc, &TWICE, 1, &script, outcome)
 }
 
 fn a_failed_schedule_stops(alloc: Global) -> Result<bool, AllocError> {
@@ -168,7 +162,7 @@ fn a_failed_schedule_stops(alloc: Global) -> Result<bool, AllocError> {
         ends: &ends,
         store: &[],
     };
-    shows(alloc, stopped(alloc)?, 1, &script, outcome)
+    shows(alloc, &STOPPED, 1, &script, outcome)
 }
 
 fn two_cycles_are_due(alloc: Global) -> Result<bool, AllocError> {
@@ -186,7 +180,7 @@ fn two_cycles_are_due(alloc: Global) -> Result<bool, AllocError> {
         ends: &ends,
         store: &[3],
     };
-    shows(alloc, counting(alloc)?, 1, &script, outcome)
+    shows(alloc, &COUNTING, 1, &script, outcome)
 }
 
 fn five_cycles_are_due(alloc: Global) -> Result<bool, AllocError> {
@@ -204,7 +198,7 @@ fn five_cycles_are_due(alloc: Global) -> Result<bool, AllocError> {
         ends: &ends,
         store: &[6],
     };
-    shows(alloc, counting(alloc)?, 1, &script, outcome)
+    shows(alloc, &COUNTING, 1, &script, outcome)
 }
 
 fn a_signal_is_short(alloc: Global) -> Result<bool, AllocError> {
@@ -225,7 +219,7 @@ fn a_signal_is_short(alloc: Global) -> Result<bool, AllocError> {
         ends: &ends,
         store: &[],
     };
-    shows(alloc, signalled(alloc)?, 1, &script, outcome)
+    shows(alloc, &SIGNALLED, 1, &script, outcome)
 }
 
 fn a_cancel_waits(alloc: Global) -> Result<bool, AllocError> {
@@ -259,7 +253,7 @@ fn a_cancel_waits(alloc: Global) -> Result<bool, AllocError> {
         ends: &ends,
         store: &[],
     };
-    shows(alloc, cancelled(alloc)?, 1, &script, outcome)
+    shows(alloc, &CANCELLED, 1, &script, outcome)
 }
 
 fn all_end_together(alloc: Global) -> Result<bool, AllocError> {
@@ -272,7 +266,7 @@ fn all_end_together(alloc: Global) -> Result<bool, AllocError> {
         ends: &ends,
         store: &[0],
     };
-    shows(alloc, terminated(alloc)?, 1, &script, outcome)
+    shows(alloc, &TERMINATED, 1, &script, outcome)
 }
 
 fn a_block_is_done(alloc: Global) -> Result<bool, AllocError> {
@@ -299,7 +293,7 @@ fn a_block_is_done(alloc: Global) -> Result<bool, AllocError> {
         ends: &ends,
         store: &[2],
     };
-    shows(alloc, terminated(alloc)?, 2, &script, outcome)
+    shows(alloc, &TERMINATED, 2, &script, outcome)
 }
 
 fn a_process_gives_way(alloc: Global) -> Result<bool, AllocError> {
@@ -325,7 +319,7 @@ fn a_process_gives_way(alloc: Global) -> Result<bool, AllocError> {
         ends: &ends,
         store: &[],
     };
-    shows(alloc, preempted(alloc)?, 1, &script, outcome)
+    shows(alloc, &PREEMPTED, 1, &script, outcome)
 }
 
 fn a_guard_ends(alloc: Global) -> Result<bool, AllocError> {
@@ -358,7 +352,7 @@ fn a_guard_ends(alloc: Global) -> Result<bool, AllocError> {
         ends: &ends,
         store: &[],
     };
-    shows(alloc, guarded(alloc)?, 1, &script, outcome)
+    shows(alloc, &GUARDED, 1, &script, outcome)
 }
 
 #[test]

@@ -1,9 +1,10 @@
 //! Scripts on the plain executive over a scripted load.
 
+use crate::loads::{Unit, load};
 use crate::scripted_procs::ScriptedProcs;
-use exec_model::{Event, Plain};
-use hal_base::TICK_SUM_LIMIT;
-use std::alloc::AllocError;
+use exec_model::{Event, Plain, Script};
+use hal_base::{LANE_LIMIT, TICK_SUM_LIMIT};
+use std::alloc::{AllocError, Global};
 
 /// A line of a script, or an event.
 #[derive(Clone, Copy)]
@@ -12,6 +13,31 @@ pub enum Line {
     Run(u32),
     /// This event, which may come.
     One(Event),
+}
+
+/// The processes of a load that is right.
+pub(crate) fn procs_of(alloc: Global, unit: &Unit) -> Result<Option<ScriptedProcs>, AllocError> {
+    let load = load(alloc, unit)?;
+    if !load.is_right() {
+        return Ok(None);
+    }
+    Ok(Some(ScriptedProcs::start(alloc, load)?))
+}
+
+/// The plain executive at the beginning of a run of the load, if that is right.
+pub(crate) fn started(
+    alloc: Global,
+    unit: &Unit,
+    lanes: u8,
+) -> Result<Option<Plain<ScriptedProcs>>, AllocError> {
+    if lanes < 1 || lanes > LANE_LIMIT {
+        return Ok(None);
+    }
+    let Some(procs) = procs_of(alloc, unit)? else {
+        return Ok(None);
+    };
+    let no_lines = Script::new(Vec::new(alloc));
+    Ok(Some(Plain::start(alloc, procs, &no_lines, lanes)?))
 }
 
 /// The clock goes on, if it stays within the sum that scripts may have.

@@ -1,13 +1,10 @@
 //! The events that may not come, after which nothing has changed.
 
-ghost use Rattle.std.specs.Prelude.{◌≤◌};
-
-use crate::plays::{Line, play, step};
-use crate::row_loads::{held, preempted, terminated};
-use crate::scripted::Scripted;
+use crate::loads::Unit;
+use crate::plays::{Line, play, started, step};
+use crate::row_loads::{HELD, PREEMPTED, TERMINATED};
 use crate::scripted_procs::ScriptedProcs;
-use exec_model::{Event, Plain, Script};
-use hal_base::LANE_LIMIT;
+use exec_model::{Event, Plain};
 use std::alloc::{AllocError, Global};
 use std::test::Fail;
 
@@ -43,21 +40,18 @@ fn stays(
     Ok(allowed && none && before.as_bytes() == after.as_bytes())
 }
 
-/// The same from the beginning of a run of the load.
+/// The same from the beginning of a run of the load, which is right.
 fn refuses(
     alloc: Global,
-    load: Scripted,
+    unit: &Unit,
     lanes: u8,
     lines: &[Line],
     refused: &[Event],
 ) -> Result<bool, AllocError> {
-    if !load.is_right() || lanes < 1 || lanes > LANE_LIMIT {
-        return Ok(false);
+    match started(alloc, unit, lanes)? {
+        None => Ok(false),
+        Some(mut plain) => stays(alloc, &mut plain, lines, refused),
     }
-    let procs = ScriptedProcs::start(alloc, load)?;
-    let no_lines = Script::new(Vec::new(alloc));
-    let mut plain = Plain::start(alloc, procs, &no_lines, lanes)?;
-    stays(alloc, &mut plain, lines, refused)
 }
 
 /// P has scheduled D, and D has begun and asks for its UPDATE block.
@@ -80,7 +74,7 @@ fn no_process_has_the_number(alloc: Global) -> Result<bool, AllocError> {
         Event::Act(2),
         Event::Preempt(2),
     ];
-    refuses(alloc, terminated(alloc)?, 2, &[], &refused)
+    refuses(alloc, &TERMINATED, 2, &[], &refused)
 }
 
 /// D is idle, and P asks for no UPDATE block.
@@ -92,13 +86,13 @@ fn the_row_is_not_ready(alloc: Global) -> Result<bool, AllocError> {
         Event::Open(0),
         Event::Block(0, 0),
     ];
-    refuses(alloc, terminated(alloc)?, 2, &[], &refused)
+    refuses(alloc, &TERMINATED, 2, &[], &refused)
 }
 
 /// D asks for its UPDATE block, and is not inside it.
 fn a_block_is_asked_for(alloc: Global) -> Result<bool, AllocError> {
     let refused = [Event::Act(1), Event::Block(1, 0), Event::Open(0)];
-    refuses(alloc, terminated(alloc)?, 2, &ASKED, &refused)
+    refuses(alloc, &TERMINATED, 2, &ASKED, &refused)
 }
 
 /// D is inside its UPDATE block, which ends after no turn.
@@ -110,13 +104,13 @@ fn the_turns_are_others(alloc: Global) -> Result<bool, AllocError> {
         Event::Open(1),
         Event::Block(0, 0),
     ];
-    refuses(alloc, terminated(alloc)?, 2, &OPENED, &refused)
+    refuses(alloc, &TERMINATED, 2, &OPENED, &refused)
 }
 
 /// P goes before A and B, which are Ready too.
 fn one_lane_is_for_one(alloc: Global) -> Result<bool, AllocError> {
     let refused = [Event::Act(1), Event::Act(2)];
-    refuses(alloc, preempted(alloc)?, 1, &[Line::Run(3)], &refused)
+    refuses(alloc, &PREEMPTED, 1, &[Line::Run(3)], &refused)
 }
 
 /// A may act beside P, and B may not.
@@ -124,7 +118,7 @@ fn two_lanes_are_for_two(alloc: Global) -> Result<bool, AllocError> {
     let refused = [Event::Act(2), Event::Preempt(3)];
     refuses(
         alloc,
-        preempted(alloc)?,
+        &PREEMPTED,
         2,
         &[Line::Run(3), Line::One(Event::Act(1))],
         &refused,
@@ -134,7 +128,7 @@ fn two_lanes_are_for_two(alloc: Global) -> Result<bool, AllocError> {
 /// P asks for K, whose lock group the UPDATE block of D has.
 fn the_lock_is_held(alloc: Global) -> Result<bool, AllocError> {
     let refused = [Event::Act(0)];
-    refuses(alloc, held(alloc)?, 2, &OPENED, &refused)
+    refuses(alloc, &HELD, 2, &OPENED, &refused)
 }
 
 #[test]
