@@ -1,5 +1,5 @@
 use crate::loads::{Step, Unit, cycle, load};
-use crate::plays::procs_of;
+use crate::plays::started;
 use crate::scripted::Scripted;
 use hal_values::{Cycle, EventStart, Guard, Item, Listing, Pause, Plan, ReportBase, Spot, When};
 use std::alloc::{AllocError, Global};
@@ -77,7 +77,7 @@ fn is_right_with(alloc: Global, step: Step) -> Result<bool, AllocError> {
 #[test]
 fn loads_are_right_where_all_is_in_order(rt: HostRuntime) -> Result<(), Fail> {
     let alloc = rt.alloc();
-    assert!(rt; procs_of(alloc, &TWO)?.is_some());
+    assert!(rt; started(alloc, &TWO, 1)?.is_some());
     assert!(rt; is_right_with(alloc, Step::Now)?);
     for step in WRONG {
         assert!(rt; !is_right_with(alloc, step)?);

@@ -15,27 +15,17 @@ pub enum Line {
     One(Event),
 }
 
-/// The processes of a load that is right.
-pub(crate) fn procs_of(alloc: Global, unit: &Unit) -> Result<Option<ScriptedProcs>, AllocError> {
-    let load = load(alloc, unit)?;
-    if !load.is_right() {
-        return Ok(None);
-    }
-    Ok(Some(ScriptedProcs::start(alloc, load)?))
-}
-
 /// The plain executive at the beginning of a run of the load, if that is right.
 pub(crate) fn started(
     alloc: Global,
     unit: &Unit,
     lanes: u8,
 ) -> Result<Option<Plain<ScriptedProcs>>, AllocError> {
-    if lanes < 1 || lanes > LANE_LIMIT {
+    let load = load(alloc, unit)?;
+    if !load.is_right() || lanes < 1 || lanes > LANE_LIMIT {
         return Ok(None);
     }
-    let Some(procs) = procs_of(alloc, unit)? else {
-        return Ok(None);
-    };
+    let procs = ScriptedProcs::start(alloc, load)?;
     let no_lines = Script::new(Vec::new(alloc));
     Ok(Some(Plain::start(alloc, procs, &no_lines, lanes)?))
 }
