@@ -110,7 +110,21 @@ fn tree_of(alloc: Global, source: Source, text: &str) -> Result<File, Fault> {
     parse(alloc, words.as_slice(), UNIT)
 }
 
-/// What a source gives: a copy of its tree is written, so that each row tries copies too.
+/// Writes a copy of a tree, so that each row tries copies too.
+fn write_copy(alloc: Global, source: Source, tree: &File, pen: &mut Pen) -> Result<(), AllocError> {
+    let copied = copy_file(alloc, tree)?;
+    write_tree(source, &copied, pen)
+}
+
+/// Writes what a source gives.
+fn write_given(alloc: Global, source: Source, text: &str, pen: &mut Pen) -> Result<(), AllocError> {
+    match tree_of(alloc, source, text) {
+        Err(fault) => write_fault(&fault, pen),
+        Ok(tree) => write_copy(alloc, source, &tree, pen),
+    }
+}
+
+/// What a source gives.
 fn given(
     alloc: Global,
     source: Source,
@@ -118,10 +132,7 @@ fn given(
     text: &str,
 ) -> Result<String, AllocError> {
     let mut pen = Pen::new(alloc, has_places);
-    match tree_of(alloc, source, text) {
-        Err(fault) => write_fault(&fault, &mut pen)?,
-        Ok(tree) => write_tree(source, &copy_file(alloc, &tree)?, &mut pen)?,
-    }
+    write_given(alloc, source, text, &mut pen)?;
     Ok(pen.into_text())
 }
 
