@@ -5,9 +5,8 @@ A program of its own, crates/parse_times, makes a unit of one kind and parses it
 of unit of so many bytes: its words, the processor time of parsing it once (the difference between parsing
 it TIMES times and not at all; the least of three), the words a second, and the time's ratio to that of
 a unit of half the bytes. The larger unit is nearly at the limit of 65,536 words. The ratio is to stay
-below 2.5 for each kind, unless a word takes less than 50 ns: a word has 288 bytes, and fetching them
-from memory takes that long where 17 MB of words fall out of the caches. Labels are the one such kind;
-callgrind counts 1.97 times the instructions for them at double length.
+below 2.5 for each kind. Labels, 30 ns a word, miss that where 17 MB of words fall out of the caches (a
+word has 288 bytes), though callgrind counts 1.97 times the instructions for them at double length.
 """
 import sys
 
@@ -18,8 +17,6 @@ KINDS = (('list', 150_000), ('sum', 160_000), ('product', 180_000), ('parenthese
          ('ordinary', 140_000), ('units', 240_000), ('stuck', 240_000))
 TIMES = 30
 HIGHEST = 2.5
-# The seconds that a word may take, however the time grows.
-FETCHING = 50e-9
 
 
 def cost(path, kind, size, times):
@@ -46,7 +43,7 @@ def main():
         half, _ = each(path, kind, size // 2)
         whole, words = each(path, kind, size)
         print(f'{kind:>13}{words:8}{whole * 1000:8.2f}{words / whole / 1e6:10.2f}{whole / half:8.2f}')
-        is_fine = is_fine and (whole / half < HIGHEST or whole / words < FETCHING)
+        is_fine = is_fine and whole / half < HIGHEST
     return 0 if is_fine else 1
 
 
