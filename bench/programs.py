@@ -15,6 +15,8 @@ def program(name):
         subprocess.run(['rt', 'run', '--', '1000'], cwd=crate, stdout=subprocess.DEVNULL, check=False)
     if not path.exists():
         sys.exit(f'{name} is not built')
+    if any(source.stat().st_mtime > path.stat().st_mtime for source in CRATES.glob('*/src/**/*.rt')):
+        print(f'{name} is older than the sources: rt ci builds it anew', file=sys.stderr)
     return path
 
 

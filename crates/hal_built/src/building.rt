@@ -13,7 +13,8 @@ use hal_core::Unit;
 use hal_tree::File;
 use std::alloc::{AllocError, Global};
 
-/// The tree of a file that has a meaning, or the place of the first phrase that has none so far.
+/// The tree of a file that has a meaning, or the place of the first phrase that has none so far; or want of memory. See
+/// docs/LANGUAGE.md, "What has a meaning so far".
 pub fn built(alloc: Global, file: &File) -> Result<Result<Unit, Place>, AllocError>
     // The tree is that of the file.
     ensures unit { IfOk result (λ r. IfOk r (λ u. second_form (seen_file file.now) ≡ Some (unit_tree u))) }

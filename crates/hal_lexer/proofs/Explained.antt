@@ -30,7 +30,7 @@ explains_full before one rest (fault.Memory error) full is = absurd is
 pub explains_here : (before : List Item) (one : Item) (rest : List Item) (found : Fault) → IsFaultItem one found → Explains (before ++ one ∷ rest) found
 explains_here before one rest (fault.Broken refusal) is =
     inl (Contains-append_right before (one ∷ rest) (item (Wrong refusal.rule.0) refusal.place) (0, omega arith, is))
-explains_here before one rest (fault.Memory error) is = absurd is
+explains_here before one rest (fault.Memory error) is = is
 
 pub fault_item : (rule : ℕ) (place : Place) (found : Fault) → IsBrokenAt rule place found → IsFaultItem (item (Wrong rule) place) found
 fault_item rule place (fault.Broken refusal) is = ap (λ (n : ℕ). item (Wrong n) place) (sym is.0) ∙ ap (λ (p : Place). item (Wrong refusal.rule.0) p) (sym is.1)

@@ -27,11 +27,12 @@ memory_told whole (fault.Memory error) is = tt
 -- an item that is a fault
 pub item_told : (one : Item) (rest : List Item) (found : Fault) → IsFaultItem one found → Tells (one ∷ rest) found
 item_told one rest (fault.Broken refusal) is = (0, omega arith, is)
-item_told one rest (fault.Memory error) is = absurd is
+item_told one rest (fault.Memory error) is = tt
 
 pub first_spoils : (place : Place) (text rest : List ℕ) (one : Item) (found : Fault) → text_items place text ≡ one ∷ text_items place rest → IsFaultItem one found → IsSpoilt place text found
-first_spoils place text rest one found front is = λ deep definitions opened.
-    rw (front, fault_within deep definitions opened one found is) (item_told one (flat_map (within deep definitions opened) (text_items place rest)) found is)
+first_spoils place text rest one (fault.Broken refusal) front is = λ deep definitions opened.
+    rw (front, fault_within deep definitions opened one refusal is) (item_told one (flat_map (within deep definitions opened) (text_items place rest)) (fault.Broken refusal) is)
+first_spoils place text rest one (fault.Memory error) front is = λ deep definitions opened. tt
 
 pub replace_spoils : (place : Place) (text rest : List ℕ) (one : Word) (found : Fault) → text_items place text ≡ item (Is one) place ∷ text_items place rest → is_replace (Is one) ≡ true → IsBrokenAt 207 place found → IsSpoilt place text found
 replace_spoils place text rest one found front is broken = λ deep definitions opened'.

@@ -5,6 +5,7 @@ use Rattle.std.proofs.lemmas.List.{take_all, drop-map}
 use Rattle.std.proofs.lemmas.List.Elements.{All-drop}
 use Rattle.hal_base.specs.declared.refusal.Place.{Place}
 use Rattle.hal_base.specs.declared.refusal.Fault.{Fault}
+use Rattle.hal_base.specs.declared.refusal.Refusal.{Refusal}
 use Rattle.hal_base.specs.declared.refusal.Fault.TheVariants as fault
 use Rattle.hal_words.specs.declared.reserved.Reserved.TheVariants as reserved
 use Rattle.hal_words.specs.declared.word.Word.{Word}
@@ -74,10 +75,9 @@ pub explains_one : (before : List Item) (one : Item) (given rest : List Item) (f
 explains_one before one given rest found is there = rw is there
 
 -- a fault in a text
-pub fault_within : (deep : ℕ) (definitions : Definitions) (opened : List (List ℕ)) (one : Item) (found : Fault) → IsFaultItem one found → within deep definitions opened one ≡ one ∷ []
-fault_within deep definitions opened one (fault.Broken refusal) is =
+pub fault_within : (deep : ℕ) (definitions : Definitions) (opened : List (List ℕ)) (one : Item) (refusal : Refusal) → IsFaultItem one (fault.Broken refusal) → within deep definitions opened one ≡ one ∷ []
+fault_within deep definitions opened one refusal is =
     rw is (within_alone deep definitions opened (Wrong refusal.rule.0) refusal.place refl)
-fault_within deep definitions opened one (fault.Memory error) is = absurd is
 
 pub explains_moved : (old new given left : List Item) (found : Fault) → new ++ left ≡ old ++ given → ((more : List Item) → Explains (new ++ (left ++ more)) found) → (more : List Item) → Explains (old ++ (given ++ more)) found
 explains_moved old new given left found same there more =
@@ -111,5 +111,6 @@ explains_word before definitions items one behind found whole is there = rw (who
 
 pub explains_no_word : (before : List Item) (definitions : Definitions) (one : Item) (found : Fault) → IsFaultItem one found
     → (rest : List Item) → Explains (before ++ (replaced_word definitions one ++ rest)) found
-explains_no_word before definitions one found is rest =
-    rw (fault_within (length definitions) definitions [] one found is) (explains_here before one rest found is)
+explains_no_word before definitions one (fault.Broken refusal) is rest =
+    rw (fault_within (length definitions) definitions [] one refusal is) (explains_here before one rest (fault.Broken refusal) is)
+explains_no_word before definitions one (fault.Memory error) is rest = is

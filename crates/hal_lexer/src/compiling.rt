@@ -126,8 +126,8 @@ fn step<'a>(
         return Ok(());
     };
     let mut children = part.children;
-    let rest = read_on(compiled, part.rest, &mut children, place)?;
-    match next_word(rest, place) {
+    let rest = read_on(alloc, compiled, part.rest, &mut children, place)?;
+    match next_word(alloc, rest, place) {
         Err(fault) => Err(fault),
         Ok(None) => close(compiled, name, children),
         Ok(Some((one, behind))) => match uncompiled(definitions, compiled, &one) {
@@ -142,13 +142,14 @@ fn step<'a>(
                     place,
                 )
             }
-            None => pass(alloc, compiled, frames, name, children, &one, behind),
+            None => pass(alloc, compiled, frames, name, children, one, behind),
         },
     }
 }
 
 /// Reads a text as far as its words are known, and adds their children. The result is what is left.
 fn read_on<'a>(
+    alloc: Global,
     compiled: &Compiled,
     text: &'a [u8],
     children: &mut Vec<Child>,
@@ -160,7 +161,7 @@ fn read_on<'a>(
     ensures broken { IfErr result (IsSpoilt place text.now) }
 {
     let mut rest = text;
-    'word: while let Some(behind) = read_known(compiled, rest, children, place)? {
+    'word: while let Some(behind) = read_known(alloc, compiled, rest, children, place)? {
         rest = behind;
     }
     Ok(rest)
@@ -169,6 +170,7 @@ fn read_on<'a>(
 /// Reads the next word of a text and adds its children. The result is what follows it; None where no word
 /// is left, or the word is a name that isn't compiled yet.
 fn read_known<'a>(
+    alloc: Global,
     compiled: &Compiled,
     text: &'a [u8],
     children: &mut Vec<Child>,
@@ -181,14 +183,14 @@ fn read_known<'a>(
     ensures none { IfOk result (λ next. IfNone next (children.new.items ≡ children.old.items)) }
     ensures broken { IfErr result (IsSpoilt place text.now) }
 {
-    match next_word(text, place) {
+    match next_word(alloc, text, place) {
         Err(fault) => Err(fault),
         Ok(None) => Ok(None),
         Ok(Some((one, behind))) => {
-            let Some(child) = known(compiled, &one) else {
+            let Some(child) = known(alloc, compiled, one)? else {
                 return Ok(None);
             };
-            add(children, &child)?;
+            add(children, child)?;
             Ok(Some(behind))
         }
     }
@@ -196,15 +198,31 @@ fn read_known<'a>(
 
 /// The child that stands for a word, or that none does. None where the word is a name that isn't compiled
 /// yet.
-fn known(compiled: &Compiled, one: &Word) -> Option<Option<Child>>
-    requires { is_replace (Is one.now) ≡ false }
-    ensures { option_map option_to_list result ≡ word_children compiled.now one.now }
+fn known(alloc: Global, compiled: &Compiled, one: Word) -> Result<Option<Option<Child>>, Fault>
+    requires { is_replace (Is one) ≡ false }
+    ensures known { IfOk result (λ known. option_map option_to_list known ≡ word_children compiled.now one) }
+    ensures memory { IfErr result IsMemory }
 {
-    let Word::Name(name) = one else {
-        return Some(Some(Child::Word(*one)));
+    match one {
+        Word::Name(name) => known_name(alloc, compiled, &name),
+        other => Ok(Some(Some(Child::Word(other)))),
+    }
+}
+
+/// The same for a name.
+fn known_name(
+    alloc: Global,
+    compiled: &Compiled,
+    name: &Name,
+) -> Result<Option<Option<Child>>, Fault>
+    ensures known { IfOk result (λ known. option_map option_to_list known ≡ word_children compiled.now (word.Name name.now)) }
+    ensures memory { IfErr result IsMemory }
+{
+    let Some(number) = compiled.number(name) else {
+        return Ok(None);
     };
-    let number = compiled.number(name)?;
-    Some(as_child(number, compiled.children(number)))
+    let child = as_child(alloc, number, compiled.children(number))?;
+    Ok(Some(child))
 }
 
 /// Puts a name back with its text, and opens the text of a name in it.
@@ -237,14 +255,14 @@ fn pass<'a>(
     frames: &mut Frames<'a>,
     name: Name,
     mut children: Vec<Child>,
-    one: &Word,
+    one: Word,
     behind: &'a [u8],
 ) -> Result<(), Fault>
     requires closed { is_among (names_of frames.old) name ≡ false }
     requires behind { IsText behind.now }
-    requires word { is_replace (Is one.now) ≡ false }
-    ensures passed { OnOk result ((first : List parts.Child) × (word_children compiled.new one.now ≡ Some first) × (frames.new ≡ opened name behind.now (children.items ++ first) ∷ frames.old)) }
-    ensures stays { OnOk result (Stays one.now compiled.old compiled.new) }
+    requires word { is_replace (Is one) ≡ false }
+    ensures passed { OnOk result ((first : List parts.Child) × (word_children compiled.new one ≡ Some first) × (frames.new ≡ opened name behind.now (children.items ++ first) ∷ frames.old)) }
+    ensures stays { OnOk result (Stays one compiled.old compiled.new) }
     ensures memory { IfErr result IsMemory }
 {
     read(alloc, compiled, &mut children, one)?;
@@ -296,17 +314,17 @@ fn read(
     alloc: Global,
     compiled: &mut Compiled,
     children: &mut Vec<Child>,
-    one: &Word,
+    one: Word,
 ) -> Result<(), Fault>
-    requires { is_replace (Is one.now) ≡ false }
-    ensures read { OnOk result ((first : List parts.Child) × (word_children compiled.new one.now ≡ Some first) × (children.new.items ≡ children.old.items ++ first)) }
-    ensures stays { OnOk result (Stays one.now compiled.old compiled.new) }
+    requires { is_replace (Is one) ≡ false }
+    ensures read { OnOk result ((first : List parts.Child) × (word_children compiled.new one ≡ Some first) × (children.new.items ≡ children.old.items ++ first)) }
+    ensures stays { OnOk result (Stays one compiled.old compiled.new) }
     ensures memory { IfErr result IsMemory }
 {
-    if let Word::Name(name) = one {
-        return read_name(alloc, compiled, children, name);
+    match one {
+        Word::Name(name) => read_name(alloc, compiled, children, &name),
+        other => add(children, Some(Child::Word(other))),
     }
-    add(children, &Some(Child::Word(*one)))
 }
 
 /// Adds the children that stand for a name. One that isn't compiled yet has no text, and is a word.
@@ -321,23 +339,22 @@ fn read_name(
     ensures memory { IfErr result IsMemory }
 {
     if let Some(number) = compiled.number(name) {
-        return add(children, &as_child(number, compiled.children(number)));
+        let child = as_child(alloc, number, compiled.children(number))?;
+        return add(children, child);
     }
     leave(alloc, compiled, *name)?;
-    add(children, &Some(Child::Word(Word::Name(*name))))
+    add(children, Some(Child::Word(Word::Name(*name))))
 }
 
 /// Adds a child, if there is one.
-fn add(children: &mut Vec<Child>, child: &Option<Child>) -> Result<(), Fault>
-    ensures added { OnOk result (children.new.items ≡ children.old.items ++ option_to_list child.now) }
+fn add(children: &mut Vec<Child>, child: Option<Child>) -> Result<(), Fault>
+    ensures added { OnOk result (children.new.items ≡ children.old.items ++ option_to_list child) }
     ensures memory { IfErr result IsMemory }
 {
-    let pushed = match child {
-        None => Ok(()),
-        Some(Child::Word(one)) => children.push(Child::Word(*one)),
-        Some(Child::Name(number)) => children.push(Child::Name(*number)),
+    let Some(one) = child else {
+        return Ok(());
     };
-    if pushed.is_err() {
+    if children.push(one).is_err() {
         return Err(Fault::Memory(AllocError));
     }
     Ok(())
@@ -345,13 +362,17 @@ fn add(children: &mut Vec<Child>, child: &Option<Child>) -> Result<(), Fault>
 
 /// The child that stands for a name with this number and these children. Where they are fewer than two
 /// the name itself is none, so that a walk over children takes few steps more than it gives words.
-fn as_child(number: usize, children: &[Child]) -> Option<Child>
-    ensures { option_to_list result ≡ as_child number children.now }
+fn as_child(alloc: Global, number: usize, children: &[Child]) -> Result<Option<Child>, Fault>
+    ensures child { IfOk result (λ child. option_to_list child ≡ as_child number children.now) }
+    ensures memory { IfErr result IsMemory }
 {
     match children {
-        [] => None,
-        [one] => Some(*one),
-        _ => Some(Child::Name(number)),
+        [] => Ok(None),
+        [one] => match one.copy(alloc) {
+            Ok(copy) => Ok(Some(copy)),
+            Err(error) => Err(Fault::Memory(error)),
+        },
+        _ => Ok(Some(Child::Name(number))),
     }
 }
 

@@ -79,7 +79,7 @@ fn take<'a>(
         define(replacements, one.place, behind)?;
         return Ok(5);
     }
-    let word = word_of(&one.piece, one.place)?;
+    let word = word_of(alloc, &one.piece, one.place)?;
     replacements.put(alloc, tokens, word, one.place)?;
     Ok(1)
 }

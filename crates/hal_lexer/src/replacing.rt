@@ -127,13 +127,14 @@ fn write(
         return Err(Fault::Memory(AllocError));
     }
     'child: while walk.len() > 0 {
-        write_child(compiled, &mut walk, tokens, place)?;
+        write_child(alloc, compiled, &mut walk, tokens, place)?;
     }
     Ok(())
 }
 
 /// Takes one child, and writes it or goes into it.
 fn write_child<'a>(
+    alloc: Global,
     compiled: &'a Compiled,
     walk: &mut Walk<'a>,
     tokens: &mut Tokens,
@@ -157,8 +158,20 @@ fn write_child<'a>(
         return Err(Fault::Memory(AllocError));
     }
     match first {
-        Child::Word(word) => tokens.push(*word, place),
+        Child::Word(word) => write_word(alloc, word, tokens, place),
         Child::Name(number) => enter(walk, compiled.children(*number)),
+    }
+}
+
+/// Writes a copy of a word.
+fn write_word(alloc: Global, word: &Word, tokens: &mut Tokens, place: Place) -> Result<(), Fault>
+    ensures written { OnOk result (map word_item tokens.new ≡ map word_item tokens.old ++ item (Is word.now) place ∷ []) }
+    ensures broken { IfErr result (λ fault. (rest : List lines.Item) →
+        Explains (map word_item tokens.old ++ item (Is word.now) place ∷ rest) fault) }
+{
+    match word.copy(alloc) {
+        Ok(copy) => tokens.push(copy, place),
+        Err(error) => Err(Fault::Memory(error)),
     }
 }
 

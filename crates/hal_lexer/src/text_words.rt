@@ -2,6 +2,7 @@
 
 ghost use Rattle.std.specs.Prelude.{◌≡◌, ◌<◌, ◌∷◌, [], false, length, IfOk, IfErr, IfSome, IfNone};
 ghost use Rattle.hal_base.specs.declared.refusal.Place.{Place};
+ghost use Rattle.hal_words.specs.declared.word.Word.TheVariants as word;
 ghost use Rattle.hal_words.specs.Pieces.{Is};
 ghost use Rattle.hal_words.specs.Lines.{item};
 ghost use Rattle.hal_words.specs.Items.{main_item};
@@ -14,22 +15,31 @@ ghost use Rattle.hal_lexer.specs.Texts.{IsNoMark, IsText};
 use crate::fronts::front;
 use hal_base::{Fault, Place};
 use hal_pieces::{Piece, broken};
-use hal_words::{Reserved, Word};
+use hal_words::{BoxedLiteral, Literal, Reserved, Word};
+use std::alloc::{AllocError, Global};
 
 /// The word that a piece is. A text between two `"` stands only in a definition.
-pub(crate) fn word_of(piece: &Piece, place: Place) -> Result<Word, Fault>
+pub(crate) fn word_of(alloc: Global, piece: &Piece, place: Place) -> Result<Word, Fault>
     ensures word { IfOk result (λ word. seen piece.now ≡ Is word) }
     ensures broken { IfErr result (λ fault. IsFaultItem (as_word (seen piece.now) place) fault) }
 {
     match piece {
-        Piece::Word(word) => Ok(*word),
+        Piece::Word(word) => word.copy(alloc).map_err(Fault::Memory),
+        Piece::Text(literal) => text(alloc, literal).map_err(Fault::Memory),
         Piece::Replacement(_) | Piece::Open => Err(broken(201, place)),
         Piece::Wrong(rule) => Err(broken(rule.0, place)),
     }
 }
 
+/// The word that is this literal.
+fn text(alloc: Global, literal: &Literal) -> Result<Word, AllocError>
+    ensures { IfOk result (λ made. made ≡ word.Text literal.now) }
+{
+    Ok(Word::Text(BoxedLiteral::new(alloc, *literal)?))
+}
+
 /// The word that a piece of a text is.
-fn word_of_text(piece: &Piece, place: Place) -> Result<Word, Fault>
+fn word_of_text(alloc: Global, piece: &Piece, place: Place) -> Result<Word, Fault>
     requires { IsNoMark (seen piece.now) }
     ensures word { IfOk result (λ word. (at : Place) → main_item (seen piece.now) at ≡ item (Is word) at) }
     ensures broken { IfErr result (λ fault. IsFaultItem (main_item (seen piece.now) place) fault) }
@@ -38,7 +48,7 @@ fn word_of_text(piece: &Piece, place: Place) -> Result<Word, Fault>
         Piece::Word(Word::Reserved(Reserved::Include)) => {
             Err(broken(103, Place { column: 1, ..place }))
         }
-        _ => word_of(piece, place),
+        _ => word_of(alloc, piece, place),
     }
 }
 
@@ -51,7 +61,11 @@ pub(crate) fn is_replace(word: &Word) -> bool
 
 /// The word that a text goes on with, and what follows it; None where no word is left. What is wrong in
 /// the text is so at this place.
-pub(crate) fn next_word(text: &[u8], place: Place) -> Result<Option<(Word, &[u8])>, Fault>
+pub(crate) fn next_word(
+    alloc: Global,
+    text: &[u8],
+    place: Place,
+) -> Result<Option<(Word, &[u8])>, Fault>
     requires { IsText text.now }
     ensures found { IfOk result (λ next. IfSome next (λ f. (at : Place) → text_items at text.now ≡ item (Is f.0) at ∷ text_items at f.1.now)) }
     ensures word { IfOk result (λ next. IfSome next (λ f. is_replace (Is f.0) ≡ false)) }
@@ -63,7 +77,7 @@ pub(crate) fn next_word(text: &[u8], place: Place) -> Result<Option<(Word, &[u8]
     let Some((piece, rest)) = front(text) else {
         return Ok(None);
     };
-    let word = word_of_text(&piece, place)?;
+    let word = word_of_text(alloc, &piece, place)?;
     if is_replace(&word) {
         return Err(broken(207, place));
     }

@@ -8,7 +8,7 @@ use hal_core::Unit;
 use hal_values::Load;
 
 /// A unit as a load: its one process is the program, and there is no shared data.
-#[derive(Debug, Drop)]
+#[derive(Drop)]
 pub struct TreeLoad {
     pub unit: Unit,
 }

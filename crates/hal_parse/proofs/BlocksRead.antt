@@ -17,18 +17,18 @@ use Rattle.hal_grammar.proofs.ShorterStatements.{statement_shorter}
 use Rattle.hal_grammar.proofs.ShorterFiles.{block_shorter}
 use Rattle.hal_parse_expr.specs.Reading.{Reader, followed, made_of, where_true, past, all}
 use Rattle.hal_parse_expr.proofs.Shortening.{Shortens, all_none}
-use Rattle.hal_parse.specs.ReadingDeclarations.{name_end_at}
+use Rattle.hal_parse_declarations.specs.ReadingDeclarations.{name_end_at}
 use Rattle.hal_parse.specs.ReadingFiles.{Element, StatementElement, BlockElement, elements, head_of, inner_block, element_of, elements_of, block_close, block_behind, block_of, block_at}
 use Rattle.hal_parse_expr.proofs.Readings.{Holds, holds_none, holds, weaker_holds}
 use Rattle.hal_parse_expr.proofs.Combining.{followed_holds, made_holds, or_holds}
-use Rattle.hal_parse.proofs.Decided.{nothing_read}
-use Rattle.hal_parse.proofs.Firsts.{past_gives}
+use Rattle.hal_parse_declarations.proofs.Decided.{nothing_read}
+use Rattle.hal_parse_declarations.proofs.Firsts.{past_gives}
 use Rattle.hal_parse_expr.proofs.Equations.{made_equals, made_none}
-use Rattle.hal_parse.proofs.Becomes.{followed_is, either_not, either_is, past_is}
-use Rattle.hal_parse.proofs.Chains.{Chain, chain_end, chain_more, all_chain, shortens, all_first}
-use Rattle.hal_parse.proofs.LeavesRead.{name_end_gives, name_end_is}
-use Rattle.hal_parse.proofs.DeclarationsRead.{SpellsLabel, one_label, label_gives, label_is, DeclarationOf, declarations_chain, declarations_spelled, declarations_are}
-use Rattle.hal_parse.proofs.StatementsRead.{statement_gives, statement_is}
+use Rattle.hal_parse_declarations.proofs.Becomes.{followed_is, either_not, either_is, past_is}
+use Rattle.hal_parse_declarations.proofs.Chains.{Chain, chain_end, chain_more, all_chain, shortens, all_first}
+use Rattle.hal_parse_declarations.proofs.LeavesRead.{name_end_gives, name_end_is}
+use Rattle.hal_parse_declarations.proofs.DeclarationsRead.{SpellsLabel, one_label, label_gives, label_is, DeclarationOf, declarations_chain, declarations_spelled, declarations_are}
+use Rattle.hal_parse_statements.proofs.StatementsRead.{statement_gives, statement_is}
 use Rattle.hal_parse.proofs.HeadsRead.{HeadOf, head_gives, head_is}
 
 -- a unit that is nested so deep at most

@@ -12,18 +12,18 @@ use Rattle.hal_grammar.proofs.ShorterFiles.{preface_shorter}
 use Rattle.hal_grammar.proofs.OneFile.{block_apart}
 use Rattle.hal_parse_expr.specs.Reading.{made_of, before, name_at}
 use Rattle.hal_parse_expr.proofs.Shortening.{Shortens, all_none}
-use Rattle.hal_parse.specs.ReadingDeclarations.{label_at}
+use Rattle.hal_parse_declarations.specs.ReadingDeclarations.{label_at}
 use Rattle.hal_parse.specs.ReadingFiles.{block_at, template_close, external_behind, template_at, preface_at, prefaces_at, file_at}
 use Rattle.hal_parse_expr.proofs.FirstWords.{past_here, past_none}
 use Rattle.hal_parse_expr.proofs.Readings.{Holds, weaker_holds}
 use Rattle.hal_parse_expr.proofs.Combining.{followed_holds, made_holds}
-use Rattle.hal_parse.proofs.Decided.{decided_holds, nothing_read}
-use Rattle.hal_parse.proofs.Firsts.{past_gives, name_gives, gives_before}
+use Rattle.hal_parse_declarations.proofs.Decided.{decided_holds, nothing_read}
+use Rattle.hal_parse_declarations.proofs.Firsts.{past_gives, name_gives, gives_before}
 use Rattle.hal_parse_expr.proofs.Equations.{made_equals}
-use Rattle.hal_parse.proofs.Becomes.{followed_is, decided_is, decided_not, before_is, past_is}
-use Rattle.hal_parse.proofs.Chains.{Chain, chain_end, chain_more, all_chain, shortens, all_first}
-use Rattle.hal_parse.proofs.LeavesRead.{name_end_gives, name_end_is}
-use Rattle.hal_parse.proofs.DeclarationsRead.{SpellsLabel, one_label, label_gives, label_is, DeclarationOf, declarations_chain, declarations_spelled, declarations_are}
+use Rattle.hal_parse_declarations.proofs.Becomes.{followed_is, decided_is, decided_not, before_is, past_is}
+use Rattle.hal_parse_declarations.proofs.Chains.{Chain, chain_end, chain_more, all_chain, shortens, all_first}
+use Rattle.hal_parse_declarations.proofs.LeavesRead.{name_end_gives, name_end_is}
+use Rattle.hal_parse_declarations.proofs.DeclarationsRead.{SpellsLabel, one_label, label_gives, label_is, DeclarationOf, declarations_chain, declarations_spelled, declarations_are}
 use Rattle.hal_parse.proofs.HeadsRead.{HeadOf, head_gives, head_is}
 use Rattle.hal_parse.proofs.BlocksRead.{blocks}
 

@@ -12,17 +12,17 @@ use Rattle.hal_grammar.specs.Words.{Words, token, reserved_then, symbol_then}
 use Rattle.hal_grammar.specs.SpellsDeclarations.{SpellsNames, SpellsKind}
 use Rattle.hal_grammar.specs.SpellsFiles.{SpellsInputs, no_inputs, input_names, SpellsOutputs, no_outputs, output_names, SpellsModeEnd, no_mode_end, reenters_end, excludes_end, SpellsPrecisionEnd, no_precision, single_precision, double_precision, SpellsReturnsEnd, no_kind, has_kind, SpellsHead, program_head, compool_head, task_head, procedure_head, function_head}
 use Rattle.hal_parse_expr.specs.Reading.{decided, past, is_reserved, where_true, past_symbol, is_symbol, made_of}
-use Rattle.hal_parse.specs.ReadingDeclarations.{names_at, kind_behind, kind_at}
+use Rattle.hal_parse_declarations.specs.ReadingDeclarations.{names_at, kind_behind, kind_at}
 use Rattle.hal_parse.specs.ReadingFiles.{inputs_at, outputs_at, mode_at, mode_end_at, precision_at, precision_option, returns_at, procedure_behind, returns_end_at, function_behind, head_behind, head_at}
 use Rattle.hal_parse_expr.proofs.FirstWords.{past_here, past_none, past_symbol_here, past_symbol_none}
 use Rattle.hal_parse_expr.proofs.Readings.{Holds, holds_none, holds, weaker_holds}
 use Rattle.hal_parse_expr.proofs.Combining.{followed_holds, made_holds}
-use Rattle.hal_parse.proofs.Decided.{decided_holds}
-use Rattle.hal_parse.proofs.Firsts.{past_gives, symbol_gives, not_begun, not_begun_symbol, Enclosed, enclosed_so, gives_enclosed, Ended, ended, gives_ended}
+use Rattle.hal_parse_declarations.proofs.Decided.{decided_holds}
+use Rattle.hal_parse_declarations.proofs.Firsts.{past_gives, symbol_gives, not_begun, not_begun_symbol, Enclosed, enclosed_so, gives_enclosed, Ended, ended, gives_ended}
 use Rattle.hal_parse_expr.proofs.Equations.{made_equals}
-use Rattle.hal_parse.proofs.Becomes.{followed_is, decided_is, decided_not, before_symbol_is, enclosed_is}
-use Rattle.hal_parse.proofs.LeavesRead.{names_give, names_are}
-use Rattle.hal_parse.proofs.KindsRead.{kind_gives, kind_is}
+use Rattle.hal_parse_declarations.proofs.Becomes.{followed_is, decided_is, decided_not, before_symbol_is, enclosed_is}
+use Rattle.hal_parse_declarations.proofs.LeavesRead.{names_give, names_are}
+use Rattle.hal_parse_declarations.proofs.KindsRead.{kind_gives, kind_is}
 
 inputs_spelled : {ns : List Naming} {p : Place} {b a : Words} → Ended symbol.RightParenthesis SpellsNames ns b a → SpellsInputs ns (symbol_then symbol.LeftParenthesis p b) a
 inputs_spelled (ended d) = input_names d

@@ -13,8 +13,8 @@ use Rattle.hal_grammar.specs.Words.{Words}
 pub use Rattle.hal_tree.specs.Rows.{Member as Element, OfStatement as StatementElement, OfBlock as BlockElement}
 unfoldable pub use Rattle.hal_tree.specs.Rows.{elements}
 use Rattle.hal_parse_expr.specs.Reading.{Reader, followed, made_of, decided, or_else, where_true, past, past_symbol, name_at, before_symbol, before, all}
-use Rattle.hal_parse.specs.ReadingDeclarations.{in_parentheses, names_at, name_end_at, kind_at, label_at, declarations_at}
-use Rattle.hal_parse.specs.ReadingStatements.{statement_at}
+use Rattle.hal_parse_declarations.specs.ReadingDeclarations.{in_parentheses, names_at, name_end_at, kind_at, label_at, declarations_at}
+use Rattle.hal_parse_statements.specs.ReadingStatements.{statement_at}
 
 -- names in parentheses, or none
 unfoldable pub inputs_at : Reader (List Naming)

@@ -6,7 +6,7 @@ use Rattle.hal_words.specs.declared.word.Token.{Token}
 use Rattle.hal_grammar.specs.Units.{Head, stands_inside, holds_elements}
 use Rattle.hal_grammar.specs.Words.{Words}
 use Rattle.hal_parse_expr.specs.Reading.{Read, past}
-use Rattle.hal_parse.specs.ReadingDeclarations.{name_end_at, label_at, declarations_at}
+use Rattle.hal_parse_declarations.specs.ReadingDeclarations.{name_end_at, label_at, declarations_at}
 use Rattle.hal_parse.specs.ReadingFiles.{head_at, elements_of, block_at, prefaces_at}
 
 -- what comes of what is read, or else of nothing

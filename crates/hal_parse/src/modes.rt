@@ -7,10 +7,10 @@ ghost use Rattle.hal_tree.specs.SeenLeaves.{seen_name};
 ghost use Rattle.hal_tree.specs.SeenUnits.{seen_mode};
 ghost use Rattle.hal_parse_expr.specs.Reading.{before_symbol, made_of, past_symbol};
 ghost use Rattle.hal_parse_expr.specs.Seen.{seen_as, seen_as_list};
-ghost use Rattle.hal_parse.specs.ReadingDeclarations.{names_at};
+ghost use Rattle.hal_parse_declarations.specs.ReadingDeclarations.{names_at};
 ghost use Rattle.hal_parse.specs.ReadingFiles.{inputs_at, mode_at, mode_end_at, outputs_at};
 
-use crate::names::names;
+use hal_parse_declarations::read_names;
 use hal_parse_expr::{past, past_symbol};
 use hal_tree::{Identifier, Mode};
 use hal_words::{Reserved, Symbol, Token};
@@ -24,7 +24,7 @@ fn closed_names(
 ) -> Result<Option<(Vec<Identifier>, &[Token])>, AllocError>
     ensures { IfOk result (λ found. seen_as_list seen_name (λ xs. xs) found ≡ before_symbol symbol.RightParenthesis (names_at words.now)) }
 {
-    let Some((names, end)) = names(alloc, words)? else {
+    let Some((names, end)) = read_names(alloc, words)? else {
         return Ok(None);
     };
     let Some((_, rest)) = past_symbol(end, Symbol::RightParenthesis) else {
@@ -48,7 +48,7 @@ pub(crate) fn inputs(
 }
 
 /// ASSIGN and names in parentheses, or none.
-#[tactic(auto, unfolding(crate::specs::ReadingFiles::outputs_at, crate::specs::ReadingDeclarations::in_parentheses, hal_parse_expr::specs::Reading::decided, hal_parse_expr::specs::Reading::followed, hal_parse_expr::specs::Seen::seen_as_list, hal_parse_expr::specs::Seen::seen))]
+#[tactic(auto, unfolding(crate::specs::ReadingFiles::outputs_at, hal_parse_declarations::specs::ReadingDeclarations::in_parentheses, hal_parse_expr::specs::Reading::decided, hal_parse_expr::specs::Reading::followed, hal_parse_expr::specs::Seen::seen_as_list, hal_parse_expr::specs::Seen::seen))]
 pub(crate) fn outputs(
     alloc: Global,
     words: &[Token],

@@ -6,8 +6,8 @@ ghost use Rattle.hal_tree.specs.SeenUnits.{seen_mode, seen_precision, seen_retur
 ghost use Rattle.hal_parse_expr.specs.Seen.{seen_as, seen_pair};
 ghost use Rattle.hal_parse.specs.ReadingFiles.{precision_at, precision_option, returns_at, returns_end_at};
 
-use crate::kinds::kind;
 use crate::modes::mode_end;
+use hal_parse_declarations::kind;
 use hal_parse_expr::past;
 use hal_tree::{Mode, Precision, Returns};
 use hal_words::{Reserved, Token};

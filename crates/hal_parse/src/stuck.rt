@@ -5,12 +5,11 @@ ghost use Rattle.hal_grammar.specs.Units.{stands_inside};
 ghost use Rattle.hal_tree.specs.SeenUnits.{seen_head};
 ghost use Rattle.hal_parse.specs.Stuck.{block_stuck, body_stuck, close_stuck, file_stuck, headed_stuck, opened_stuck, stuck_place, last_place};
 
-use crate::declarations::declarations;
 use crate::files::prefaces;
 use crate::heads::{head, holds_elements, stands_inside};
-use crate::names::{label, name_end};
 use crate::units::elements;
 use hal_base::Place;
+use hal_parse_declarations::{label, name_end, read_declarations};
 use hal_parse_expr::past;
 use hal_tree::Head;
 use hal_words::{Reserved, Token};
@@ -96,7 +95,7 @@ fn stuck_behind_head(
 ) -> Result<&[Token], AllocError>
     ensures { IfOk result (λ rest. rest.now ≡ body_stuck depth (block_stuck depth false) (seen_head head) words.now) }
 {
-    let (_, behind) = declarations(alloc, words, depth)?;
+    let (_, behind) = read_declarations(alloc, words, depth)?;
     let held = holds_elements(&head);
     let (_, end) = elements(alloc, held, behind, depth)?;
     stuck_at_close(alloc, held, end, depth)

@@ -7,12 +7,11 @@ ghost use Rattle.hal_tree.specs.SeenLeaves.{seen_name};
 ghost use Rattle.hal_tree.specs.SeenUnits.{seen_head, seen_template};
 ghost use Rattle.hal_parse_expr.specs.Reading.{before};
 ghost use Rattle.hal_parse_expr.specs.Seen.{seen_as};
-ghost use Rattle.hal_parse.specs.ReadingDeclarations.{label_at};
+ghost use Rattle.hal_parse_declarations.specs.ReadingDeclarations.{label_at};
 ghost use Rattle.hal_parse.specs.ReadingFiles.{external_behind, template_at, template_close};
 
-use crate::declarations::declarations;
 use crate::heads::head;
-use crate::names::{label, name_end};
+use hal_parse_declarations::{label, name_end, read_declarations};
 use hal_parse_expr::past;
 use hal_tree::{Declaration, Head, Identifier, Template};
 use hal_words::{Reserved, Token};
@@ -60,7 +59,7 @@ fn external(
     let Some((head, behind)) = head(alloc, words, depth)? else {
         return Ok(None);
     };
-    let (declarations, rest) = declarations(alloc, behind, depth)?;
+    let (declarations, rest) = read_declarations(alloc, behind, depth)?;
     Ok(closed_template(name, head, declarations, rest))
 }
 

@@ -9,11 +9,10 @@ ghost use Rattle.hal_parse_expr.specs.Reading.{all};
 ghost use Rattle.hal_parse_expr.specs.Seen.{seen_as, seen_list};
 ghost use Rattle.hal_parse.specs.ReadingFiles.{block_at, block_behind, block_close, block_of, element_of, elements_of, head_of, inner_block};
 
-use crate::declarations::declarations;
 use crate::heads::{head, holds_elements, stands_inside};
-use crate::names::{label, name_end};
-use crate::statements::read_statement;
+use hal_parse_declarations::{label, name_end, read_declarations};
 use hal_parse_expr::past;
+use hal_parse_statements::read_statement;
 use hal_tree::{Declaration, Element, Head, Identifier, Unit};
 use hal_words::{Reserved, Token};
 use std::alloc::{AllocError, Global};
@@ -65,7 +64,7 @@ fn unit_behind(
 ) -> Result<Option<(Unit, &[Token])>, AllocError>
     ensures { IfOk result (λ found. seen_as seen_unit found ≡ block_behind depth (block_at depth) (seen_name name) (seen_head head) words.now) }
 {
-    let (declarations, rest) = declarations(alloc, words, depth)?;
+    let (declarations, rest) = read_declarations(alloc, words, depth)?;
     unit_close(alloc, name, head, declarations, rest, depth)
 }
 

@@ -150,7 +150,7 @@ pub fn literal_of(word: &Word) -> Option<LiteralValue>
 {
     match word {
         Word::Integer(number) => Some(LiteralValue::Integer(*number)),
-        Word::Text(text) => Some(LiteralValue::Text(*text)),
+        Word::Text(text) => Some(LiteralValue::Text(text.literal())),
         Word::Bits { len, word } => Some(LiteralValue::Bits {
             len: *len,
             word: *word,

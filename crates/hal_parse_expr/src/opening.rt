@@ -29,7 +29,7 @@ pub(crate) fn opened_by(word: &Word) -> Option<Opening>
         Word::Symbol(Symbol::LeftParenthesis) => Some(Opening::Parenthesis),
         Word::Reserved(Reserved::Not) => Some(Opening::Not),
         Word::Integer(number) => Some(Opening::Literal(LiteralValue::Integer(*number))),
-        Word::Text(text) => Some(Opening::Literal(LiteralValue::Text(*text))),
+        Word::Text(text) => Some(Opening::Literal(LiteralValue::Text(text.literal()))),
         Word::Bits { len, word } => Some(Opening::Literal(LiteralValue::Bits {
             len: *len,
             word: *word,

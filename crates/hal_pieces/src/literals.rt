@@ -9,7 +9,7 @@ ghost use Rattle.hal_pieces.specs.Seen.{seen};
 use crate::bytes::is_plain;
 use crate::piece::Piece;
 use hal_base::Rule;
-use hal_words::{Literal, Word};
+use hal_words::Literal;
 
 /// The most bytes of a literal.
 const MOST: usize = 255;
@@ -71,7 +71,7 @@ fn literal_of<'a>(bytes: &[u8; 255], count: usize, plain: bool) -> Piece<'a>
     if !plain {
         Piece::Wrong(Rule(201))
     } else if count <= MOST {
-        Piece::Word(Word::Text(Literal::new(&bytes[..count])))
+        Piece::Text(Literal::new(&bytes[..count]))
     } else {
         Piece::Wrong(Rule(204))
     }

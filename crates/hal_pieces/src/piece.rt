@@ -9,13 +9,15 @@ use crate::numbers::{begins_number, number};
 use crate::replacements::replacement;
 use crate::signs::signs;
 use hal_base::Rule;
-use hal_words::Word;
+use hal_words::{Literal, Word};
 
 /// What a line begins with.
-#[derive(Clone, Copy, Debug)]
+#[derive(Debug, Drop)]
 pub enum Piece<'a> {
-    /// The longest word.
+    /// The longest word, if it is no text literal.
     Word(Word),
+    /// A text literal, which is not on the heap yet.
+    Text(Literal),
     /// The bytes between two `"`.
     Replacement(&'a [u8]),
     /// A `"` without another one on the line.

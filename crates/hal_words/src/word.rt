@@ -1,7 +1,8 @@
-use crate::literal::Literal;
+use crate::boxed_literal::BoxedLiteral;
 use crate::name::Name;
 use crate::reserved::Reserved;
 use hal_base::Place;
+use std::alloc::{AllocError, Global};
 
 /// A symbol. `&`, `|` and `||` are no symbols: they are the reserved words AND, OR and CAT.
 #[derive(Clone, Copy, Debug, PartialEq, Eq)]
@@ -27,7 +28,7 @@ pub enum Symbol {
 }
 
 /// A word of the source.
-#[derive(Clone, Copy, Debug, PartialEq, Eq)]
+#[derive(Debug, Drop)]
 pub enum Word {
     Reserved(Reserved),
     Name(Name),
@@ -35,14 +36,36 @@ pub enum Word {
     Integer(u32),
     /// A number with a point, in thousandths.
     Decimal(u64),
-    Text(Literal),
+    Text(BoxedLiteral),
     /// The last `len` bits of the word, 1 to 32.
     Bits { len: u8, word: u32 },
     Symbol(Symbol),
 }
 
+impl Word {
+    ghost use Rattle.std.specs.Prelude.{◌≡◌, IfOk};
+
+    /// A copy of the word, or want of memory.
+    pub fn copy(&self, alloc: Global) -> Result<Word, AllocError>
+        ensures { IfOk result (λ copy. copy ≡ self.now) }
+    {
+        match self {
+            Word::Reserved(reserved) => Ok(Word::Reserved(*reserved)),
+            Word::Name(name) => Ok(Word::Name(*name)),
+            Word::Integer(number) => Ok(Word::Integer(*number)),
+            Word::Decimal(thousandths) => Ok(Word::Decimal(*thousandths)),
+            Word::Text(text) => Ok(Word::Text(BoxedLiteral::new(alloc, text.literal())?)),
+            Word::Bits { len, word } => Ok(Word::Bits {
+                len: *len,
+                word: *word,
+            }),
+            Word::Symbol(symbol) => Ok(Word::Symbol(*symbol)),
+        }
+    }
+}
+
 /// A word and the place of its first byte; of a word that stands in place of a name, the name's place.
-#[derive(Clone, Copy, Debug, PartialEq, Eq)]
+#[derive(Debug, Drop)]
 pub struct Token {
     pub word: Word,
     pub place: Place,

@@ -4,7 +4,7 @@
 //! are written once, with their number.
 
 use hal_pieces::Piece;
-use hal_words::Word;
+use hal_words::{Literal, Word};
 use std::alloc::{AllocError, Global};
 
 /// So many of a byte in a row, and where there are fewer they are written out.
@@ -75,19 +75,23 @@ pub(crate) fn word(alloc: Global, word: &Word) -> Result<String, AllocError> {
         }
         Word::Integer(number) => format!(in alloc; "integer {number}"),
         Word::Decimal(thousandths) => format!(in alloc; "decimal {thousandths}"),
-        Word::Text(text) => {
-            let text = bytes(alloc, text.bytes())?;
-            format!(in alloc; "text [{text}]")
-        }
+        Word::Text(text) => literal(alloc, &text.literal()),
         Word::Bits { len, word } => format!(in alloc; "bits {len} {word}"),
         Word::Symbol(symbol) => format!(in alloc; "symbol {symbol:?}"),
     }
+}
+
+/// A text literal.
+fn literal(alloc: Global, literal: &Literal) -> Result<String, AllocError> {
+    let text = bytes(alloc, literal.bytes())?;
+    format!(in alloc; "text [{text}]")
 }
 
 /// What a text begins with.
 pub(crate) fn piece(alloc: Global, piece: &Piece<'_>) -> Result<String, AllocError> {
     match piece {
         Piece::Word(found) => word(alloc, found),
+        Piece::Text(text) => literal(alloc, text),
         Piece::Replacement(text) => {
             let text = bytes(alloc, text)?;
             format!(in alloc; "replacement [{text}]")

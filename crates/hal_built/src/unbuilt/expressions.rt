@@ -39,10 +39,7 @@ fn is_whole(literal: &LiteralValue) -> bool
 fn is_signed(opening: &Option<Sign>) -> bool
     ensures { result ≡ is_some (option_map seen_sign opening.now) }
 {
-    match opening {
-        None => false,
-        Some(_) => true,
-    }
+    opening.is_some()
 }
 
 /// No subscript.

@@ -55,10 +55,7 @@ fn is_while(tree: &Guard) -> bool
 fn is_unnamed(tree: &Group) -> bool
     ensures { result ≡ is_unnamed (seen_group tree.now) }
 {
-    match tree.end {
-        None => true,
-        Some(_) => false,
-    }
+    tree.end.is_none()
 }
 
 /// In the values of a loop's variable.

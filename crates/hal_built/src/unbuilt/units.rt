@@ -149,7 +149,8 @@ fn unbuilt_prefaces(trees: &[Preface]) -> Option<Place>
     None
 }
 
-/// The place of the first smallest phrase of a file that has no meaning yet, none where each has one.
+/// The place of the first smallest phrase of a file that has no meaning yet, none where each has one. See docs/LANGUAGE.md,
+/// "What has a meaning so far".
 #[tactic(auto, using(hal_tree::proofs::MadeUnits::made_file), unfolding(crate::specs::Unbuilt::unbuilt_file))]
 pub fn unbuilt_file(file: &File) -> Option<Place>
     ensures { result ≡ unbuilt_file (seen_file file.now) }

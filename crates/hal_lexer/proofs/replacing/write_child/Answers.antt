@@ -9,9 +9,9 @@ use Rattle.hal_lexer.proofs.replacing.write_child.Goals as goal
 pub returns-in-Word-clause-broken : goal.returns-in-Word-clause-broken
 returns-in-Word-clause-broken c =
     let first : c.args.walk.now ≡ (child.Word c.in-Word.word ∷ c.in-Some-split_first.rest.now) ∷ c.pop.new.self = search rules in
-    IfErr-weaker c.push.result _ _
+    IfErr-weaker c.write_word.result _ _
     (λ fault there. word_broken (map word_item c.args.tokens.now) c.args.compiled.now c.args.place c.args.walk.now c.in-Word.word c.in-Some-split_first.rest.now c.pop.new.self fault first there)
-    c.push.ensures.broken
+    c.write_word.ensures.broken
 
 pub returns-in-Name-clause-moved : goal.returns-in-Name-clause-moved
 returns-in-Name-clause-moved c =

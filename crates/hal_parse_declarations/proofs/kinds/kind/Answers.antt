@@ -1,0 +1,7 @@
+use Rattle.hal_parse_expr.specs.Seen.{seen_as}
+use Rattle.hal_parse_declarations.proofs.CodeDeclarations.{no_type}
+use Rattle.hal_parse_declarations.proofs.kinds.kind.Goals as goal
+
+pub returns-in_default-type_word_of : goal.returns-in_default-type_word_of
+unfolding seen_as
+returns-in_default-type_word_of c = no_type c.args.depth c.in-Some.ensures.cases.0 c.in_default-type_word_of.ensures

@@ -1,0 +1,3 @@
+pub mod ReadingDeclarations
+pub mod ReadingNames
+pub mod DeclarationWords

@@ -1,0 +1,11 @@
+pub mod ConditionsRead
+pub mod ErrorsRead
+pub mod SchedulesRead
+pub mod SimpleRead
+pub mod GroupsRead
+pub mod StatementsRead
+pub mod ExactReadings
+pub mod ReadersShorten
+pub mod CodeLists
+pub mod CodeStatements
+pub mod CodeWords

@@ -1,0 +1,2 @@
+pub mod ReadingStatements
+pub mod Beginnings
