@@ -2,6 +2,8 @@
 
 mod declarations;
 mod expressions;
+mod pair;
+mod simple_statements;
 mod statement_parts;
 mod statements;
 mod units;

@@ -18,7 +18,6 @@ pub enum Mark {
 }
 
 /// A type.
-#[derive(Drop)]
 pub enum Type {
     /// `INTEGER`
     Integer {
@@ -48,6 +47,29 @@ pub enum Type {
         template: Name,
         copies: Option<Expr>,
     },
+}
+
+impl Drop for Type {
+    fn drop(self) {
+        match self {
+            Type::Integer { place: _ } => {}
+            Type::Boolean { place: _ } => {}
+            Type::Event { place: _ } => {}
+            Type::Bit {
+                place: _,
+                size: _size,
+            } => {}
+            Type::Character {
+                place: _,
+                size: _size,
+            } => {}
+            Type::Structure {
+                place: _,
+                template: _,
+                copies: _copies,
+            } => {}
+        }
+    }
 }
 
 /// An initial value, or a count and what it repeats. The place is that of the count.
@@ -81,7 +103,6 @@ pub enum Initial {
 }
 
 /// An attribute of what is declared.
-#[derive(Drop)]
 pub enum Attribute {
     /// `ARRAY(2, 3)`
     Dimensions { place: Place, sizes: Vec<Expr> },
@@ -96,6 +117,32 @@ pub enum Attribute {
     Initial { place: Place, values: Vec<Initial> },
     /// `CONSTANT(1, 2)`
     Constant { place: Place, values: Vec<Initial> },
+}
+
+impl Drop for Attribute {
+    fn drop(self) {
+        match self {
+            Attribute::Dimensions {
+                place: _,
+                sizes: _sizes,
+            } => {}
+            Attribute::Typed(_type) => {}
+            Attribute::Marked { place: _, mark: _ } => {}
+            Attribute::LockGroup {
+                place: _,
+                group: _group,
+            } => {}
+            Attribute::LockAny { place: _ } => {}
+            Attribute::Initial {
+                place: _,
+                values: _values,
+            } => {}
+            Attribute::Constant {
+                place: _,
+                values: _values,
+            } => {}
+        }
+    }
 }
 
 /// A name that is declared, and its attributes: the `A INTEGER` of `DECLARE A INTEGER;`.

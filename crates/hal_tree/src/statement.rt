@@ -5,7 +5,6 @@ use crate::leaf::Identifier;
 use hal_base::Place;
 
 /// How long a loop goes on.
-#[derive(Drop)]
 pub enum Guard {
     /// `WHILE condition`
     While { place: Place, condition: Expr },
@@ -13,8 +12,22 @@ pub enum Guard {
     Until { place: Place, condition: Expr },
 }
 
+impl Drop for Guard {
+    fn drop(self) {
+        match self {
+            Guard::While {
+                place: _,
+                condition: _condition,
+            } => {}
+            Guard::Until {
+                place: _,
+                condition: _condition,
+            } => {}
+        }
+    }
+}
+
 /// The values that a loop's variable takes.
-#[derive(Drop)]
 pub enum Span {
     /// `first TO last BY step`
     Range {
@@ -26,6 +39,19 @@ pub enum Span {
     List {
         values: Vec<Expr>,
     },
+}
+
+impl Drop for Span {
+    fn drop(self) {
+        match self {
+            Span::Range {
+                first: _first,
+                last: _last,
+                step: _step,
+            } => {}
+            Span::List { values: _values } => {}
+        }
+    }
 }
 
 /// The errors that are meant. The place is that of `$`.
@@ -70,7 +96,6 @@ pub enum Response {
 }
 
 /// When a process starts.
-#[derive(Drop)]
 pub enum Start {
     /// `AT time`
     At { place: Place, time: Expr },
@@ -80,8 +105,26 @@ pub enum Start {
     On { place: Place, event: Expr },
 }
 
+impl Drop for Start {
+    fn drop(self) {
+        match self {
+            Start::At {
+                place: _,
+                time: _time,
+            } => {}
+            Start::In {
+                place: _,
+                time: _time,
+            } => {}
+            Start::On {
+                place: _,
+                event: _event,
+            } => {}
+        }
+    }
+}
+
 /// When a process runs again. The place is that of REPEAT.
-#[derive(Drop)]
 pub enum Cycle {
     /// `REPEAT`
     Repeat { place: Place },
@@ -91,8 +134,23 @@ pub enum Cycle {
     After { place: Place, time: Expr },
 }
 
+impl Drop for Cycle {
+    fn drop(self) {
+        match self {
+            Cycle::Repeat { place: _ } => {}
+            Cycle::Every {
+                place: _,
+                time: _time,
+            } => {}
+            Cycle::After {
+                place: _,
+                time: _time,
+            } => {}
+        }
+    }
+}
+
 /// What SCHEDULE says: `P AT 1 PRIORITY(2) DEPENDENT, REPEAT EVERY 5 UNTIL E`.
-#[derive(Drop)]
 pub struct Schedule {
     pub name: Identifier,
     pub start: Option<Start>,
@@ -100,6 +158,19 @@ pub struct Schedule {
     pub dependent: bool,
     pub cycle: Option<Cycle>,
     pub guard: Option<Guard>,
+}
+
+impl Drop for Schedule {
+    fn drop(self) {
+        let Schedule {
+            name: _,
+            start: _start,
+            priority: _priority,
+            dependent: _,
+            cycle: _cycle,
+            guard: _guard,
+        } = self;
+    }
 }
 
 /// Labels, and what they stand before: `L: M: A = 1;`.
@@ -111,7 +182,6 @@ pub struct Statement {
 }
 
 /// A statement without its labels.
-#[derive(Drop)]
 #[cycle(statements)]
 pub enum Basic {
     /// `;`
@@ -264,6 +334,127 @@ pub enum Basic {
         group: u32,
         number: u32,
     },
+}
+
+impl Drop for Basic {
+    #[cycle(statements)]
+    fn drop(self) {
+        match self {
+            Basic::Null { place: _ } => {}
+            Basic::Assignment {
+                place: _,
+                receivers: _receivers,
+                value: _value,
+            } => {}
+            Basic::If {
+                place: _,
+                condition: _condition,
+                consequence: _consequence,
+                alternative: _alternative,
+            } => {}
+            Basic::Do {
+                place: _,
+                group: _group,
+            } => {}
+            Basic::DoCase {
+                place: _,
+                selector: _selector,
+                alternative: _alternative,
+                group: _group,
+            } => {}
+            Basic::DoLoop {
+                place: _,
+                guard: _guard,
+                group: _group,
+            } => {}
+            Basic::DoFor {
+                place: _,
+                temporary: _,
+                variable: _,
+                span: _span,
+                guard: _guard,
+                group: _group,
+            } => {}
+            Basic::Exit { place: _, label: _ } => {}
+            Basic::Repeat { place: _, label: _ } => {}
+            Basic::Return {
+                place: _,
+                value: _value,
+            } => {}
+            Basic::Call {
+                place: _,
+                name: _,
+                arguments: _arguments,
+                receivers: _receivers,
+            } => {}
+            Basic::Read {
+                place: _,
+                channel: _channel,
+                receivers: _receivers,
+            } => {}
+            Basic::Write {
+                place: _,
+                channel: _channel,
+                items: _items,
+            } => {}
+            Basic::Update {
+                place: _,
+                body: _body,
+                close: _,
+            } => {}
+            Basic::Schedule {
+                place: _,
+                schedule: _schedule,
+            } => {}
+            Basic::Cancel {
+                place: _,
+                names: _names,
+            } => {}
+            Basic::Terminate {
+                place: _,
+                names: _names,
+            } => {}
+            Basic::Wait {
+                place: _,
+                time: _time,
+            } => {}
+            Basic::WaitUntil {
+                place: _,
+                time: _time,
+            } => {}
+            Basic::WaitForDependent { place: _ } => {}
+            Basic::WaitFor {
+                place: _,
+                event: _event,
+            } => {}
+            Basic::Event(_) => {}
+            Basic::UpdatePriority {
+                place: _,
+                name: _,
+                priority: _priority,
+            } => {}
+            Basic::OnErrorStatement {
+                place: _,
+                selector: _,
+                handler: _handler,
+            } => {}
+            Basic::OnErrorResponse {
+                place: _,
+                selector: _,
+                response: _,
+                event: _,
+            } => {}
+            Basic::OffError {
+                place: _,
+                selector: _,
+            } => {}
+            Basic::SendError {
+                place: _,
+                group: _,
+                number: _,
+            } => {}
+        }
+    }
 }
 
 /// The statements of a group, and the name after END: `A = 1; END end;`.

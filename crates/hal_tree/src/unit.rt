@@ -32,7 +32,6 @@ pub enum Returns {
 }
 
 /// The head of a unit. The place is that of its first word.
-#[derive(Drop)]
 pub enum Head {
     /// `PROGRAM;`
     Program {
@@ -62,6 +61,28 @@ pub enum Head {
     },
 }
 
+impl Drop for Head {
+    fn drop(self) {
+        match self {
+            Head::Program { place: _ } => {}
+            Head::Compool { place: _ } => {}
+            Head::Task { place: _ } => {}
+            Head::Procedure {
+                place: _,
+                inputs: _inputs,
+                outputs: _outputs,
+                mode: _,
+            } => {}
+            Head::Function {
+                place: _,
+                inputs: _inputs,
+                returns: _returns,
+                mode: _,
+            } => {}
+        }
+    }
+}
+
 /// A unit: `name: PROGRAM; DECLARE A INTEGER; A = 1; CLOSE name;`.
 #[derive(Drop)]
 #[cycle(units)]
@@ -82,12 +103,22 @@ pub enum Element {
 }
 
 /// The template of a unit that another file holds: `name: EXTERNAL PROCEDURE(A); DECLARE A INTEGER; CLOSE;`.
-#[derive(Drop)]
 pub struct Template {
     pub name: Identifier,
     pub head: Head,
     pub declarations: Vec<Declaration>,
     pub close: Option<Identifier>,
+}
+
+impl Drop for Template {
+    fn drop(self) {
+        let Template {
+            name: _,
+            head: _head,
+            declarations: _declarations,
+            close: _,
+        } = self;
+    }
 }
 
 /// What stands before a file's unit.
@@ -99,8 +130,16 @@ pub enum Preface {
 }
 
 /// A file.
-#[derive(Drop)]
 pub struct File {
     pub prefaces: Vec<Preface>,
     pub unit: Unit,
+}
+
+impl Drop for File {
+    fn drop(self) {
+        let File {
+            prefaces: _prefaces,
+            unit: _unit,
+        } = self;
+    }
 }

@@ -4,6 +4,7 @@ ghost use Rattle.std.specs.Prelude.{◌≡◌, map, IfOk};
 ghost use Rattle.hal_tree.specs.SeenDeclarations.{seen_attribute, seen_declaration, seen_declared, seen_initial, seen_part, seen_type};
 
 use crate::copy::expressions::{copy_expression, copy_expressions, copy_optional};
+use crate::copy::pair::both;
 use crate::declaration::{Attribute, Declaration, Declared, Initial, Part, Type};
 use std::alloc::{AllocError, Global};
 
@@ -192,11 +193,15 @@ pub fn copy_declaration(alloc: Global, tree: &Declaration) -> Result<Declaration
             place,
             common,
             items,
-        } => Ok(Declaration::Declare {
-            place: *place,
-            common: copy_attributes(alloc, common)?,
-            items: copy_items(alloc, items)?,
-        }),
+        } => {
+            let common = copy_attributes(alloc, common)?;
+            let (common, items) = both(common, copy_items(alloc, items))?;
+            Ok(Declaration::Declare {
+                place: *place,
+                common,
+                items,
+            })
+        }
         Declaration::Structure { place, name, parts } => Ok(Declaration::Structure {
             place: *place,
             name: *name,

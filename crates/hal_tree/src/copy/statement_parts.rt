@@ -5,6 +5,7 @@ ghost use Rattle.std.specs.Option.{option_map};
 ghost use Rattle.hal_tree.specs.SeenStatements.{seen_cycle, seen_guard, seen_schedule, seen_span, seen_start};
 
 use crate::copy::expressions::{copy_expression, copy_expressions, copy_optional};
+use crate::copy::pair::both;
 use crate::statement::{Cycle, Guard, Schedule, Span, Start};
 use std::alloc::{AllocError, Global};
 
@@ -44,11 +45,12 @@ pub(crate) fn copy_span(alloc: Global, tree: &Span) -> Result<Span, AllocError>
     ensures { IfOk result (λ copied. seen_span copied ≡ seen_span tree.now) }
 {
     match tree {
-        Span::Range { first, last, step } => Ok(Span::Range {
-            first: copy_expression(alloc, first)?,
-            last: copy_expression(alloc, last)?,
-            step: copy_optional(alloc, step)?,
-        }),
+        Span::Range { first, last, step } => {
+            let first = copy_expression(alloc, first)?;
+            let ends = both(first, copy_expression(alloc, last))?;
+            let ((first, last), step) = both(ends, copy_optional(alloc, step))?;
+            Ok(Span::Range { first, last, step })
+        }
         Span::List { values } => Ok(Span::List {
             values: copy_expressions(alloc, values)?,
         }),
@@ -119,12 +121,17 @@ fn copy_optional_cycle(alloc: Global, tree: &Option<Cycle>) -> Result<Option<Cyc
 pub(crate) fn copy_schedule(alloc: Global, tree: &Schedule) -> Result<Schedule, AllocError>
     ensures { IfOk result (λ copied. seen_schedule copied ≡ seen_schedule tree.now) }
 {
+    let start = copy_optional_start(alloc, &tree.start)?;
+    let parts = both(start, copy_optional(alloc, &tree.priority))?;
+    let parts = both(parts, copy_optional_cycle(alloc, &tree.cycle))?;
+    let (parts, guard) = both(parts, copy_optional_guard(alloc, &tree.guard))?;
+    let ((start, priority), cycle) = parts;
     Ok(Schedule {
         name: tree.name,
-        start: copy_optional_start(alloc, &tree.start)?,
-        priority: copy_optional(alloc, &tree.priority)?,
+        start,
+        priority,
         dependent: tree.dependent,
-        cycle: copy_optional_cycle(alloc, &tree.cycle)?,
-        guard: copy_optional_guard(alloc, &tree.guard)?,
+        cycle,
+        guard,
     })
 }

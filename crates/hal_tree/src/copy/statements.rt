@@ -1,13 +1,18 @@
 //! Copies of statements.
 
 ghost use Rattle.std.specs.Prelude.{◌≡◌, map, IfOk};
-ghost use Rattle.hal_tree.specs.SeenStatements.{seen_alternative, seen_basic, seen_group, seen_statement};
+ghost use Rattle.std.specs.Option.{option_map};
+ghost use Rattle.hal_grammar.specs.Statements.{Ranged};
+ghost use Rattle.hal_tree.specs.SeenLeaves.{seen_name};
+ghost use Rattle.hal_tree.specs.SeenStatements.{seen_alternative, seen_basic, seen_group, seen_guard, seen_span, seen_statement};
 
-use crate::copy::expressions::{
-    copy_expression, copy_expressions, copy_names, copy_optional, copy_references,
-};
+use crate::copy::expressions::{copy_expression, copy_names, copy_optional};
+use crate::copy::pair::both;
+use crate::copy::simple_statements::{copy_assignment, copy_call, copy_read, copy_write};
 use crate::copy::statement_parts::{copy_guard, copy_optional_guard, copy_schedule, copy_span};
-use crate::statement::{Basic, Group, Statement};
+use crate::leaf::Identifier;
+use crate::statement::{Basic, Group, Guard, Span, Statement};
+use hal_base::Place;
 use std::alloc::{AllocError, Global};
 
 /// A statement like this one, or an error where there is no memory.
@@ -16,10 +21,9 @@ use std::alloc::{AllocError, Global};
 pub fn copy_statement(alloc: Global, tree: &Statement) -> Result<Statement, AllocError>
     ensures { IfOk result (λ copied. seen_statement copied ≡ seen_statement tree.now) }
 {
-    Ok(Statement {
-        labels: copy_names(alloc, &tree.labels)?,
-        basic: copy_basic(alloc, &tree.basic)?,
-    })
+    let labels = copy_names(alloc, &tree.labels)?;
+    let (labels, basic) = both(labels, copy_basic(alloc, &tree.basic))?;
+    Ok(Statement { labels, basic })
 }
 
 /// Statements like these, or an error where there is no memory.
@@ -70,6 +74,33 @@ fn copy_group(alloc: Global, tree: &Group) -> Result<Group, AllocError>
     })
 }
 
+/// A DO FOR like this one.
+#[cycle(copying_statements)]
+#[tactic(auto, using(crate::proofs::MadeStatements::made_do_for))]
+fn copy_loop(
+    alloc: Global,
+    place: Place,
+    temporary: bool,
+    variable: Identifier,
+    span: &Span,
+    guard: &Option<Guard>,
+    group: &Group,
+) -> Result<Basic, AllocError>
+    ensures { IfOk result (λ copied. seen_basic copied ≡ Ranged place temporary (seen_name variable) (seen_span span.now) (option_map seen_guard guard.now) (seen_group group.now)) }
+{
+    let span = copy_span(alloc, span)?;
+    let parts = both(span, copy_optional_guard(alloc, guard))?;
+    let ((span, guard), group) = both(parts, copy_group(alloc, group))?;
+    Ok(Basic::DoFor {
+        place,
+        temporary,
+        variable,
+        span,
+        guard,
+        group,
+    })
+}
+
 /// A statement without labels like this one.
 #[cycle(copying_statements)]
 #[tactic(auto, using(crate::proofs::MadeStatements::made_null, crate::proofs::MadeStatements::made_assignment, crate::proofs::MadeStatements::made_if, crate::proofs::MadeStatements::made_do, crate::proofs::MadeStatements::made_do_case, crate::proofs::MadeStatements::made_do_loop, crate::proofs::MadeStatements::made_do_for, crate::proofs::MadeStatements::made_exit, crate::proofs::MadeStatements::made_repeat, crate::proofs::MadeStatements::made_return, crate::proofs::MadeStatements::made_call_statement, crate::proofs::MadeStatements::made_read, crate::proofs::MadeStatements::made_write, crate::proofs::MadeStatements::made_update, crate::proofs::MadeStatements::made_schedule_statement, crate::proofs::MadeStatements::made_cancel, crate::proofs::MadeStatements::made_terminate, crate::proofs::MadeStatements::made_wait, crate::proofs::MadeStatements::made_wait_until, crate::proofs::MadeStatements::made_wait_for_dependent, crate::proofs::MadeStatements::made_wait_for, crate::proofs::MadeStatements::made_event, crate::proofs::MadeStatements::made_update_priority, crate::proofs::MadeStatements::made_on_error_statement, crate::proofs::MadeStatements::made_on_error_response, crate::proofs::MadeStatements::made_off_error, crate::proofs::MadeStatements::made_send_error))]
@@ -82,22 +113,24 @@ fn copy_basic(alloc: Global, tree: &Basic) -> Result<Basic, AllocError>
             place,
             receivers,
             value,
-        } => Ok(Basic::Assignment {
-            place: *place,
-            receivers: copy_references(alloc, receivers)?,
-            value: copy_expression(alloc, value)?,
-        }),
+        } => copy_assignment(alloc, *place, receivers, value),
         Basic::If {
             place,
             condition,
             consequence,
             alternative,
-        } => Ok(Basic::If {
-            place: *place,
-            condition: copy_expression(alloc, condition)?,
-            consequence: copy_box(alloc, consequence)?,
-            alternative: copy_alternative(alloc, alternative)?,
-        }),
+        } => {
+            let condition = copy_expression(alloc, condition)?;
+            let parts = both(condition, copy_box(alloc, consequence))?;
+            let (parts, alternative) = both(parts, copy_alternative(alloc, alternative))?;
+            let (condition, consequence) = parts;
+            Ok(Basic::If {
+                place: *place,
+                condition,
+                consequence,
+                alternative,
+            })
+        }
         Basic::Do { place, group } => Ok(Basic::Do {
             place: *place,
             group: copy_group(alloc, group)?,
@@ -107,21 +140,30 @@ fn copy_basic(alloc: Global, tree: &Basic) -> Result<Basic, AllocError>
             selector,
             alternative,
             group,
-        } => Ok(Basic::DoCase {
-            place: *place,
-            selector: copy_expression(alloc, selector)?,
-            alternative: copy_alternative(alloc, alternative)?,
-            group: copy_group(alloc, group)?,
-        }),
+        } => {
+            let selector = copy_expression(alloc, selector)?;
+            let parts = both(selector, copy_alternative(alloc, alternative))?;
+            let ((selector, alternative), group) = both(parts, copy_group(alloc, group))?;
+            Ok(Basic::DoCase {
+                place: *place,
+                selector,
+                alternative,
+                group,
+            })
+        }
         Basic::DoLoop {
             place,
             guard,
             group,
-        } => Ok(Basic::DoLoop {
-            place: *place,
-            guard: copy_guard(alloc, guard)?,
-            group: copy_group(alloc, group)?,
-        }),
+        } => {
+            let guard = copy_guard(alloc, guard)?;
+            let (guard, group) = both(guard, copy_group(alloc, group))?;
+            Ok(Basic::DoLoop {
+                place: *place,
+                guard,
+                group,
+            })
+        }
         Basic::DoFor {
             place,
             temporary,
@@ -129,14 +171,7 @@ fn copy_basic(alloc: Global, tree: &Basic) -> Result<Basic, AllocError>
             span,
             guard,
             group,
-        } => Ok(Basic::DoFor {
-            place: *place,
-            temporary: *temporary,
-            variable: *variable,
-            span: copy_span(alloc, span)?,
-            guard: copy_optional_guard(alloc, guard)?,
-            group: copy_group(alloc, group)?,
-        }),
+        } => copy_loop(alloc, *place, *temporary, *variable, span, guard, group),
         Basic::Exit { place, label } => Ok(Basic::Exit {
             place: *place,
             label: *label,
@@ -154,30 +189,17 @@ fn copy_basic(alloc: Global, tree: &Basic) -> Result<Basic, AllocError>
             name,
             arguments,
             receivers,
-        } => Ok(Basic::Call {
-            place: *place,
-            name: *name,
-            arguments: copy_expressions(alloc, arguments)?,
-            receivers: copy_references(alloc, receivers)?,
-        }),
+        } => copy_call(alloc, *place, *name, arguments, receivers),
         Basic::Read {
             place,
             channel,
             receivers,
-        } => Ok(Basic::Read {
-            place: *place,
-            channel: copy_expression(alloc, channel)?,
-            receivers: copy_references(alloc, receivers)?,
-        }),
+        } => copy_read(alloc, *place, channel, receivers),
         Basic::Write {
             place,
             channel,
             items,
-        } => Ok(Basic::Write {
-            place: *place,
-            channel: copy_expression(alloc, channel)?,
-            items: copy_expressions(alloc, items)?,
-        }),
+        } => copy_write(alloc, *place, channel, items),
         Basic::Update { place, body, close } => Ok(Basic::Update {
             place: *place,
             body: copy_statements(alloc, body)?,

@@ -5,6 +5,7 @@ ghost use Rattle.hal_tree.specs.SeenUnits.{seen_element, seen_file, seen_head, s
 
 use crate::copy::declarations::{copy_declarations, copy_type};
 use crate::copy::expressions::copy_names;
+use crate::copy::pair::both;
 use crate::copy::statements::copy_statement;
 use crate::unit::{Element, File, Head, Preface, Returns, Template, Unit};
 use std::alloc::{AllocError, Global};
@@ -37,23 +38,31 @@ pub fn copy_head(alloc: Global, tree: &Head) -> Result<Head, AllocError>
             inputs,
             outputs,
             mode,
-        } => Ok(Head::Procedure {
-            place: *place,
-            inputs: copy_names(alloc, inputs)?,
-            outputs: copy_names(alloc, outputs)?,
-            mode: *mode,
-        }),
+        } => {
+            let inputs = copy_names(alloc, inputs)?;
+            let (inputs, outputs) = both(inputs, copy_names(alloc, outputs))?;
+            Ok(Head::Procedure {
+                place: *place,
+                inputs,
+                outputs,
+                mode: *mode,
+            })
+        }
         Head::Function {
             place,
             inputs,
             returns,
             mode,
-        } => Ok(Head::Function {
-            place: *place,
-            inputs: copy_names(alloc, inputs)?,
-            returns: copy_returns(alloc, returns)?,
-            mode: *mode,
-        }),
+        } => {
+            let inputs = copy_names(alloc, inputs)?;
+            let (inputs, returns) = both(inputs, copy_returns(alloc, returns))?;
+            Ok(Head::Function {
+                place: *place,
+                inputs,
+                returns,
+                mode: *mode,
+            })
+        }
     }
 }
 
@@ -63,11 +72,14 @@ pub fn copy_head(alloc: Global, tree: &Head) -> Result<Head, AllocError>
 pub fn copy_unit(alloc: Global, tree: &Unit) -> Result<Unit, AllocError>
     ensures { IfOk result (λ copied. seen_unit copied ≡ seen_unit tree.now) }
 {
+    let head = copy_head(alloc, &tree.head)?;
+    let parts = both(head, copy_declarations(alloc, &tree.declarations))?;
+    let ((head, declarations), elements) = both(parts, copy_elements(alloc, &tree.elements))?;
     Ok(Unit {
         name: tree.name,
-        head: copy_head(alloc, &tree.head)?,
-        declarations: copy_declarations(alloc, &tree.declarations)?,
-        elements: copy_elements(alloc, &tree.elements)?,
+        head,
+        declarations,
+        elements,
         close: tree.close,
     })
 }
@@ -101,10 +113,12 @@ fn copy_element(alloc: Global, tree: &Element) -> Result<Element, AllocError>
 pub fn copy_template(alloc: Global, tree: &Template) -> Result<Template, AllocError>
     ensures { IfOk result (λ copied. seen_template copied ≡ seen_template tree.now) }
 {
+    let head = copy_head(alloc, &tree.head)?;
+    let (head, declarations) = both(head, copy_declarations(alloc, &tree.declarations))?;
     Ok(Template {
         name: tree.name,
-        head: copy_head(alloc, &tree.head)?,
-        declarations: copy_declarations(alloc, &tree.declarations)?,
+        head,
+        declarations,
         close: tree.close,
     })
 }
