@@ -2,11 +2,11 @@
 use Rattle.std.proofs.Common.{true≢false, ◌≡◌, refl, sym, ◌∙◌, ap, ◌↔◌, List, [], ◌∷◌, Option, Some, None, Bool, true, false, ◌&&◌, if◌then◌else◌}
 use Rattle.std.specs.Option.{option_or, option_map, option_and_then, is_some, is_none, IsSome}
 use Rattle.hal_base.specs.declared.refusal.Place.{Place}
-use Rattle.hal_grammar.specs.Leaves.{Naming, WholeNumber, QuotedText, BitPattern, TrueBit, FalseBit, OnBit, OffBit}
-use Rattle.hal_grammar.specs.Expressions.{Expression, Ors, Ands, Compared, Joined, Summed, Multiplied, Powered, Negated, Literally, Thousandths, Referred, Called, Converted, Enclosed, Expressions, NoExpressions, MoreExpressions, Terms, NoTerms, MoreTerms, Reference, Refers, Unsubscripted, ByName, ByInteger, ByParts, place_of}
-use Rattle.hal_grammar.specs.Declarations.{IntegerKind, Valued, NoInitials, MoreInitials, Attribute, Typed, InitialValues, Declared, Declaration, Declares, Structures}
-use Rattle.hal_grammar.specs.Statements.{AsLong, Unless, Statement, Labelled, Basic, Empty, Assigned, Chosen, Grouped, Selected, Looped, Ranged, Left, Repeated, Returned, CallsBlock, Inputs, Outputs, Updates, Scheduled, Cancelled, Terminated, Waits, WaitsUntil, WaitsForDependents, WaitsFor, Acts, Prioritizes, Handles, Answers, Forgets, Sends, Alternative, NoAlternative, Otherwise, Groups, Statements, NoStatements, MoreStatements}
-use Rattle.hal_grammar.specs.Units.{ProgramHead, Block, BlockOf, Elements, NoElements, StatementFirst, BlockFirst, Preface, Includes, Templates, File}
+use Rattle.hal_grammar.specs.Leaves.{Naming, Integer, Text, Bits, True, False, On, Off}
+use Rattle.hal_grammar.specs.Expressions.{Expression, Or, And, Compare, Cat, Sum, Product, Power, Not, Literal, Decimal, Referred, Called, Convert, Parenthesis, Expressions, NoExpressions, MoreExpressions, Terms, NoTerms, MoreTerms, Reference, Refers, Unsubscripted, ByName, ByInteger, ByParts, place_of}
+use Rattle.hal_grammar.specs.Declarations.{IntegerKind, Value, NoInitials, MoreInitials, Attribute, Typed, InitialValues, Declared, Declaration, Declare, Structure}
+use Rattle.hal_grammar.specs.Statements.{While, Until, Statement, Labelled, Basic, Null, Assignment, If, Do, DoCase, DoLoop, DoFor, Exit, Repeat, Return, Call, Read, Write, Update, Scheduled, Cancel, Terminate, Wait, WaitUntil, WaitForDependent, WaitFor, Event, UpdatePriority, OnErrorStatement, OnErrorResponse, OffError, SendError, Alternative, NoAlternative, Otherwise, Groups, Statements, NoStatements, MoreStatements}
+use Rattle.hal_grammar.specs.Units.{Program, Block, BlockOf, Elements, NoElements, StatementFirst, BlockFirst, Preface, Include, Templates, File}
 use Rattle.hal_core.specs.Tree as tree
 use Rattle.hal_built.specs.SecondForm.{both, operand_of, terms_of, sum_with, sum_of, sums_of, relation_of, comparison_with, comparison_of, channel_of, target_of, statement_of, basic_of, alternative_of, body_of, initial_of, declaration_at, declared_of, declaration_of, declarations_of, elements_of, closes, unit_with, block_of, second_form, term_at}
 use Rattle.hal_built.specs.Unbuilt.{unless, first_of, if_there, is_whole, is_alone, is_bare, bare_sum, unbuilt_value, unbuilt_values, unbuilt_terms, unbuilt_reference, unbuilt_subscript, unbuilt_operand, unbuilt_condition, unbuilt_but, unbuilt_channel, unbuilt_initial, unbuilt_initials, unbuilt_kind, unbuilt_attribute, is_integer, is_integer_kind, is_valued, are_none, is_one_value, is_initial, ends_well, is_arranged, unbuilt_declared, unbuilt_part, is_single, is_empty, unbuilt_declaration, unbuilt_guard, is_while, is_unnamed, unbuilt_span, unbuilt_schedule, first_label, unbuilt_statement, unbuilt_basic, unbuilt_alternative, unbuilt_in_group, unbuilt_statements, unbuilt_in_head, is_program, place_of_block, unbuilt_block, unbuilt_elements, unbuilt_template, unbuilt_preface, unbuilt_file}
@@ -70,31 +70,31 @@ tested (Some r) x y make a b p h k = pair x y (make r) a b h k ∙ added_none (o
 
 operand_formed : (e : Expression) → is_some (operand_of e) ≡ is_none (unbuilt_operand e)
 unfolding operand_of unbuilt_operand unbuilt_value bare_sum unbuilt_reference unbuilt_subscript is_whole is_alone is_empty is_bare
-operand_formed (Ors p first others) = own_first (option_or (unbuilt_value first) (unbuilt_values others)) None p
-operand_formed (Ands p first others) = own_first (option_or (unbuilt_value first) (unbuilt_values others)) None p
-operand_formed (Compared p left relation right) = own_first (option_or (unbuilt_value left) (unbuilt_value right)) None p
-operand_formed (Joined p first others) = own_first (option_or (unbuilt_value first) (unbuilt_values others)) None p
-operand_formed (Summed p None first others) = own (option_or (option_or (option_or (unbuilt_value first) (bare_sum first)) (unbuilt_terms others)) None) p
-operand_formed (Summed p (Some s) first others) = own_first (option_or (option_or (unbuilt_value first) (bare_sum first)) (unbuilt_terms others)) None p
-operand_formed (Multiplied p first others) = own_first (option_or (unbuilt_value first) (unbuilt_values others)) None p
-operand_formed (Powered p base exponent) = own_first (option_or (unbuilt_value base) (unbuilt_value exponent)) None p
-operand_formed (Negated p operand) = own_first (unbuilt_value operand) None p
-operand_formed (Literally p (WholeNumber n)) = refl
-operand_formed (Literally p (QuotedText text)) = refl
-operand_formed (Literally p (BitPattern len bits)) = refl
-operand_formed (Literally p TrueBit) = refl
-operand_formed (Literally p FalseBit) = refl
-operand_formed (Literally p OnBit) = refl
-operand_formed (Literally p OffBit) = refl
-operand_formed (Thousandths p n) = refl
+operand_formed (Or p first others) = own_first (option_or (unbuilt_value first) (unbuilt_values others)) None p
+operand_formed (And p first others) = own_first (option_or (unbuilt_value first) (unbuilt_values others)) None p
+operand_formed (Compare p left relation right) = own_first (option_or (unbuilt_value left) (unbuilt_value right)) None p
+operand_formed (Cat p first others) = own_first (option_or (unbuilt_value first) (unbuilt_values others)) None p
+operand_formed (Sum p None first others) = own (option_or (option_or (option_or (unbuilt_value first) (bare_sum first)) (unbuilt_terms others)) None) p
+operand_formed (Sum p (Some s) first others) = own_first (option_or (option_or (unbuilt_value first) (bare_sum first)) (unbuilt_terms others)) None p
+operand_formed (Product p first others) = own_first (option_or (unbuilt_value first) (unbuilt_values others)) None p
+operand_formed (Power p base exponent) = own_first (option_or (unbuilt_value base) (unbuilt_value exponent)) None p
+operand_formed (Not p operand) = own_first (unbuilt_value operand) None p
+operand_formed (Literal p (Integer n)) = refl
+operand_formed (Literal p (Text text)) = refl
+operand_formed (Literal p (Bits len bits)) = refl
+operand_formed (Literal p True) = refl
+operand_formed (Literal p False) = refl
+operand_formed (Literal p On) = refl
+operand_formed (Literal p Off) = refl
+operand_formed (Decimal p n) = refl
 operand_formed (Referred (Refers p n [] Unsubscripted)) = refl
 operand_formed (Referred (Refers p n [] (ByName q x))) = refl
 operand_formed (Referred (Refers p n [] (ByInteger q r number))) = refl
 operand_formed (Referred (Refers p n [] (ByParts q copies arrays components))) = own_first (unbuilt_subscript (ByParts q copies arrays components)) None p
 operand_formed (Referred (Refers p n (x ∷ xs) subscript)) = own_first (unbuilt_subscript subscript) None p
 operand_formed (Called p n arguments) = own_first (unbuilt_values arguments) None p
-operand_formed (Converted p conversion operand) = own_first (unbuilt_value operand) None p
-operand_formed (Enclosed p inner) = own_first (unbuilt_value inner) None p
+operand_formed (Convert p conversion operand) = own_first (unbuilt_value operand) None p
+operand_formed (Parenthesis p inner) = own_first (unbuilt_value inner) None p
 
 terms_formed : (ts : Terms) → is_some (terms_of ts) ≡ is_none (unbuilt_terms ts)
 unfolding terms_of unbuilt_terms unbuilt_operand
@@ -108,7 +108,7 @@ alone_formed e h = map_some (λ x. sum_with x []) (operand_of e) ∙ operand_for
 
 sum_formed : (e : Expression) → is_some (sum_of e) ≡ is_none (unbuilt_value e)
 unfolding sum_of unbuilt_value bare_sum unbuilt_operand
-sum_formed (Summed p None first others) =
+sum_formed (Sum p None first others) =
     pair (operand_of first) (terms_of others) sum_with (unbuilt_operand first) (unbuilt_terms others) (operand_formed first) (terms_formed others)
     ∙ added_none (option_or (unbuilt_operand first) (unbuilt_terms others))
 sum_formed e = alone_formed e refl
@@ -120,7 +120,7 @@ sums_formed (MoreExpressions t ts) = pair (sum_of t) (sums_of ts) (λ x xs. x �
 
 comparison_formed : (e : Expression) → is_some (comparison_of e) ≡ is_none (unbuilt_condition e)
 unfolding comparison_of unbuilt_condition
-comparison_formed (Compared p left r right) =
+comparison_formed (Compare p left r right) =
     tested (relation_of r) (sum_of left) (sum_of right) comparison_with (unbuilt_value left) (unbuilt_value right) p (sum_formed left) (sum_formed right)
 comparison_formed e = own (unbuilt_value e) (place_of e)
 
@@ -164,39 +164,39 @@ mutual
   statement_formed (Labelled (label ∷ labels) basic) = own (unbuilt_basic basic) label.place
 
   basic_formed : (x : Basic) → is_some (basic_of x) ≡ is_none (unbuilt_basic x)
-  basic_formed (Empty p) = refl
-  basic_formed (Assigned p receivers value) = assigned (target_of receivers) (sum_of value) (tree.Assigned p) (first_of unbuilt_reference receivers) (unbuilt_value value) (is_single receivers) p (target_formed receivers) (sum_formed value)
-  basic_formed (Chosen p condition consequence alternative) =
+  basic_formed (Null p) = refl
+  basic_formed (Assignment p receivers value) = assigned (target_of receivers) (sum_of value) (tree.Assigned p) (first_of unbuilt_reference receivers) (unbuilt_value value) (is_single receivers) p (target_formed receivers) (sum_formed value)
+  basic_formed (If p condition consequence alternative) =
       triple (comparison_of condition) (statement_of consequence) (alternative_of alternative) (tree.Chosen p) (unbuilt_condition condition) (unbuilt_statement consequence) (unbuilt_alternative alternative)
       (comparison_formed condition) (statement_formed consequence) (alternative_formed alternative)
-  basic_formed (Grouped p group) = own (unbuilt_in_group group) p
-  basic_formed (Selected p selector alternative group) = own (option_or (option_or (unbuilt_value selector) (unbuilt_alternative alternative)) (unbuilt_in_group group)) p
-  basic_formed (Looped p (AsLong q condition) (Groups body None)) =
+  basic_formed (Do p group) = own (unbuilt_in_group group) p
+  basic_formed (DoCase p selector alternative group) = own (option_or (option_or (unbuilt_value selector) (unbuilt_alternative alternative)) (unbuilt_in_group group)) p
+  basic_formed (DoLoop p (While q condition) (Groups body None)) =
       pair (comparison_of condition) (body_of body) (tree.Looped p) (unbuilt_condition condition) (unbuilt_statements body) (comparison_formed condition) (body_formed body)
       ∙ added_none (option_or (unbuilt_condition condition) (unbuilt_statements body))
-  basic_formed (Looped p (AsLong q condition) (Groups body (Some x))) = own (option_or (unbuilt_condition condition) (unbuilt_statements body)) p
-  basic_formed (Looped p (Unless q condition) (Groups body end)) = own (option_or (unbuilt_condition condition) (unbuilt_statements body)) p
-  basic_formed (Ranged p temporary variable span guard group) = own (option_or (option_or (unbuilt_span span) (if_there unbuilt_guard guard)) (unbuilt_in_group group)) p
-  basic_formed (Left p label) = refl
-  basic_formed (Repeated p label) = refl
-  basic_formed (Returned p value) = own (if_there unbuilt_value value) p
-  basic_formed (CallsBlock p n arguments receivers) = own (option_or (unbuilt_values arguments) (first_of unbuilt_reference receivers)) p
-  basic_formed (Inputs p channel receivers) = own (option_or (unbuilt_channel channel) (first_of unbuilt_reference receivers)) p
-  basic_formed (Outputs p channel items) = pair (channel_of channel) (sums_of items) (tree.Written p) (unbuilt_channel channel) (unbuilt_values items) (channel_formed channel) (sums_formed items)
-  basic_formed (Updates p body close) = own (unbuilt_statements body) p
+  basic_formed (DoLoop p (While q condition) (Groups body (Some x))) = own (option_or (unbuilt_condition condition) (unbuilt_statements body)) p
+  basic_formed (DoLoop p (Until q condition) (Groups body end)) = own (option_or (unbuilt_condition condition) (unbuilt_statements body)) p
+  basic_formed (DoFor p temporary variable span guard group) = own (option_or (option_or (unbuilt_span span) (if_there unbuilt_guard guard)) (unbuilt_in_group group)) p
+  basic_formed (Exit p label) = refl
+  basic_formed (Repeat p label) = refl
+  basic_formed (Return p value) = own (if_there unbuilt_value value) p
+  basic_formed (Call p n arguments receivers) = own (option_or (unbuilt_values arguments) (first_of unbuilt_reference receivers)) p
+  basic_formed (Read p channel receivers) = own (option_or (unbuilt_channel channel) (first_of unbuilt_reference receivers)) p
+  basic_formed (Write p channel items) = pair (channel_of channel) (sums_of items) (tree.Written p) (unbuilt_channel channel) (unbuilt_values items) (channel_formed channel) (sums_formed items)
+  basic_formed (Update p body close) = own (unbuilt_statements body) p
   basic_formed (Scheduled p schedule) = own (unbuilt_schedule schedule) p
-  basic_formed (Cancelled p names) = refl
-  basic_formed (Terminated p names) = refl
-  basic_formed (Waits p time) = own (unbuilt_value time) p
-  basic_formed (WaitsUntil p time) = own (unbuilt_value time) p
-  basic_formed (WaitsForDependents p) = refl
-  basic_formed (WaitsFor p event) = own (unbuilt_value event) p
-  basic_formed (Acts event) = refl
-  basic_formed (Prioritizes p n priority) = own (unbuilt_value priority) p
-  basic_formed (Handles p selector handler) = own (unbuilt_statement handler) p
-  basic_formed (Answers p selector response event) = refl
-  basic_formed (Forgets p selector) = refl
-  basic_formed (Sends p group number) = refl
+  basic_formed (Cancel p names) = refl
+  basic_formed (Terminate p names) = refl
+  basic_formed (Wait p time) = own (unbuilt_value time) p
+  basic_formed (WaitUntil p time) = own (unbuilt_value time) p
+  basic_formed (WaitForDependent p) = refl
+  basic_formed (WaitFor p event) = own (unbuilt_value event) p
+  basic_formed (Event event) = refl
+  basic_formed (UpdatePriority p n priority) = own (unbuilt_value priority) p
+  basic_formed (OnErrorStatement p selector handler) = own (unbuilt_statement handler) p
+  basic_formed (OnErrorResponse p selector response event) = refl
+  basic_formed (OffError p selector) = refl
+  basic_formed (SendError p group number) = refl
 
   alternative_formed : (x : Alternative) → is_some (alternative_of x) ≡ is_none (unbuilt_alternative x)
   alternative_formed NoAlternative = refl
@@ -209,7 +209,7 @@ mutual
 attributes_formed : (x : Naming) (attributes : List Attribute) → is_some (declared_of x attributes) ≡ is_none (option_or (first_of unbuilt_attribute attributes) (unless (is_arranged attributes) x.place))
 unfolding declared_of first_of unbuilt_attribute unbuilt_kind unbuilt_initials unbuilt_initial is_arranged is_integer ends_well is_integer_kind is_initial is_one_value is_valued are_none is_empty
 attributes_formed x (Typed (IntegerKind p) ∷ []) = refl
-attributes_formed x (Typed (IntegerKind p) ∷ InitialValues q (MoreInitials (Valued value) NoInitials) ∷ []) =
+attributes_formed x (Typed (IntegerKind p) ∷ InitialValues q (MoreInitials (Value value) NoInitials) ∷ []) =
     map_some (λ i. declaration_at x (Some i)) (initial_of value) ∙ but_formed (is_some (initial_of value)) value
     ∙ added_none (unbuilt_but (is_some (initial_of value)) value)
     ∙ added_none (option_or (unbuilt_but (is_some (initial_of value)) value) None)
@@ -222,11 +222,11 @@ declared_formed item = attributes_formed item.name item.attributes
 
 declaration_formed : (d : Declaration) → is_some (declaration_of d) ≡ is_none (unbuilt_declaration d)
 unfolding declaration_of unbuilt_declaration first_of is_empty is_single
-declaration_formed (Declares p [] []) = refl
-declaration_formed (Declares p [] (item ∷ [])) = declared_formed item ∙ added_none (unbuilt_declared item) ∙ added_none (option_or (unbuilt_declared item) None)
-declaration_formed (Declares p [] (item ∷ item' ∷ items)) = own (first_of unbuilt_declared (item ∷ item' ∷ items)) p
-declaration_formed (Declares p (x ∷ xs) items) = own (option_or (first_of unbuilt_attribute (x ∷ xs)) (first_of unbuilt_declared items)) p
-declaration_formed (Structures p name parts) = own (first_of unbuilt_part parts) p
+declaration_formed (Declare p [] []) = refl
+declaration_formed (Declare p [] (item ∷ [])) = declared_formed item ∙ added_none (unbuilt_declared item) ∙ added_none (option_or (unbuilt_declared item) None)
+declaration_formed (Declare p [] (item ∷ item' ∷ items)) = own (first_of unbuilt_declared (item ∷ item' ∷ items)) p
+declaration_formed (Declare p (x ∷ xs) items) = own (option_or (first_of unbuilt_attribute (x ∷ xs)) (first_of unbuilt_declared items)) p
+declaration_formed (Structure p name parts) = own (first_of unbuilt_part parts) p
 
 declarations_formed : (ds : List Declaration) → is_some (declarations_of ds) ≡ is_none (first_of unbuilt_declaration ds)
 unfolding declarations_of first_of
@@ -246,7 +246,7 @@ closed_formed false x y make c d p h k = own (option_or c d) p
 
 block_formed : (x : Block) → is_some (block_of x) ≡ is_none (unbuilt_block x)
 unfolding block_of unbuilt_block unbuilt_in_head is_program
-block_formed (BlockOf name (ProgramHead p) ds es close) =
+block_formed (BlockOf name (Program p) ds es close) =
     closed_formed (closes name.name close) (declarations_of ds) (elements_of es) (unit_with name) (first_of unbuilt_declaration ds) (unbuilt_elements es) name.place (declarations_formed ds) (elements_formed es)
 block_formed (BlockOf name head ds es close) = own (option_or (option_or (unbuilt_in_head head) (first_of unbuilt_declaration ds)) (unbuilt_elements es)) name.place
 
@@ -256,7 +256,7 @@ split_formed a b h = ap (λ s. s && is_none b) h ∙ or_none a b
 
 preface_formed : (x : Preface) → false ≡ is_none (unbuilt_preface x)
 unfolding unbuilt_preface unbuilt_template
-preface_formed (Includes p name) = refl
+preface_formed (Include p name) = refl
 preface_formed (Templates t) = own (option_or (unbuilt_in_head t.head) (first_of unbuilt_declaration t.declarations)) t.name.place
 
 prefaces_formed : (xs : List Preface) (x : Block) → is_some (elim xs [ [] ↦ block_of x | y ∷ ys ↦ None ]) ≡ is_none (option_or (first_of unbuilt_preface xs) (unbuilt_block x))

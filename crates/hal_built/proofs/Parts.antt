@@ -3,9 +3,9 @@ use Rattle.std.proofs.Common.{◌≡◌, ℕ, List, [], ◌∷◌, map, Option, 
 use Rattle.std.specs.Option.{option_map, option_and_then}
 use Rattle.hal_base.specs.declared.refusal.Place.{Place}
 use Rattle.hal_base.specs.declared.limits.TheConstants.{CHANNEL_COUNT}
-use Rattle.hal_grammar.specs.Leaves.{Naming, Sign, Added, Subtracted, Literal, WholeNumber}
-use Rattle.hal_grammar.specs.Expressions.{Expression, Literally, Referred, Summed, Terms, NoTerms, MoreTerms, Refers, Subscript, Unsubscripted, place_of}
-use Rattle.hal_grammar.specs.Declarations.{IntegerKind, Attribute, Typed, Valued, InitialValues, NoInitials, MoreInitials}
+use Rattle.hal_grammar.specs.Leaves.{Naming, Sign, Plus, Minus, LiteralValue, Integer}
+use Rattle.hal_grammar.specs.Expressions.{Expression, Literal, Referred, Sum, Terms, NoTerms, MoreTerms, Refers, Subscript, Unsubscripted, place_of}
+use Rattle.hal_grammar.specs.Declarations.{IntegerKind, Attribute, Typed, Value, InitialValues, NoInitials, MoreInitials}
 use Rattle.hal_tree.specs.declared.expression.Reference as rust-reference
 use Rattle.hal_tree.specs.SeenLeaves.{seen_name}
 use Rattle.hal_tree.specs.SeenExpressions.{seen_reference, seen_subscript}
@@ -34,65 +34,65 @@ pub named_some : (r : rust-reference.Reference) (m : List ℕ) → Some m ≡ ta
 named_some r m e = rw (made_reference r) (name_in r.place r.name (map seen_name r.further.items) (seen_subscript r.subscript) m (rw (made_reference r) at e))
 
 -- an integer literal, as an operand
-pub no_numbered : (p : Place) (l : Literal) → None ≡ number_in l → None ≡ operand_of (Literally p l)
+pub no_numbered : (p : Place) (l : LiteralValue) → None ≡ number_in l → None ≡ operand_of (Literal p l)
 unfolding operand_of number_in
-no_numbered p (WholeNumber n) e = absurd (cc e)
+no_numbered p (Integer n) e = absurd (cc e)
 no_numbered p l e = refl
 
-pub numbered : (p : Place) (l : Literal) {n : ℕ} → Some n ≡ number_in l → Some (operand_at p (operand.Number n)) ≡ operand_of (Literally p l)
+pub numbered : (p : Place) (l : LiteralValue) {n : ℕ} → Some n ≡ number_in l → Some (operand_at p (operand.Number n)) ≡ operand_of (Literal p l)
 unfolding operand_of number_in
-numbered p (WholeNumber m) e = ap (λ o. option_map (λ k. operand_at p (operand.Number k)) o) e
+numbered p (Integer m) e = ap (λ o. option_map (λ k. operand_at p (operand.Number k)) o) e
 numbered p l e = absurd (cc e)
 
 pub no_channel : (t : Expression) → None ≡ whole_number t → None ≡ channel_of t
 unfolding channel_of whole_number number_in
-no_channel (Literally p (WholeNumber n)) e = absurd (cc e)
-no_channel (Literally p l) e = refl
+no_channel (Literal p (Integer n)) e = absurd (cc e)
+no_channel (Literal p l) e = refl
 no_channel t e = refl
 
 pub channel_is : (t : Expression) {n : ℕ} → Some n ≡ whole_number t → (if nat_lt n CHANNEL_COUNT then Some (channel_at (place_of t) n) else None) ≡ channel_of t
 unfolding channel_of whole_number number_in
-channel_is (Literally p (WholeNumber m)) e = ap (λ o. option_and_then (λ k. if nat_lt k CHANNEL_COUNT then Some (channel_at p k) else None) o) e
-channel_is (Literally p l) e = absurd (cc e)
+channel_is (Literal p (Integer m)) e = ap (λ o. option_and_then (λ k. if nat_lt k CHANNEL_COUNT then Some (channel_at p k) else None) o) e
+channel_is (Literal p l) e = absurd (cc e)
 channel_is t e = absurd (cc e)
 
 -- an integer literal, as an initial value
-pub no_positive : (p : Place) (l : Literal) → None ≡ number_in l → None ≡ initial_of (Literally p l)
+pub no_positive : (p : Place) (l : LiteralValue) → None ≡ number_in l → None ≡ initial_of (Literal p l)
 unfolding initial_of number_in
-no_positive p (WholeNumber n) e = absurd (cc e)
+no_positive p (Integer n) e = absurd (cc e)
 no_positive p l e = refl
 
-pub positive : (p : Place) (l : Literal) {n : ℕ} → Some n ≡ number_in l → (if nat_le n 32767 then Some (initial_at p (pos n)) else None) ≡ initial_of (Literally p l)
+pub positive : (p : Place) (l : LiteralValue) {n : ℕ} → Some n ≡ number_in l → (if nat_le n 32767 then Some (initial_at p (pos n)) else None) ≡ initial_of (Literal p l)
 unfolding initial_of number_in
-positive p (WholeNumber m) e = ap (λ o. option_and_then (λ k. if nat_le k 32767 then Some (initial_at p (pos k)) else None) o) e
+positive p (Integer m) e = ap (λ o. option_and_then (λ k. if nat_le k 32767 then Some (initial_at p (pos k)) else None) o) e
 positive p l e = absurd (cc e)
 
 -- a sum that doesn't begin with a minus is no initial value
-pub opened : (p : Place) (o : Option Sign) (t : Expression) (ts : Terms) → (Some Subtracted ≡ o → ⊥) → None ≡ initial_of (Summed p o t ts)
+pub opened : (p : Place) (o : Option Sign) (t : Expression) (ts : Terms) → (Some Minus ≡ o → ⊥) → None ≡ initial_of (Sum p o t ts)
 unfolding initial_of
 opened p None t ts h = refl
-opened p (Some Added) t ts h = refl
-opened p (Some Subtracted) t ts h = absurd (h refl)
+opened p (Some Plus) t ts h = refl
+opened p (Some Minus) t ts h = absurd (h refl)
 
 -- nor is one of several operands
-pub longer : (p : Place) (o : Option Sign) (t : Expression) (q : Place) (s : Sign) (x : Expression) (ts : Terms) → None ≡ initial_of (Summed p o t (MoreTerms q s x ts))
+pub longer : (p : Place) (o : Option Sign) (t : Expression) (q : Place) (s : Sign) (x : Expression) (ts : Terms) → None ≡ initial_of (Sum p o t (MoreTerms q s x ts))
 unfolding initial_of
 longer p None t q s x ts = refl
-longer p (Some Added) t q s x ts = refl
-longer p (Some Subtracted) (Literally at (WholeNumber n)) q s x ts = refl
-longer p (Some Subtracted) t q s x ts = refl
+longer p (Some Plus) t q s x ts = refl
+longer p (Some Minus) (Literal at (Integer n)) q s x ts = refl
+longer p (Some Minus) t q s x ts = refl
 
 -- nor a minus before what is no integer literal
-pub no_number : (p : Place) (t : Expression) → None ≡ whole_number t → None ≡ initial_of (Summed p (Some Subtracted) t NoTerms)
+pub no_number : (p : Place) (t : Expression) → None ≡ whole_number t → None ≡ initial_of (Sum p (Some Minus) t NoTerms)
 unfolding initial_of whole_number number_in
-no_number p (Literally q (WholeNumber n)) e = absurd (cc e)
-no_number p (Literally q l) e = refl
+no_number p (Literal q (Integer n)) e = absurd (cc e)
+no_number p (Literal q l) e = refl
 no_number p t e = refl
 
-pub taken : (p : Place) (t : Expression) {n : ℕ} → Some n ≡ whole_number t → (if nat_le n 32768 then Some (initial_at p (pos 0 -ℤ pos n)) else None) ≡ initial_of (Summed p (Some Subtracted) t NoTerms)
+pub taken : (p : Place) (t : Expression) {n : ℕ} → Some n ≡ whole_number t → (if nat_le n 32768 then Some (initial_at p (pos 0 -ℤ pos n)) else None) ≡ initial_of (Sum p (Some Minus) t NoTerms)
 unfolding initial_of whole_number number_in
-taken p (Literally q (WholeNumber m)) e = ap (λ o. option_and_then (λ k. if nat_le k 32768 then Some (initial_at p (pos 0 -ℤ pos k)) else None) o) e
-taken p (Literally q l) e = absurd (cc e)
+taken p (Literal q (Integer m)) e = ap (λ o. option_and_then (λ k. if nat_le k 32768 then Some (initial_at p (pos 0 -ℤ pos k)) else None) o) e
+taken p (Literal q l) e = absurd (cc e)
 taken p t e = absurd (cc e)
 
 pub no_attributes : (x : Naming) → None ≡ declared_of x []
@@ -114,8 +114,8 @@ integer_alone x a e = absurd (cc e)
 
 pub integer_initial : (x : Naming) (a b : Attribute) → true ≡ integer_kind a → option_map (λ i. declaration_at x (Some i)) (one_value b) ≡ declared_of x (a ∷ b ∷ [])
 unfolding declared_of integer_kind one_value
-integer_initial x (Typed (IntegerKind p)) (InitialValues q (MoreInitials (Valued value) NoInitials)) e = refl
-integer_initial x (Typed (IntegerKind p)) (InitialValues q (MoreInitials (Valued value) v)) e = refl
+integer_initial x (Typed (IntegerKind p)) (InitialValues q (MoreInitials (Value value) NoInitials)) e = refl
+integer_initial x (Typed (IntegerKind p)) (InitialValues q (MoreInitials (Value value) v)) e = refl
 integer_initial x (Typed (IntegerKind p)) (InitialValues q (MoreInitials i v)) e = refl
 integer_initial x (Typed (IntegerKind p)) (InitialValues q v) e = refl
 integer_initial x (Typed (IntegerKind p)) b e = refl
@@ -124,8 +124,8 @@ integer_initial x a b e = absurd (cc e)
 
 pub too_many : (x : Naming) (a b c : Attribute) (others : List Attribute) → None ≡ declared_of x (a ∷ b ∷ c ∷ others)
 unfolding declared_of
-too_many x (Typed (IntegerKind p)) (InitialValues q (MoreInitials (Valued value) NoInitials)) c others = refl
-too_many x (Typed (IntegerKind p)) (InitialValues q (MoreInitials (Valued value) v)) c others = refl
+too_many x (Typed (IntegerKind p)) (InitialValues q (MoreInitials (Value value) NoInitials)) c others = refl
+too_many x (Typed (IntegerKind p)) (InitialValues q (MoreInitials (Value value) v)) c others = refl
 too_many x (Typed (IntegerKind p)) (InitialValues q (MoreInitials i v)) c others = refl
 too_many x (Typed (IntegerKind p)) (InitialValues q v) c others = refl
 too_many x (Typed (IntegerKind p)) b c others = refl

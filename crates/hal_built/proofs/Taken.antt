@@ -3,8 +3,8 @@ use Rattle.std.proofs.Common.{◌≡◌, ℕ, List, [], ◌∷◌, length, map, 
 use Rattle.std.proofs.lemmas.List.{nil_from_length}
 use Rattle.std.specs.Option.{option_map}
 use Rattle.hal_base.specs.declared.refusal.Place.{Place}
-use Rattle.hal_grammar.specs.Expressions.{Expression, Summed}
-use Rattle.hal_grammar.specs.Declarations.{Declares, InitialValues}
+use Rattle.hal_grammar.specs.Expressions.{Expression, Sum}
+use Rattle.hal_grammar.specs.Declarations.{Declare, InitialValues}
 use Rattle.hal_grammar.specs.Leaves.{Naming, Sign}
 use Rattle.hal_tree.specs.declared.leaf.Sign as rust-sign
 use Rattle.hal_tree.specs.declared.leaf.Sign.TheVariants as sign
@@ -39,17 +39,17 @@ unfolding target_of
 name_of r h s = let nothing : r.further.items ≡ [] = nil_from_length _ h in rw (made_reference r, nothing, s, made_unsubscripted) refl
 
 -- a sum of several operands is no initial value
-pub longer_sum : (p : Place) (o : Option Sign) (t : Expression) (ts : List SignedTerm) (x : SignedTerm) (xs : List SignedTerm) → ts ≡ x ∷ xs → None ≡ initial_of (Summed p o t (terms (map seen_signed ts)))
+pub longer_sum : (p : Place) (o : Option Sign) (t : Expression) (ts : List SignedTerm) (x : SignedTerm) (xs : List SignedTerm) → ts ≡ x ∷ xs → None ≡ initial_of (Sum p o t (terms (map seen_signed ts)))
 unfolding terms
 longer_sum p o t ts x xs e = rw e (longer p o t (seen_signed x).0 (seen_signed x).1 (seen_signed x).2 (terms (map seen_signed xs)))
 
-pub minus_none : (p : Place) (o : Option rust-sign.Sign) (t : Expression) (ts : List SignedTerm) → o ≡ Some sign.Minus → length ts ≡ 0 → None ≡ whole_number t → None ≡ initial_of (Summed p (option_map seen_sign o) t (terms (map seen_signed ts)))
+pub minus_none : (p : Place) (o : Option rust-sign.Sign) (t : Expression) (ts : List SignedTerm) → o ≡ Some sign.Minus → length ts ≡ 0 → None ≡ whole_number t → None ≡ initial_of (Sum p (option_map seen_sign o) t (terms (map seen_signed ts)))
 unfolding terms
 minus_none p o t [] e h w = rw e (no_number p t w)
 minus_none p o t (x ∷ xs) e h w = absurd (omega (arith, h))
 
 pub minus_some : (p : Place) (o : Option rust-sign.Sign) (t : Expression) (ts : List SignedTerm) (n : ℕ) → o ≡ Some sign.Minus → length ts ≡ 0 → Some n ≡ whole_number t →
-    (if nat_le n 32768 then Some (initial_at p (pos 0 -ℤ pos n)) else None) ≡ initial_of (Summed p (option_map seen_sign o) t (terms (map seen_signed ts)))
+    (if nat_le n 32768 then Some (initial_at p (pos 0 -ℤ pos n)) else None) ≡ initial_of (Sum p (option_map seen_sign o) t (terms (map seen_signed ts)))
 unfolding terms
 minus_some p o t [] n e h w = rw e (taken p t w)
 minus_some p o t (x ∷ xs) n e h w = absurd (omega (arith, h))
@@ -77,7 +77,7 @@ declared_initial x attributes a b others (d ∷ rest) o e f h k i = absurd (omeg
 
 -- a declaration of one name
 pub one_item : (p : Place) (common : List Attribute) (items : List Declared) (item : Declared) (others : List Declared) → length common ≡ 0 → items ≡ item ∷ others → length others ≡ 0 →
-    declared_of (seen_name item.name) (map seen_attribute item.attributes.items) ≡ declaration_of (Declares p (map seen_attribute common) (map seen_declared items))
+    declared_of (seen_name item.name) (map seen_attribute item.attributes.items) ≡ declaration_of (Declare p (map seen_attribute common) (map seen_declared items))
 unfolding declaration_of
 one_item p [] items item [] h e k = rw (e, made_declared item) refl
 one_item p (a ∷ common) items item others h e k = absurd (omega (arith, h))

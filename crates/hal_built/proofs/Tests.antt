@@ -3,8 +3,8 @@ use Rattle.std.proofs.Common.{rules, ◌≡◌, List, [], ◌∷◌, Option, Som
 use Rattle.std.specs.Option.{is_some, option_or}
 use Rattle.hal_base.specs.declared.refusal.Place.{Place}
 use Rattle.hal_base.specs.declared.limits.TheConstants.{CHANNEL_COUNT}
-use Rattle.hal_grammar.specs.Leaves.{Sign, Added, Subtracted, Literal, WholeNumber}
-use Rattle.hal_grammar.specs.Expressions.{Expression, Literally, Summed}
+use Rattle.hal_grammar.specs.Leaves.{Sign, Plus, Minus, LiteralValue, Integer}
+use Rattle.hal_grammar.specs.Expressions.{Expression, Literal, Sum}
 use Rattle.hal_grammar.specs.Declarations.{Initial}
 use Rattle.hal_tree.specs.Rows.{SignedTerm, terms, initials, Member, OfStatement, OfBlock, elements}
 use Rattle.hal_built.specs.SecondForm.{channel_at, channel_of, initial_at, initial_of}
@@ -29,25 +29,25 @@ some_where false x = refl
 
 pub channel_tested : (e : Expression) → is_some (channel_of e) ≡ below CHANNEL_COUNT (number_of e)
 unfolding channel_of number_of whole below
-channel_tested (Literally p (WholeNumber n)) = some_where (nat_lt n CHANNEL_COUNT) (channel_at p n)
-channel_tested (Literally p l) = refl
+channel_tested (Literal p (Integer n)) = some_where (nat_lt n CHANNEL_COUNT) (channel_at p n)
+channel_tested (Literal p l) = refl
 channel_tested e = refl
 
-pub literal_tested : (p : Place) (l : Literal) → is_some (initial_of (Literally p l)) ≡ up_to 32767 (whole l)
+pub literal_tested : (p : Place) (l : LiteralValue) → is_some (initial_of (Literal p l)) ≡ up_to 32767 (whole l)
 unfolding initial_of whole up_to
-literal_tested p (WholeNumber n) = some_where (nat_le n 32767) (initial_at p (pos n))
+literal_tested p (Integer n) = some_where (nat_le n 32767) (initial_at p (pos n))
 literal_tested p l = refl
 
-pub negative_tested : (p : Place) (o : Option Sign) (e : Expression) (ts : List SignedTerm) → is_some (initial_of (Summed p o e (terms ts))) ≡ is_negative o e ts
+pub negative_tested : (p : Place) (o : Option Sign) (e : Expression) (ts : List SignedTerm) → is_some (initial_of (Sum p o e (terms ts))) ≡ is_negative o e ts
 unfolding initial_of is_negative is_minus is_empty number_of whole up_to terms
 negative_tested p None e ts = refl
-negative_tested p (Some Added) e ts = refl
-negative_tested p (Some Subtracted) (Literally q (WholeNumber n)) [] = some_where (nat_le n 32768) (initial_at p (pos 0 -ℤ pos n))
-negative_tested p (Some Subtracted) (Literally q l) [] = refl
-negative_tested p (Some Subtracted) e [] = refl
-negative_tested p (Some Subtracted) (Literally q (WholeNumber n)) (t ∷ ts) = refl
-negative_tested p (Some Subtracted) (Literally q l) (t ∷ ts) = refl
-negative_tested p (Some Subtracted) e (t ∷ ts) = refl
+negative_tested p (Some Plus) e ts = refl
+negative_tested p (Some Minus) (Literal q (Integer n)) [] = some_where (nat_le n 32768) (initial_at p (pos 0 -ℤ pos n))
+negative_tested p (Some Minus) (Literal q l) [] = refl
+negative_tested p (Some Minus) e [] = refl
+negative_tested p (Some Minus) (Literal q (Integer n)) (t ∷ ts) = refl
+negative_tested p (Some Minus) (Literal q l) (t ∷ ts) = refl
+negative_tested p (Some Minus) e (t ∷ ts) = refl
 
 pub none_seen : {X : Type 0} (f : X → Initial) (xs : List X) → (length xs == 0) ≡ are_none (initials (map f xs))
 unfolding are_none initials

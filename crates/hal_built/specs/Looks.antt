@@ -2,19 +2,19 @@
 use Rattle.std.specs.Prelude.{ℕ, List, Option, Some, None, Bool, true, false, nat_lt, nat_le, ◌&&◌}
 use Rattle.std.specs.Option.{option_or}
 use Rattle.hal_base.specs.declared.refusal.Place.{Place}
-use Rattle.hal_grammar.specs.Leaves.{Sign, Added, Subtracted, Literal, WholeNumber}
-use Rattle.hal_grammar.specs.Expressions.{Expression, Literally}
+use Rattle.hal_grammar.specs.Leaves.{Sign, Plus, Minus, LiteralValue, Integer}
+use Rattle.hal_grammar.specs.Expressions.{Expression, Literal}
 use Rattle.hal_tree.specs.Rows.{SignedTerm, Member, OfStatement, OfBlock}
 use Rattle.hal_built.specs.Unbuilt.{is_empty, unbuilt_statement, unbuilt_block, place_of_block}
 
 -- the number of an integer
-unfoldable pub whole : Literal → Option ℕ
-whole (WholeNumber n) = Some n
+unfoldable pub whole : LiteralValue → Option ℕ
+whole (Integer n) = Some n
 whole other = None
 
 -- the number of an integer literal
 unfoldable pub number_of : Expression → Option ℕ
-number_of (Literally place literal) = whole literal
+number_of (Literal place literal) = whole literal
 number_of other = None
 
 -- a number below a limit
@@ -30,8 +30,8 @@ up_to limit (Some n) = nat_le n limit
 -- a minus
 unfoldable pub is_minus : Option Sign → Bool
 is_minus None = false
-is_minus (Some Added) = false
-is_minus (Some Subtracted) = true
+is_minus (Some Plus) = false
+is_minus (Some Minus) = true
 
 -- a minus, and a literal up to 32768
 unfoldable pub is_negative : Option Sign → Expression → List SignedTerm → Bool

@@ -5,11 +5,11 @@ use Rattle.std.specs.Option.{option_map, option_and_then}
 use Rattle.std.specs.Cmp.Lexicographic.{pointwise}
 use Rattle.hal_base.specs.declared.refusal.Place.{Place}
 use Rattle.hal_base.specs.declared.limits.TheConstants.{CHANNEL_COUNT}
-use Rattle.hal_grammar.specs.Leaves.{Naming, Sign, Added, Subtracted, Relation, IsEqual, IsLess, IsGreater, WholeNumber}
-use Rattle.hal_grammar.specs.Expressions.{Expression, Compared, Summed, Literally, Referred, Expressions, NoExpressions, MoreExpressions, Terms, NoTerms, MoreTerms, Reference, Refers, Unsubscripted}
-use Rattle.hal_grammar.specs.Declarations.{IntegerKind, Valued, NoInitials, MoreInitials, Attribute, Typed, InitialValues, Declaration, Declares}
-use Rattle.hal_grammar.specs.Statements.{AsLong, Statement, Labelled, Basic, Assigned, Chosen, Looped, Outputs, Alternative, NoAlternative, Otherwise, Groups, Statements, NoStatements, MoreStatements}
-use Rattle.hal_grammar.specs.Units.{ProgramHead, Block, BlockOf, Elements, NoElements, StatementFirst, File}
+use Rattle.hal_grammar.specs.Leaves.{Naming, Sign, Plus, Minus, Relation, Equal, Less, Greater, Integer}
+use Rattle.hal_grammar.specs.Expressions.{Expression, Compare, Sum, Literal, Referred, Expressions, NoExpressions, MoreExpressions, Terms, NoTerms, MoreTerms, Reference, Refers, Unsubscripted}
+use Rattle.hal_grammar.specs.Declarations.{IntegerKind, Value, NoInitials, MoreInitials, Attribute, Typed, InitialValues, Declaration, Declare}
+use Rattle.hal_grammar.specs.Statements.{While, Statement, Labelled, Basic, Assignment, If, DoLoop, Write, Alternative, NoAlternative, Otherwise, Groups, Statements, NoStatements, MoreStatements}
+use Rattle.hal_grammar.specs.Units.{Program, Block, BlockOf, Elements, NoElements, StatementFirst, File}
 use Rattle.hal_core.specs.declared.tree.Declaration as tree-declaration
 use Rattle.hal_core.specs.declared.tree.Initial as tree-initial
 use Rattle.hal_core.specs.declared.tree.Channel.{Channel}
@@ -32,13 +32,13 @@ operand_at p k = record { place = p; kind = k }
 
 -- an integer literal, or a name alone
 unfoldable pub operand_of : Expression → Option Operand
-operand_of (Literally p (WholeNumber n)) = Some (operand_at p (operand.Number n))
+operand_of (Literal p (Integer n)) = Some (operand_at p (operand.Number n))
 operand_of (Referred (Refers p n [] Unsubscripted)) = Some (operand_at p (operand.Variable n))
 operand_of other = None
 
 abbrev pub sign_of : Sign → tree-sign.Sign
-sign_of Added = sign.Plus
-sign_of Subtracted = sign.Minus
+sign_of Plus = sign.Plus
+sign_of Minus = sign.Minus
 
 abbrev pub term_at : Place → Sign → Operand → Term
 term_at p s x = record { place = p; sign = sign_of s; operand = x }
@@ -53,7 +53,7 @@ sum_with x xs = record { first = x; others = xs }
 
 -- an operand, or a sum of operands that begins without a sign
 unfoldable pub sum_of : Expression → Option tree.SumTree
-sum_of (Summed p None first others) = both (operand_of first) (terms_of others) sum_with
+sum_of (Sum p None first others) = both (operand_of first) (terms_of others) sum_with
 sum_of other = option_map (λ x. sum_with x []) (operand_of other)
 
 -- sums one after another
@@ -63,9 +63,9 @@ sums_of (MoreExpressions t ts) = both (sum_of t) (sums_of ts) (λ x xs. x ∷ xs
 
 -- equal, less, greater
 unfoldable pub relation_of : Relation → Option tree-relation.Relation
-relation_of IsEqual = Some relation.Equal
-relation_of IsLess = Some relation.Less
-relation_of IsGreater = Some relation.Greater
+relation_of Equal = Some relation.Equal
+relation_of Less = Some relation.Less
+relation_of Greater = Some relation.Greater
 relation_of other = None
 
 abbrev pub comparison_with : tree-relation.Relation → tree.SumTree → tree.SumTree → tree.ComparisonTree
@@ -73,7 +73,7 @@ comparison_with r x y = record { left = x; relation = r; right = y }
 
 -- a comparison of sums
 unfoldable pub comparison_of : Expression → Option tree.ComparisonTree
-comparison_of (Compared p left r right) = option_and_then (λ r'. both (sum_of left) (sum_of right) (comparison_with r')) (relation_of r)
+comparison_of (Compare p left r right) = option_and_then (λ r'. both (sum_of left) (sum_of right) (comparison_with r')) (relation_of r)
 comparison_of other = None
 
 abbrev pub channel_at : Place → ℕ → Channel
@@ -81,7 +81,7 @@ channel_at p n = record { place = p; number = n }
 
 -- the number of a channel
 unfoldable pub channel_of : Expression → Option Channel
-channel_of (Literally p (WholeNumber n)) = if nat_lt n CHANNEL_COUNT then Some (channel_at p n) else None
+channel_of (Literal p (Integer n)) = if nat_lt n CHANNEL_COUNT then Some (channel_at p n) else None
 channel_of other = None
 
 -- a name alone
@@ -97,11 +97,11 @@ unfoldable mutual
 
   -- an assignment to a name, WRITE, IF, DO WHILE
   pub basic_of : Basic → Option tree.StatementTree
-  basic_of (Assigned p receivers value) = both (target_of receivers) (sum_of value) (tree.Assigned p)
-  basic_of (Outputs p channel items) = both (channel_of channel) (sums_of items) (tree.Written p)
-  basic_of (Chosen p condition consequence alternative) =
+  basic_of (Assignment p receivers value) = both (target_of receivers) (sum_of value) (tree.Assigned p)
+  basic_of (Write p channel items) = both (channel_of channel) (sums_of items) (tree.Written p)
+  basic_of (If p condition consequence alternative) =
       option_and_then (λ c. both (statement_of consequence) (alternative_of alternative) (tree.Chosen p c)) (comparison_of condition)
-  basic_of (Looped p (AsLong q condition) (Groups body None)) = both (comparison_of condition) (body_of body) (tree.Looped p)
+  basic_of (DoLoop p (While q condition) (Groups body None)) = both (comparison_of condition) (body_of body) (tree.Looped p)
   basic_of other = None
 
   -- what stands after ELSE, if there is one
@@ -119,8 +119,8 @@ initial_at p v = record { place = p; value = v }
 
 -- -32768 to 32767
 unfoldable pub initial_of : Expression → Option tree-initial.Initial
-initial_of (Literally p (WholeNumber n)) = if nat_le n 32767 then Some (initial_at p (pos n)) else None
-initial_of (Summed p (Some Subtracted) (Literally q (WholeNumber n)) NoTerms) = if nat_le n 32768 then Some (initial_at p (pos 0 -ℤ pos n)) else None
+initial_of (Literal p (Integer n)) = if nat_le n 32767 then Some (initial_at p (pos n)) else None
+initial_of (Sum p (Some Minus) (Literal q (Integer n)) NoTerms) = if nat_le n 32768 then Some (initial_at p (pos 0 -ℤ pos n)) else None
 initial_of other = None
 
 abbrev pub declaration_at : Naming → Option tree-initial.Initial → tree-declaration.Declaration
@@ -129,12 +129,12 @@ declaration_at x i = record { place = x.place; name = x.name; initial = i }
 -- INTEGER, and an initial value or none
 unfoldable pub declared_of : Naming → List Attribute → Option tree-declaration.Declaration
 declared_of x (Typed (IntegerKind p) ∷ []) = Some (declaration_at x None)
-declared_of x (Typed (IntegerKind p) ∷ InitialValues q (MoreInitials (Valued value) NoInitials) ∷ []) = option_map (λ i. declaration_at x (Some i)) (initial_of value)
+declared_of x (Typed (IntegerKind p) ∷ InitialValues q (MoreInitials (Value value) NoInitials) ∷ []) = option_map (λ i. declaration_at x (Some i)) (initial_of value)
 declared_of x other = None
 
 -- one name
 unfoldable pub declaration_of : Declaration → Option tree-declaration.Declaration
-declaration_of (Declares p [] (item ∷ [])) = declared_of item.name item.attributes
+declaration_of (Declare p [] (item ∷ [])) = declared_of item.name item.attributes
 declaration_of other = None
 
 -- declarations one after another
@@ -158,7 +158,7 @@ unit_with x ds body = record { place = x.place; name = x.name; declarations = ds
 
 -- a PROGRAM
 unfoldable pub block_of : Block → Option tree.UnitTree
-block_of (BlockOf x (ProgramHead p) declarations elements close) =
+block_of (BlockOf x (Program p) declarations elements close) =
     if closes x.name close then both (declarations_of declarations) (elements_of elements) (unit_with x) else None
 block_of other = None
 

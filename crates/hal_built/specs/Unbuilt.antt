@@ -3,11 +3,11 @@
 use Rattle.std.specs.Prelude.{not, List, [], ◌∷◌, Option, Some, None, Bool, true, false, ◌&&◌}
 use Rattle.std.specs.Option.{option_or, is_some}
 use Rattle.hal_base.specs.declared.refusal.Place.{Place}
-use Rattle.hal_grammar.specs.Leaves.{Naming, Literal, WholeNumber}
-use Rattle.hal_grammar.specs.Expressions.{Expression, Ors, Ands, Compared, Joined, Summed, Multiplied, Powered, Negated, Literally, Thousandths, Referred, Called, Converted, Enclosed, Expressions, NoExpressions, MoreExpressions, Terms, NoTerms, MoreTerms, Reference, Refers, Subscript, Unsubscripted, ByName, ByInteger, ByParts, Subscripts, NoSubscripts, MoreSubscripts, Sub, EveryPlace, OnePlace, Range, Portion, Position, FromBeginning, FromEnd, place_of}
-use Rattle.hal_grammar.specs.Declarations.{Kind, IntegerKind, BooleanKind, EventKind, BitKind, CharacterKind, StructureKind, Initial, Valued, LiteralTimes, NameTimes, ListTimes, Initials, NoInitials, MoreInitials, Attribute, Dimensions, Typed, Marked, LockGroup, LockAny, InitialValues, ConstantValues, Declared, Part, Declaration, Declares, Structures}
-use Rattle.hal_grammar.specs.Statements.{Guard, AsLong, Unless, Span, Stepped, Listed, Start, StartAt, StartIn, StartOn, Cycle, Cyclic, CyclicEvery, CyclicAfter, Schedule, Statement, Labelled, Basic, Empty, Assigned, Chosen, Grouped, Selected, Looped, Ranged, Left, Repeated, Returned, CallsBlock, Inputs, Outputs, Updates, Scheduled, Cancelled, Terminated, Waits, WaitsUntil, WaitsForDependents, WaitsFor, Acts, Prioritizes, Handles, Answers, Forgets, Sends, Alternative, NoAlternative, Otherwise, Group, Groups, Statements, NoStatements, MoreStatements}
-use Rattle.hal_grammar.specs.Units.{Returns, NoKind, HasKind, Head, ProgramHead, CompoolHead, TaskHead, ProcedureHead, FunctionHead, Block, BlockOf, Elements, NoElements, StatementFirst, BlockFirst, Template, Preface, Includes, Templates, File}
+use Rattle.hal_grammar.specs.Leaves.{Naming, LiteralValue, Integer}
+use Rattle.hal_grammar.specs.Expressions.{Expression, Or, And, Compare, Cat, Sum, Product, Power, Not, Literal, Decimal, Referred, Called, Convert, Parenthesis, Expressions, NoExpressions, MoreExpressions, Terms, NoTerms, MoreTerms, Reference, Refers, Subscript, Unsubscripted, ByName, ByInteger, ByParts, Subscripts, NoSubscripts, MoreSubscripts, Sub, Every, One, Range, Portion, Position, FromBeginning, FromEnd, place_of}
+use Rattle.hal_grammar.specs.Declarations.{Kind, IntegerKind, BooleanKind, EventKind, BitKind, CharacterKind, StructureKind, Initial, Value, LiteralTimes, NameTimes, ListTimes, Initials, NoInitials, MoreInitials, Attribute, Dimensions, Typed, Marked, LockGroup, LockAny, InitialValues, ConstantValues, Declared, Part, Declaration, Declare, Structure}
+use Rattle.hal_grammar.specs.Statements.{Guard, While, Until, Span, Stepped, Listed, Start, StartAt, StartIn, StartOn, Cycle, Cyclic, CyclicEvery, CyclicAfter, Schedule, Statement, Labelled, Basic, Null, Assignment, If, Do, DoCase, DoLoop, DoFor, Exit, Repeat, Return, Call, Read, Write, Update, Scheduled, Cancel, Terminate, Wait, WaitUntil, WaitForDependent, WaitFor, Event, UpdatePriority, OnErrorStatement, OnErrorResponse, OffError, SendError, Alternative, NoAlternative, Otherwise, Group, Groups, Statements, NoStatements, MoreStatements}
+use Rattle.hal_grammar.specs.Units.{Returns, NoKind, HasKind, Head, Program, Compool, Task, Procedure, Function, Block, BlockOf, Elements, NoElements, StatementFirst, BlockFirst, Template, Preface, Include, Templates, File}
 use Rattle.hal_built.specs.SecondForm.{relation_of, channel_of, initial_of, closes}
 
 -- this place, but where the test holds
@@ -26,8 +26,8 @@ if_there find None = None
 if_there find (Some x) = find x
 
 -- an integer
-unfoldable pub is_whole : Literal → Bool
-is_whole (WholeNumber n) = true
+unfoldable pub is_whole : LiteralValue → Bool
+is_whole (Integer n) = true
 is_whole other = false
 
 -- no members
@@ -46,27 +46,27 @@ is_alone further subscript = is_empty further && is_bare subscript
 
 -- a sum that begins without a sign is a value, but no operand
 unfoldable pub bare_sum : Expression → Option Place
-bare_sum (Summed place opening first others) = unless (is_some opening) place
+bare_sum (Sum place opening first others) = unless (is_some opening) place
 bare_sum other = None
 
 unfoldable mutual
   -- a value: a sum that begins without a sign, or an operand
   pub unbuilt_value : Expression → Option Place
-  unbuilt_value (Ors place first others) = option_or (option_or (unbuilt_value first) (unbuilt_values others)) (Some place)
-  unbuilt_value (Ands place first others) = option_or (option_or (unbuilt_value first) (unbuilt_values others)) (Some place)
-  unbuilt_value (Compared place left relation right) = option_or (option_or (unbuilt_value left) (unbuilt_value right)) (Some place)
-  unbuilt_value (Joined place first others) = option_or (option_or (unbuilt_value first) (unbuilt_values others)) (Some place)
-  unbuilt_value (Summed place opening first others) =
+  unbuilt_value (Or place first others) = option_or (option_or (unbuilt_value first) (unbuilt_values others)) (Some place)
+  unbuilt_value (And place first others) = option_or (option_or (unbuilt_value first) (unbuilt_values others)) (Some place)
+  unbuilt_value (Compare place left relation right) = option_or (option_or (unbuilt_value left) (unbuilt_value right)) (Some place)
+  unbuilt_value (Cat place first others) = option_or (option_or (unbuilt_value first) (unbuilt_values others)) (Some place)
+  unbuilt_value (Sum place opening first others) =
       option_or (option_or (option_or (unbuilt_value first) (bare_sum first)) (unbuilt_terms others)) (unless (not (is_some opening)) place)
-  unbuilt_value (Multiplied place first others) = option_or (option_or (unbuilt_value first) (unbuilt_values others)) (Some place)
-  unbuilt_value (Powered place base exponent) = option_or (option_or (unbuilt_value base) (unbuilt_value exponent)) (Some place)
-  unbuilt_value (Negated place operand) = option_or (unbuilt_value operand) (Some place)
-  unbuilt_value (Literally place literal) = unless (is_whole literal) place
-  unbuilt_value (Thousandths place number) = Some place
+  unbuilt_value (Product place first others) = option_or (option_or (unbuilt_value first) (unbuilt_values others)) (Some place)
+  unbuilt_value (Power place base exponent) = option_or (option_or (unbuilt_value base) (unbuilt_value exponent)) (Some place)
+  unbuilt_value (Not place operand) = option_or (unbuilt_value operand) (Some place)
+  unbuilt_value (Literal place literal) = unless (is_whole literal) place
+  unbuilt_value (Decimal place number) = Some place
   unbuilt_value (Referred reference) = unbuilt_reference reference
   unbuilt_value (Called place name arguments) = option_or (unbuilt_values arguments) (Some place)
-  unbuilt_value (Converted place conversion operand) = option_or (unbuilt_value operand) (Some place)
-  unbuilt_value (Enclosed place inner) = option_or (unbuilt_value inner) (Some place)
+  unbuilt_value (Convert place conversion operand) = option_or (unbuilt_value operand) (Some place)
+  unbuilt_value (Parenthesis place inner) = option_or (unbuilt_value inner) (Some place)
 
   -- values one after another
   pub unbuilt_values : Expressions → Option Place
@@ -97,8 +97,8 @@ unfoldable mutual
 
   -- in one of them
   pub unbuilt_sub : Sub → Option Place
-  unbuilt_sub (EveryPlace place) = None
-  unbuilt_sub (OnePlace position) = unbuilt_position position
+  unbuilt_sub (Every place) = None
+  unbuilt_sub (One position) = unbuilt_position position
   unbuilt_sub (Range first last) = option_or (unbuilt_position first) (unbuilt_position last)
   unbuilt_sub (Portion count first) = option_or (unbuilt_value count) (unbuilt_position first)
 
@@ -113,7 +113,7 @@ unbuilt_operand e = option_or (unbuilt_value e) (bare_sum e)
 
 -- a condition: two values that are compared by a relation with a meaning
 unfoldable pub unbuilt_condition : Expression → Option Place
-unbuilt_condition (Compared place left relation right) =
+unbuilt_condition (Compare place left relation right) =
     option_or (option_or (unbuilt_value left) (unbuilt_value right)) (unless (is_some (relation_of relation)) place)
 unbuilt_condition other = option_or (unbuilt_value other) (Some (place_of other))
 
@@ -129,7 +129,7 @@ unbuilt_channel e = unbuilt_but (is_some (channel_of e)) e
 unfoldable mutual
   -- a value of INITIAL or CONSTANT
   pub unbuilt_initial : Initial → Option Place
-  unbuilt_initial (Valued value) = unbuilt_but (is_some (initial_of value)) value
+  unbuilt_initial (Value value) = unbuilt_but (is_some (initial_of value)) value
   unbuilt_initial (LiteralTimes place count sign at literal) = Some place
   unbuilt_initial (NameTimes place count sign name) = Some place
   unbuilt_initial (ListTimes place count values) = option_or (unbuilt_initials values) (Some place)
@@ -179,7 +179,7 @@ is_integer other = false
 
 -- a value without a count
 unfoldable pub is_valued : Initial → Bool
-is_valued (Valued value) = true
+is_valued (Value value) = true
 is_valued other = false
 
 -- no more values
@@ -222,19 +222,19 @@ is_single other = false
 
 -- a declaration: DECLARE with one name
 unfoldable pub unbuilt_declaration : Declaration → Option Place
-unbuilt_declaration (Declares place common items) =
+unbuilt_declaration (Declare place common items) =
     option_or (option_or (first_of unbuilt_attribute common) (first_of unbuilt_declared items)) (unless (is_empty common && is_single items) place)
-unbuilt_declaration (Structures place name parts) = option_or (first_of unbuilt_part parts) (Some place)
+unbuilt_declaration (Structure place name parts) = option_or (first_of unbuilt_part parts) (Some place)
 
 -- what stands in a guard
 unfoldable pub unbuilt_guard : Guard → Option Place
-unbuilt_guard (AsLong place condition) = unbuilt_condition condition
-unbuilt_guard (Unless place condition) = unbuilt_condition condition
+unbuilt_guard (While place condition) = unbuilt_condition condition
+unbuilt_guard (Until place condition) = unbuilt_condition condition
 
 -- WHILE
 unfoldable pub is_while : Guard → Bool
-is_while (AsLong place condition) = true
-is_while (Unless place condition) = false
+is_while (While place condition) = true
+is_while (Until place condition) = false
 
 -- no name behind END
 unfoldable pub is_unnamed : Group → Bool
@@ -274,39 +274,39 @@ unfoldable mutual
 
   -- an assignment to a name, WRITE, IF, DO WHILE
   pub unbuilt_basic : Basic → Option Place
-  unbuilt_basic (Empty place) = Some place
-  unbuilt_basic (Assigned place receivers value) =
+  unbuilt_basic (Null place) = Some place
+  unbuilt_basic (Assignment place receivers value) =
       option_or (option_or (first_of unbuilt_reference receivers) (unbuilt_value value)) (unless (is_single receivers) place)
-  unbuilt_basic (Chosen place condition consequence alternative) =
+  unbuilt_basic (If place condition consequence alternative) =
       option_or (option_or (unbuilt_condition condition) (unbuilt_statement consequence)) (unbuilt_alternative alternative)
-  unbuilt_basic (Grouped place group) = option_or (unbuilt_in_group group) (Some place)
-  unbuilt_basic (Selected place selector alternative group) =
+  unbuilt_basic (Do place group) = option_or (unbuilt_in_group group) (Some place)
+  unbuilt_basic (DoCase place selector alternative group) =
       option_or (option_or (option_or (unbuilt_value selector) (unbuilt_alternative alternative)) (unbuilt_in_group group)) (Some place)
-  unbuilt_basic (Looped place guard group) = option_or (option_or (unbuilt_guard guard) (unbuilt_in_group group)) (unless (is_while guard && is_unnamed group) place)
-  unbuilt_basic (Ranged place temporary variable span guard group) =
+  unbuilt_basic (DoLoop place guard group) = option_or (option_or (unbuilt_guard guard) (unbuilt_in_group group)) (unless (is_while guard && is_unnamed group) place)
+  unbuilt_basic (DoFor place temporary variable span guard group) =
       option_or (option_or (option_or (unbuilt_span span) (if_there unbuilt_guard guard)) (unbuilt_in_group group)) (Some place)
-  unbuilt_basic (Left place label) = Some place
-  unbuilt_basic (Repeated place label) = Some place
-  unbuilt_basic (Returned place value) = option_or (if_there unbuilt_value value) (Some place)
-  unbuilt_basic (CallsBlock place name arguments receivers) =
+  unbuilt_basic (Exit place label) = Some place
+  unbuilt_basic (Repeat place label) = Some place
+  unbuilt_basic (Return place value) = option_or (if_there unbuilt_value value) (Some place)
+  unbuilt_basic (Call place name arguments receivers) =
       option_or (option_or (unbuilt_values arguments) (first_of unbuilt_reference receivers)) (Some place)
-  unbuilt_basic (Inputs place channel receivers) =
+  unbuilt_basic (Read place channel receivers) =
       option_or (option_or (unbuilt_channel channel) (first_of unbuilt_reference receivers)) (Some place)
-  unbuilt_basic (Outputs place channel items) = option_or (unbuilt_channel channel) (unbuilt_values items)
-  unbuilt_basic (Updates place body close) = option_or (unbuilt_statements body) (Some place)
+  unbuilt_basic (Write place channel items) = option_or (unbuilt_channel channel) (unbuilt_values items)
+  unbuilt_basic (Update place body close) = option_or (unbuilt_statements body) (Some place)
   unbuilt_basic (Scheduled place schedule) = option_or (unbuilt_schedule schedule) (Some place)
-  unbuilt_basic (Cancelled place names) = Some place
-  unbuilt_basic (Terminated place names) = Some place
-  unbuilt_basic (Waits place time) = option_or (unbuilt_value time) (Some place)
-  unbuilt_basic (WaitsUntil place time) = option_or (unbuilt_value time) (Some place)
-  unbuilt_basic (WaitsForDependents place) = Some place
-  unbuilt_basic (WaitsFor place event) = option_or (unbuilt_value event) (Some place)
-  unbuilt_basic (Acts event) = Some event.place
-  unbuilt_basic (Prioritizes place name priority) = option_or (unbuilt_value priority) (Some place)
-  unbuilt_basic (Handles place selector handler) = option_or (unbuilt_statement handler) (Some place)
-  unbuilt_basic (Answers place selector response event) = Some place
-  unbuilt_basic (Forgets place selector) = Some place
-  unbuilt_basic (Sends place group number) = Some place
+  unbuilt_basic (Cancel place names) = Some place
+  unbuilt_basic (Terminate place names) = Some place
+  unbuilt_basic (Wait place time) = option_or (unbuilt_value time) (Some place)
+  unbuilt_basic (WaitUntil place time) = option_or (unbuilt_value time) (Some place)
+  unbuilt_basic (WaitForDependent place) = Some place
+  unbuilt_basic (WaitFor place event) = option_or (unbuilt_value event) (Some place)
+  unbuilt_basic (Event event) = Some event.place
+  unbuilt_basic (UpdatePriority place name priority) = option_or (unbuilt_value priority) (Some place)
+  unbuilt_basic (OnErrorStatement place selector handler) = option_or (unbuilt_statement handler) (Some place)
+  unbuilt_basic (OnErrorResponse place selector response event) = Some place
+  unbuilt_basic (OffError place selector) = Some place
+  unbuilt_basic (SendError place group number) = Some place
 
   -- what stands after ELSE, if there is one
   pub unbuilt_alternative : Alternative → Option Place
@@ -329,15 +329,15 @@ unbuilt_in_returns (HasKind kind precision) = unbuilt_in_kind kind
 
 -- what stands in a head
 unfoldable pub unbuilt_in_head : Head → Option Place
-unbuilt_in_head (ProgramHead place) = None
-unbuilt_in_head (CompoolHead place) = None
-unbuilt_in_head (TaskHead place) = None
-unbuilt_in_head (ProcedureHead place inputs outputs mode) = None
-unbuilt_in_head (FunctionHead place inputs returns mode) = unbuilt_in_returns returns
+unbuilt_in_head (Program place) = None
+unbuilt_in_head (Compool place) = None
+unbuilt_in_head (Task place) = None
+unbuilt_in_head (Procedure place inputs outputs mode) = None
+unbuilt_in_head (Function place inputs returns mode) = unbuilt_in_returns returns
 
 -- PROGRAM
 unfoldable pub is_program : Head → Bool
-is_program (ProgramHead place) = true
+is_program (Program place) = true
 is_program other = false
 
 -- where a unit's name stands
@@ -362,7 +362,7 @@ unbuilt_template t = option_or (option_or (unbuilt_in_head t.head) (first_of unb
 
 -- nor has INCLUDE
 unfoldable pub unbuilt_preface : Preface → Option Place
-unbuilt_preface (Includes place name) = Some place
+unbuilt_preface (Include place name) = Some place
 unbuilt_preface (Templates template) = unbuilt_template template
 
 -- a file of a PROGRAM alone

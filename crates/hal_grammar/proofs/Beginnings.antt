@@ -3,7 +3,7 @@ use Rattle.std.proofs.Common.{◌≡◌, ◌<◌, ◌≤◌, length, refl, arith
 use Rattle.hal_base.specs.declared.refusal.Place.{Place}
 use Rattle.hal_words.specs.declared.reserved.Reserved.TheVariants as reserved
 use Rattle.hal_words.specs.declared.word.Symbol.TheVariants as symbol
-use Rattle.hal_grammar.specs.Leaves.{Sign, Relation, Literal}
+use Rattle.hal_grammar.specs.Leaves.{Sign, Relation, LiteralValue}
 use Rattle.hal_grammar.specs.Expressions.{Expression, Expressions, MoreExpressions, Terms, MoreTerms, Subscript, Subscripts, Sub, Position}
 use Rattle.hal_grammar.specs.Words.{Words, reserved_then, symbol_then, begins, BeginsReserved}
 use Rattle.hal_grammar.specs.SpellsExpressions.{SpellsSign, plus, minus, SpellsRelation, equal, less, greater, at_most, at_least, not_equal, not_less, not_greater, SpellsLiteral, integer, text, bits, true_bit, false_bit, on_bit, off_bit, SpellsExpression, both, ors, SpellsOrs, no_or, or_more, SpellsBoth, comparison, ands, SpellsAnds, no_and, and_more, SpellsComparison, cat, compared, SpellsCat, sum, joined, SpellsCats, no_cat, cat_more, SpellsSum, term, summed, signed, SpellsTerms, no_terms, more_terms, SpellsTerm, factor, multiplied, SpellsFactors, no_factors, more_factors, SpellsFactor, primary, powered, SpellsPrimary, negated, literal, thousandths, referred, called, to_integer, to_bits, to_text, enclosed, SpellsExpressions, last_expression, more_expressions, SpellsSubscript, unsubscripted, by_name, by_integer, by_parts, SpellsSubscripts, last_subscript, more_subscripts, SpellsSub, one_place, range, portion, SpellsPosition, from_beginning}
@@ -28,7 +28,7 @@ pub Opening-later : {b : Words} → Opening b → ¬ BeginsReserved reserved.Not
 Opening-later by_not n = absurd (n begins)
 Opening-later (by_strength h) n = h
 
-pub literal_strength : {l : Literal} {p : Place} {b a : Words} → SpellsLiteral l p b a → strength b ≡ 8
+pub literal_strength : {l : LiteralValue} {p : Place} {b a : Words} → SpellsLiteral l p b a → strength b ≡ 8
 literal_strength integer = refl
 literal_strength text = refl
 literal_strength bits = refl

@@ -6,8 +6,8 @@ use Rattle.hal_words.specs.declared.word.Symbol.{Symbol}
 use Rattle.hal_words.specs.declared.word.Symbol.TheVariants as symbol
 use Rattle.hal_words.specs.declared.word.Word.{Word}
 use Rattle.hal_words.specs.declared.word.Word.TheVariants as word
-use Rattle.hal_grammar.specs.Leaves.{WholeNumber}
-use Rattle.hal_grammar.specs.Expressions.{Expression, Literally, Referred, Refers, Unsubscripted}
+use Rattle.hal_grammar.specs.Leaves.{Integer}
+use Rattle.hal_grammar.specs.Expressions.{Expression, Literal, Referred, Refers, Unsubscripted}
 use Rattle.hal_grammar.specs.Words.{Words, reserved_then, symbol_then, name_then, integer_then, BeginsWith, begins, BeginsReserved, BeginsSymbol}
 use Rattle.hal_grammar.specs.GoesOn.{strength}
 use Rattle.hal_grammar.specs.SpellsStatements.{BeginsLabel, begins_label}
@@ -67,7 +67,7 @@ sum_of d = term (factor (primary d))
 pub expression_of : {t : Expression} {b a : Words} → SpellsSum t b a → SpellsExpression t b a
 expression_of d = both (comparison (cat (sum d)))
 
-pub number : {n : ℕ} {p : Place} {a : Words} → SpellsPrimary (Literally p (WholeNumber n)) (integer_then n p a) a
+pub number : {n : ℕ} {p : Place} {a : Words} → SpellsPrimary (Literal p (Integer n)) (integer_then n p a) a
 number = literal integer
 
 -- a name alone, before a word that isn't `(`

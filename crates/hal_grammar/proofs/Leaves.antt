@@ -6,7 +6,7 @@ use Rattle.hal_words.specs.declared.word.Symbol.TheVariants as symbol
 use Rattle.hal_words.specs.declared.reserved.Reserved.{Reserved}
 use Rattle.hal_words.specs.declared.word.Word.{Word}
 use Rattle.hal_words.specs.declared.word.Word.TheVariants as word
-use Rattle.hal_grammar.specs.Leaves.{Naming, naming, Sign, Relation, Literal}
+use Rattle.hal_grammar.specs.Leaves.{Naming, naming, Sign, Relation, LiteralValue}
 use Rattle.hal_grammar.specs.Words.{Words, token, reserved_then, symbol_then, name_then}
 use Rattle.hal_grammar.specs.SpellsExpressions.{SpellsSign, plus, minus, SpellsRelation, equal, less, greater, at_most, at_least, not_equal, not_less, not_greater, SpellsLiteral, integer, text, bits, true_bit, false_bit, on_bit, off_bit, SpellsFurther, no_further, further}
 use Rattle.hal_grammar.specs.GoesOn.{Outcome, same, sooner, later}
@@ -27,7 +27,7 @@ one_relation not_equal not_equal = (refl, refl)
 one_relation not_less not_less = (refl, refl)
 one_relation not_greater not_greater = (refl, refl)
 
-pub one_literal : {l l' : Literal} {p p' : Place} {b a a' : Words} → SpellsLiteral l p b a → SpellsLiteral l' p' b a' → (l ≡ l') × (p ≡ p') × (a ≡ a')
+pub one_literal : {l l' : LiteralValue} {p p' : Place} {b a a' : Words} → SpellsLiteral l p b a → SpellsLiteral l' p' b a' → (l ≡ l') × (p ≡ p') × (a ≡ a')
 one_literal integer integer = (refl, refl, refl)
 one_literal text text = (refl, refl, refl)
 one_literal bits bits = (refl, refl, refl)
@@ -64,7 +64,7 @@ abbrev pub BeginsLiteral : Words → Type 0
 BeginsLiteral [] = ⊥
 BeginsLiteral (first ∷ words) = IsLiteralWord first.word
 
-pub literal_begins : {l : Literal} {p : Place} {b a : Words} → SpellsLiteral l p b a → BeginsLiteral b
+pub literal_begins : {l : LiteralValue} {p : Place} {b a : Words} → SpellsLiteral l p b a → BeginsLiteral b
 literal_begins integer = tt
 literal_begins text = tt
 literal_begins bits = tt

@@ -4,7 +4,7 @@ use Rattle.hal_base.specs.declared.refusal.Place.{Place}
 use Rattle.hal_words.specs.declared.reserved.Reserved.TheVariants as reserved
 use Rattle.hal_words.specs.declared.word.Symbol.TheVariants as symbol
 use Rattle.hal_words.specs.declared.word.Word.TheVariants as word
-use Rattle.hal_grammar.specs.Leaves.{Naming, Literal}
+use Rattle.hal_grammar.specs.Leaves.{Naming, LiteralValue}
 use Rattle.hal_grammar.specs.Expressions.{Expression, Reference}
 use Rattle.hal_grammar.specs.Declarations.{Attribute, Kind, Mark}
 use Rattle.hal_grammar.specs.Statements.{Guard, Cycle, Response, Eventful, Statement, Basic, Group}
@@ -50,7 +50,7 @@ attributes_code attributes_comma h = absurd (omega arith)
 attributes_code attributes_semicolon h = absurd (omega arith)
 attributes_code (attributes_more d ds) h = absurd (omega (arith, attribute_code d))
 
-pub literal_code : {l : Literal} {p : Place} {b a : Words} → SpellsLiteral l p b a → (code b ≡ 22 → ⊥) × (code b ≡ 23 → ⊥)
+pub literal_code : {l : LiteralValue} {p : Place} {b a : Words} → SpellsLiteral l p b a → (code b ≡ 22 → ⊥) × (code b ≡ 23 → ⊥)
 literal_code integer = (omega arith, omega arith)
 literal_code text = (omega arith, omega arith)
 literal_code bits = (omega arith, omega arith)

@@ -7,10 +7,10 @@ use Rattle.hal_words.specs.declared.word.Symbol.{Symbol}
 use Rattle.hal_words.specs.declared.word.Symbol.TheVariants as symbol
 use Rattle.hal_words.specs.declared.word.Word.{Word}
 use Rattle.hal_words.specs.declared.word.Word.TheVariants as word
-use Rattle.hal_grammar.specs.Leaves.{Naming, naming, Sign, Literal, WholeNumber}
-use Rattle.hal_grammar.specs.Expressions.{Expression, Literally}
+use Rattle.hal_grammar.specs.Leaves.{Naming, naming, Sign, LiteralValue, Integer}
+use Rattle.hal_grammar.specs.Expressions.{Expression, Literal}
 use Rattle.hal_grammar.specs.Words.{Words, token, symbol_then, name_then, integer_then, BeginsWith, begins}
-use Rattle.hal_grammar.specs.Declarations.{Mark, Kind, BitKind, CharacterKind, StructureKind, Initial, Valued, LiteralTimes, NameTimes, ListTimes, Initials, NoInitials, MoreInitials, Attribute, Dimensions, Typed, Marked, LockGroup, InitialValues, ConstantValues, Declared, declared_of, Part, part_of, Declaration, Declares, Structures}
+use Rattle.hal_grammar.specs.Declarations.{Mark, Kind, BitKind, CharacterKind, StructureKind, Initial, Value, LiteralTimes, NameTimes, ListTimes, Initials, NoInitials, MoreInitials, Attribute, Dimensions, Typed, Marked, LockGroup, InitialValues, ConstantValues, Declared, declared_of, Part, part_of, Declaration, Declare, Structure}
 use Rattle.hal_grammar.specs.SpellsExpressions.{plus, minus, SpellsLiteral, integer, SpellsExpression, both, comparison, cat, sum, term, factor, primary, literal}
 use Rattle.hal_grammar.specs.SpellsDeclarations.{Parted, last, more, SpellsNames, last_name, more_names, SpellsNameEnd, no_name_end, name_end, SpellsCopyCount, no_copy_count, copy_count, SpellsKind, integer_kind, bit_kind, boolean_kind, character_kind, event_kind, structure_kind, SpellsOpening, no_opening, opening, SpellsInitial, valued, literal_times, name_times, list_times, SpellsInitials, last_initial, more_initials, SpellsMark, single_mark, double_mark, latched_mark, static_mark, automatic_mark, dense_mark, aligned_mark, SpellsAttribute, dimensions, typed, marked, lock_group, lock_any, initial_values, constant_values, SpellsAttributes, attributes_comma, attributes_semicolon, attributes_more, SpellsDeclared, declared, SpellsPart, part, SpellsDeclaration, declares, declares_all, structures, SpellsDeclarations, no_declarations, more_declarations}
 use Rattle.hal_grammar.specs.GoesOn.{strength, Outcome, same, sooner, later}
@@ -164,25 +164,25 @@ follow_weak (first ∷ words) h = by first.word h
 -- an expression that begins with an integer and `#` ends before `#`
 counted : {t : Expression} {n : ℕ} {p q : Place} {m a : Words} → SpellsExpression t (integer_then n p (symbol_then symbol.Number q m)) a → 1 ≤ follow a → ⊥
 counted {t = t} {n = n} {p = p} {q = q} {m = m} {a = a} d h =
-    let e : SpellsExpression (Literally p (WholeNumber n)) (integer_then n p (symbol_then symbol.Number q m)) (symbol_then symbol.Number q m) =
+    let e : SpellsExpression (Literal p (Integer n)) (integer_then n p (symbol_then symbol.Number q m)) (symbol_then symbol.Number q m) =
     both (comparison (cat (sum (term (factor (primary (literal integer))))))) in
     let r = exact d e (follow_weak a h) (omega arith) in
     omega (arith, ap follow r.1)
 
-literal_not_name : {l : Literal} {p q : Place} {n : List ℕ} {b a : Words} → SpellsLiteral l p (name_then n q b) a → ⊥
+literal_not_name : {l : LiteralValue} {p q : Place} {n : List ℕ} {b a : Words} → SpellsLiteral l p (name_then n q b) a → ⊥
 literal_not_name d = literal_begins d
 
 opening_not_left : {s : Option Sign} {p : Place} {b a : Words} → SpellsOpening s (symbol_then symbol.LeftParenthesis p b) a → symbol_then symbol.LeftParenthesis p b ≡ a
 opening_not_left (no_opening n m) = refl
 opening_not_left (opening d) = elim d [ ]
 
-literal_not_left : {l : Literal} {p q : Place} {b a : Words} → SpellsLiteral l p (symbol_then symbol.LeftParenthesis q b) a → ⊥
+literal_not_left : {l : LiteralValue} {p q : Place} {b a : Words} → SpellsLiteral l p (symbol_then symbol.LeftParenthesis q b) a → ⊥
 literal_not_left d = literal_begins d
 
 name_not_left : {n : List ℕ} {p q : Place} {b a : Words} → symbol_then symbol.LeftParenthesis p b ≡ name_then n q a → ⊥
 name_not_left e = let h : word.Symbol symbol.LeftParenthesis ≡ word.Name _ = word_same e in cc
 
-literal_times_same : {p : Place} {n : ℕ} {q r : Place} {s z : Option Sign} {l m : Literal} → s ≡ z → q ≡ r → l ≡ m → LiteralTimes p n s q l ≡ LiteralTimes p n z r m
+literal_times_same : {p : Place} {n : ℕ} {q r : Place} {s z : Option Sign} {l m : LiteralValue} → s ≡ z → q ≡ r → l ≡ m → LiteralTimes p n s q l ≡ LiteralTimes p n z r m
 literal_times_same e f g = cc
 
 name_times_same : {p : Place} {n : ℕ} {q r : Place} {s z : Option Sign} {x y : List ℕ} → s ≡ z → x ≡ y → q ≡ r → NameTimes p n s (naming q x) ≡ NameTimes p n z (naming r y)
@@ -190,7 +190,7 @@ name_times_same {p = p} {n = n} {r = r} {x = x} e f g = ap₂ (λ s m. NameTimes
 
 mutual
   pub one_initial : {t u : Initial} {b a c : Words} → SpellsInitial t b a → SpellsInitial u b c → 1 ≤ follow a → 1 ≤ follow c → (t ≡ u) × (a ≡ c)
-  one_initial {a = a} {c = c} (valued d) (valued e) h i = let r = exact d e (follow_weak a h) (follow_weak c i) in (ap Valued r.0, r.1)
+  one_initial {a = a} {c = c} (valued d) (valued e) h i = let r = exact d e (follow_weak a h) (follow_weak c i) in (ap Value r.0, r.1)
   one_initial (valued d) (literal_times o l) h i = absurd (counted d h)
   one_initial (valued d) (name_times o) h i = absurd (counted d h)
   one_initial (valued d) (list_times e) h i = absurd (counted d h)
@@ -265,15 +265,15 @@ items_apart (more d ds) (attributes_more e es) = declared_apart d e
 
 pub one_declaration : {d e : Declaration} {b a c : Words} → SpellsDeclaration d b a → SpellsDeclaration e b c → (d ≡ e) × (a ≡ c)
 one_declaration (declares {p = p} d) (declares e) =
-    let r = until (one_parted (λ x b a d. declared_shorter d) (λ x y b a c d e. one_declared d e) d e) (omega arith) (omega arith) in (ap (λ l. Declares p [] l) r.0, tail_same r.1)
+    let r = until (one_parted (λ x b a d. declared_shorter d) (λ x y b a c d e. one_declared d e) d e) (omega arith) (omega arith) in (ap (λ l. Declare p [] l) r.0, tail_same r.1)
 one_declaration (declares d) (declares_all es e) = absurd (items_apart d es)
 one_declaration (declares_all ds d) (declares e) = absurd (items_apart e ds)
 one_declaration (declares_all {p = p} ds d) (declares_all es e) =
     let r = one_attributes ds es in
     let s = until (one_parted (λ x b a d. declared_shorter d) (λ x y b a c d e. one_declared d e) d (back (Parted SpellsDeclared) (tail_same r.1) e)) (omega arith) (omega arith) in
-    (ap₂ (λ k l. Declares p k l) r.0 s.0, tail_same s.1)
+    (ap₂ (λ k l. Declare p k l) r.0 s.0, tail_same s.1)
 one_declaration (structures {p = p} {q = q} {n = n} d) (structures e) =
-    let r = until (one_parted (λ x b a d. part_shorter d) (λ x y b a c d e. one_part d e) d e) (omega arith) (omega arith) in (ap (λ l. Structures p (naming q n) l) r.0, tail_same r.1)
+    let r = until (one_parted (λ x b a d. part_shorter d) (λ x y b a c d e. one_part d e) d e) (omega arith) (omega arith) in (ap (λ l. Structure p (naming q n) l) r.0, tail_same r.1)
 
 declaration_begins : {d : Declaration} {b a : Words} → ¬ BeginsWith (word.Reserved reserved.Declare) b → ¬ BeginsWith (word.Reserved reserved.Structure) b → SpellsDeclaration d b a → ⊥
 declaration_begins n m (declares d) = n begins

@@ -1,8 +1,8 @@
 -- The same words spell one expression, or one of two expressions ends sooner, at a word with which it goes on.
 use Rattle.std.proofs.Common.{◌≡◌, refl, ap, ap₂, sym, arith, Option, Some}
 use Rattle.hal_base.specs.declared.refusal.Place.{Place}
-use Rattle.hal_grammar.specs.Leaves.{Sign, Relation, Literal, ToInteger, ToBits, ToText}
-use Rattle.hal_grammar.specs.Expressions.{Expression, Ors, Ands, Compared, Joined, Summed, Multiplied, Powered, Negated, Literally, Referred, Called, Converted, Enclosed, Expressions, NoExpressions, MoreExpressions, Terms, MoreTerms, Reference, Refers, Subscript, ByParts, Subscripts, NoSubscripts, MoreSubscripts, Sub, OnePlace, Range, Portion, Position, FromBeginning, FromEnd}
+use Rattle.hal_grammar.specs.Leaves.{Sign, Relation, LiteralValue, ToInteger, ToBits, ToText}
+use Rattle.hal_grammar.specs.Expressions.{Expression, Or, And, Compare, Cat, Sum, Product, Power, Not, Literal, Referred, Called, Convert, Parenthesis, Expressions, NoExpressions, MoreExpressions, Terms, MoreTerms, Reference, Refers, Subscript, ByParts, Subscripts, NoSubscripts, MoreSubscripts, Sub, One, Range, Portion, Position, FromBeginning, FromEnd}
 use Rattle.hal_grammar.specs.Words.{Words, begins}
 use Rattle.hal_grammar.specs.SpellsExpressions.{SpellsRelation, no_further, name_alone, SpellsExpression, both, ors, SpellsOrs, no_or, or_more, SpellsBoth, comparison, ands, SpellsAnds, no_and, and_more, SpellsComparison, cat, compared, SpellsCat, sum, joined, SpellsCats, no_cat, cat_more, SpellsSum, term, summed, signed, SpellsTerms, no_terms, more_terms, SpellsTerm, factor, multiplied, SpellsFactors, no_factors, more_factors, SpellsFactor, primary, powered, SpellsPrimary, negated, literal, thousandths, referred, called, to_integer, to_bits, to_text, enclosed, SpellsExpressions, last_expression, more_expressions, SpellsReference, refers, SpellsSubscript, unsubscripted, by_name, by_integer, by_parts, SpellsCopies, copies_then, no_copies, SpellsArrays, arrays_then, no_arrays, SpellsComponents, components_then, no_components, SpellsSubscripts, last_subscript, more_subscripts, SpellsSub, every_place, one_place, range, portion, SpellsPosition, from_beginning, from_end}
 use Rattle.hal_grammar.specs.GoesOn.{Outcome, same, sooner, later}
@@ -11,31 +11,31 @@ use Rattle.hal_grammar.proofs.Shorter.{both_shorter, ors_shorter, comparison_sho
 use Rattle.hal_grammar.proofs.Beginnings.{Opening-unsigned, Opening-later, sign_strength, relation_strength, term_opens, factor_opens, sum_strong, ors_ends, ands_ends, cats_ends, terms_ends, factors_ends, subscript_ends, ors_strength, ands_strength, cats_strength, terms_strength, factors_strength, position_not_star, subscripts_not_right}
 use Rattle.hal_grammar.proofs.Leaves.{one_sign, one_relation, one_literal, one_further, literal_begins, semicolon_colon, semicolon_right, colon_right, to_at}
 
-ors_same : {p q : Place} {t u : Expression} {ts us : Expressions} → p ≡ q → t ≡ u → ts ≡ us → Ors p t ts ≡ Ors q u us
+ors_same : {p q : Place} {t u : Expression} {ts us : Expressions} → p ≡ q → t ≡ u → ts ≡ us → Or p t ts ≡ Or q u us
 ors_same e f g = cc
 
-ands_same : {p q : Place} {t u : Expression} {ts us : Expressions} → p ≡ q → t ≡ u → ts ≡ us → Ands p t ts ≡ Ands q u us
+ands_same : {p q : Place} {t u : Expression} {ts us : Expressions} → p ≡ q → t ≡ u → ts ≡ us → And p t ts ≡ And q u us
 ands_same e f g = cc
 
-cats_same : {p q : Place} {t u : Expression} {ts us : Expressions} → p ≡ q → t ≡ u → ts ≡ us → Joined p t ts ≡ Joined q u us
+cats_same : {p q : Place} {t u : Expression} {ts us : Expressions} → p ≡ q → t ≡ u → ts ≡ us → Cat p t ts ≡ Cat q u us
 cats_same e f g = cc
 
-factors_same : {p q : Place} {t u : Expression} {ts us : Expressions} → p ≡ q → t ≡ u → ts ≡ us → Multiplied p t ts ≡ Multiplied q u us
+factors_same : {p q : Place} {t u : Expression} {ts us : Expressions} → p ≡ q → t ≡ u → ts ≡ us → Product p t ts ≡ Product q u us
 factors_same e f g = cc
 
-summed_same : {p q : Place} {s z : Option Sign} {t u : Expression} {ts us : Terms} → p ≡ q → s ≡ z → t ≡ u → ts ≡ us → Summed p s t ts ≡ Summed q z u us
+summed_same : {p q : Place} {s z : Option Sign} {t u : Expression} {ts us : Terms} → p ≡ q → s ≡ z → t ≡ u → ts ≡ us → Sum p s t ts ≡ Sum q z u us
 summed_same e f g h = cc
 
 terms_same : {p q : Place} {s z : Sign} {t u : Expression} {ts us : Terms} → p ≡ q → s ≡ z → t ≡ u → ts ≡ us → MoreTerms p s t ts ≡ MoreTerms q z u us
 terms_same e f g h = cc
 
-compared_same : {p q : Place} {r s : Relation} {t u v w : Expression} → p ≡ q → t ≡ u → r ≡ s → v ≡ w → Compared p t r v ≡ Compared q u s w
+compared_same : {p q : Place} {r s : Relation} {t u v w : Expression} → p ≡ q → t ≡ u → r ≡ s → v ≡ w → Compare p t r v ≡ Compare q u s w
 compared_same e f g h = cc
 
-powered_same : {p q : Place} {t u v w : Expression} → p ≡ q → t ≡ u → v ≡ w → Powered p t v ≡ Powered q u w
+powered_same : {p q : Place} {t u v w : Expression} → p ≡ q → t ≡ u → v ≡ w → Power p t v ≡ Power q u w
 powered_same e f g = cc
 
-literally_same : {p q : Place} {l m : Literal} → p ≡ q → l ≡ m → Literally p l ≡ Literally q m
+literally_same : {p q : Place} {l m : LiteralValue} → p ≡ q → l ≡ m → Literal p l ≡ Literal q m
 literally_same e f = cc
 
 parts_same : {p : Place} {xs ys us vs ss ts : Subscripts} → xs ≡ ys → us ≡ vs → ss ≡ ts → ByParts p xs us ss ≡ ByParts p ys vs ts
@@ -149,7 +149,7 @@ mutual
       made (omega arith) (λ r. powered_same (same_place b h i) p r) (one_primary f (back SpellsPrimary (tail_same q) g))
 
   pub one_primary : {t u : Expression} {b a c : Words} → SpellsPrimary t b a → SpellsPrimary u b c → Outcome 9 t a u c
-  one_primary (negated {p = p} d) (negated e) = made (omega arith) (λ r. ap (λ t. Negated p t) r) (one_primary d e)
+  one_primary (negated {p = p} d) (negated e) = made (omega arith) (λ r. ap (λ t. Not p t) r) (one_primary d e)
   one_primary (literal l) (literal m) = let (p, q, r) = one_literal l m in same (literally_same q p) r
   one_primary (literal l) e = absurd (literal_begins l)
   one_primary thousandths thousandths = same refl refl
@@ -158,10 +158,10 @@ mutual
   one_primary (called d) (referred (refers no_further unsubscripted) h) = absurd (h name_alone begins)
   one_primary (called {p = p} {n = n} d) (called e) =
       let (r, s) = until (one_expressions d e) (omega arith) (omega arith) in same (ap (λ t. Called p n t) r) (tail_same s)
-  one_primary (to_integer {p = p} d) (to_integer e) = let (r, s) = until (one_expression d e) (omega arith) (omega arith) in same (ap (λ t. Converted p ToInteger t) r) (tail_same s)
-  one_primary (to_bits {p = p} d) (to_bits e) = let (r, s) = until (one_expression d e) (omega arith) (omega arith) in same (ap (λ t. Converted p ToBits t) r) (tail_same s)
-  one_primary (to_text {p = p} d) (to_text e) = let (r, s) = until (one_expression d e) (omega arith) (omega arith) in same (ap (λ t. Converted p ToText t) r) (tail_same s)
-  one_primary (enclosed {p = p} d) (enclosed e) = let (r, s) = until (one_expression d e) (omega arith) (omega arith) in same (ap (λ t. Enclosed p t) r) (tail_same s)
+  one_primary (to_integer {p = p} d) (to_integer e) = let (r, s) = until (one_expression d e) (omega arith) (omega arith) in same (ap (λ t. Convert p ToInteger t) r) (tail_same s)
+  one_primary (to_bits {p = p} d) (to_bits e) = let (r, s) = until (one_expression d e) (omega arith) (omega arith) in same (ap (λ t. Convert p ToBits t) r) (tail_same s)
+  one_primary (to_text {p = p} d) (to_text e) = let (r, s) = until (one_expression d e) (omega arith) (omega arith) in same (ap (λ t. Convert p ToText t) r) (tail_same s)
+  one_primary (enclosed {p = p} d) (enclosed e) = let (r, s) = until (one_expression d e) (omega arith) (omega arith) in same (ap (λ t. Parenthesis p t) r) (tail_same s)
   one_primary d (literal m) = absurd (literal_begins m)
 
   pub one_expressions : {ts us : Expressions} {b a c : Words} → SpellsExpressions ts b a → SpellsExpressions us b c → Outcome 0 ts a us c
@@ -232,7 +232,7 @@ mutual
   one_sub every_place (range e f) = absurd (position_not_star e)
   one_sub every_place (portion e f) = absurd (omega (arith, sum_strong e))
   one_sub (one_place d) every_place = absurd (position_not_star d)
-  one_sub (one_place d) (one_place e) = made (omega arith) (λ r. ap OnePlace r) (one_position d e)
+  one_sub (one_place d) (one_place e) = made (omega arith) (λ r. ap One r) (one_position d e)
   one_sub (one_place d) (range e f) = longer_right (one_position d e) (omega arith) (omega arith) (omega (arith, position_shorter f))
   one_sub (one_place (from_beginning d)) (portion e f) = longer_right (one_sum d e) (omega arith) (omega arith) (omega (arith, position_shorter f))
   one_sub (one_place (from_end d)) (portion e f) = absurd (omega (arith, sum_strong e))

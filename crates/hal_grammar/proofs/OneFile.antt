@@ -5,7 +5,7 @@ use Rattle.hal_words.specs.declared.reserved.Reserved.TheVariants as reserved
 use Rattle.hal_grammar.specs.Leaves.{Naming}
 use Rattle.hal_grammar.specs.Declarations.{Declaration}
 use Rattle.hal_grammar.specs.Statements.{Statement}
-use Rattle.hal_grammar.specs.Units.{Mode, Precision, Returns, HasKind, Head, ProcedureHead, FunctionHead, Block, BlockOf, Elements, StatementFirst, BlockFirst, Template, template_of, Preface, Templates, File, file_of}
+use Rattle.hal_grammar.specs.Units.{Mode, Precision, Returns, HasKind, Head, Procedure, Function, Block, BlockOf, Elements, StatementFirst, BlockFirst, Template, template_of, Preface, Templates, File, file_of}
 use Rattle.hal_grammar.specs.Words.{Words, reserved_then, begins}
 use Rattle.hal_grammar.specs.SpellsDeclarations.{SpellsNameEnd, SpellsDeclarations}
 use Rattle.hal_grammar.specs.SpellsStatements.{SpellsStatement, labelled, no_labels, more_labels, begins_label}
@@ -54,10 +54,10 @@ one_returns_end (has_kind k d) (has_kind l e) =
     let r = one_kind k l in
     let s = one_precision_end d (back₂ SpellsPrecisionEnd r.1 e) in (ap₂ HasKind r.0 s.0, s.1, s.2)
 
-procedure_same : {p : Place} {i j o u : List Naming} {m n : Option Mode} → i ≡ j → o ≡ u → m ≡ n → ProcedureHead p i o m ≡ ProcedureHead p j u n
+procedure_same : {p : Place} {i j o u : List Naming} {m n : Option Mode} → i ≡ j → o ≡ u → m ≡ n → Procedure p i o m ≡ Procedure p j u n
 procedure_same e f g = cc
 
-function_same : {p : Place} {i j : List Naming} {r s : Returns} {m n : Option Mode} → i ≡ j → r ≡ s → m ≡ n → FunctionHead p i r m ≡ FunctionHead p j s n
+function_same : {p : Place} {i j : List Naming} {r s : Returns} {m n : Option Mode} → i ≡ j → r ≡ s → m ≡ n → Function p i r m ≡ Function p j s n
 function_same e f g = cc
 
 pub one_head : {h k : Head} {b a c : Words} → SpellsHead h b a → SpellsHead k b c → (h ≡ k) × (a ≡ c)

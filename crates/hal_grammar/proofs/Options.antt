@@ -8,7 +8,7 @@ use Rattle.hal_words.specs.declared.word.Word.TheVariants as word
 use Rattle.hal_grammar.specs.Leaves.{Naming, naming}
 use Rattle.hal_grammar.specs.Expressions.{Expression, Expressions, Reference}
 use Rattle.hal_grammar.specs.Words.{Words, token, reserved_then, BeginsWith, begins}
-use Rattle.hal_grammar.specs.Statements.{Guard, AsLong, Unless, Span, Stepped, Listed, Selector, Eventful, Response, Start, StartAt, StartIn, StartOn, Cycle, Cyclic, CyclicEvery, CyclicAfter, Schedule, scheduling}
+use Rattle.hal_grammar.specs.Statements.{Guard, While, Until, Span, Stepped, Listed, Selector, Eventful, Response, Start, StartAt, StartIn, StartOn, Cycle, Cyclic, CyclicEvery, CyclicAfter, Schedule, scheduling}
 use Rattle.hal_grammar.specs.SpellsExpressions.{SpellsExpression, SpellsExpressions, last_expression, more_expressions, SpellsReference}
 use Rattle.hal_grammar.specs.SpellsDeclarations.{Parted, last, more}
 use Rattle.hal_grammar.specs.SpellsStatements.{SpellsArguments, no_arguments, arguments, SpellsReceivers, no_receivers, receivers, SpellsGuard, no_guard, as_long, unless, SpellsStep, no_step, step, SpellsSpan, stepped, listed, SpellsSelector, every_error, group_alone, group_enclosed, group_colon, group_star, one_error, SpellsEvent, pulses, raises, lowers, SpellsResponse, by_system, ignored, SpellsEventEnd, no_event_end, event_end, SpellsStart, no_start, start_at, start_in, start_on, SpellsPriority, no_priority, priority, SpellsDependent, not_dependent, dependent, SpellsComma, no_comma, comma, SpellsCycle, no_cycle, cyclic, cyclic_every, cyclic_after, SpellsSchedule, scheduled_so, SpellsTemporary, not_temporary, temporary, SpellsNameOption, no_name, one_name, begins_label, SpellsLabels, no_labels, more_labels}
@@ -48,8 +48,8 @@ one_guard (no_guard n m) (as_long e) h i = absurd (n begins)
 one_guard (no_guard n m) (unless e) h i = absurd (m begins)
 one_guard (as_long d) (no_guard n m) h i = absurd (n begins)
 one_guard (unless d) (no_guard n m) h i = absurd (m begins)
-one_guard (as_long {p = p} d) (as_long e) h i = let r = exact d e h i in (ap (λ t. Some (AsLong p t)) r.0, r.1)
-one_guard (unless {p = p} d) (unless e) h i = let r = exact d e h i in (ap (λ t. Some (Unless p t)) r.0, r.1)
+one_guard (as_long {p = p} d) (as_long e) h i = let r = exact d e h i in (ap (λ t. Some (While p t)) r.0, r.1)
+one_guard (unless {p = p} d) (unless e) h i = let r = exact d e h i in (ap (λ t. Some (Until p t)) r.0, r.1)
 
 pub one_step : {t u : Option Expression} {b a c : Words} → SpellsStep t b a → SpellsStep u b c → strength a ≤ 2 → strength c ≤ 2 → (t ≡ u) × (a ≡ c)
 one_step (no_step n) (no_step m) h i = (refl, refl)

@@ -1,7 +1,7 @@
 -- A tree's place is that of the first word that spells it.
 use Rattle.std.proofs.Common.{refl}
 use Rattle.hal_base.specs.declared.refusal.Place.{Place}
-use Rattle.hal_grammar.specs.Leaves.{Sign, Literal}
+use Rattle.hal_grammar.specs.Leaves.{Sign, LiteralValue}
 use Rattle.hal_grammar.specs.Expressions.{place_of, place_of_reference, Expression, Reference}
 use Rattle.hal_grammar.specs.Words.{Words, At}
 use Rattle.hal_grammar.specs.SpellsExpressions.{SpellsSign, plus, minus, SpellsLiteral, integer, text, bits, true_bit, false_bit, on_bit, off_bit, SpellsExpression, both, ors, SpellsBoth, comparison, ands, SpellsComparison, cat, compared, SpellsCat, sum, joined, SpellsSum, term, summed, signed, SpellsTerm, factor, multiplied, SpellsFactor, primary, powered, SpellsPrimary, negated, literal, thousandths, referred, called, to_integer, to_bits, to_text, enclosed, SpellsReference, refers}
@@ -10,7 +10,7 @@ sign_placed : {s : Sign} {p : Place} {b a : Words} → SpellsSign s p b a → At
 sign_placed plus = refl
 sign_placed minus = refl
 
-literal_placed : {l : Literal} {p : Place} {b a : Words} → SpellsLiteral l p b a → At p b
+literal_placed : {l : LiteralValue} {p : Place} {b a : Words} → SpellsLiteral l p b a → At p b
 literal_placed integer = refl
 literal_placed text = refl
 literal_placed bits = refl

@@ -1,7 +1,7 @@
 -- Each phrase takes a word at least, and each list none at least.
 use Rattle.std.proofs.Common.{◌<◌, ◌≤◌, List, length, arith}
 use Rattle.hal_base.specs.declared.refusal.Place.{Place}
-use Rattle.hal_grammar.specs.Leaves.{Naming, Sign, Relation, Literal}
+use Rattle.hal_grammar.specs.Leaves.{Naming, Sign, Relation, LiteralValue}
 use Rattle.hal_grammar.specs.Expressions.{Expression, Expressions, Terms, Reference, Subscript, Subscripts, Sub, Position}
 use Rattle.hal_grammar.specs.Words.{Words}
 use Rattle.hal_grammar.specs.SpellsExpressions.{SpellsSign, plus, minus, SpellsRelation, equal, less, greater, at_most, at_least, not_equal, not_less, not_greater, SpellsLiteral, integer, text, bits, true_bit, false_bit, on_bit, off_bit, SpellsFurther, no_further, further, SpellsExpression, both, ors, SpellsOrs, no_or, or_more, SpellsBoth, comparison, ands, SpellsAnds, no_and, and_more, SpellsComparison, cat, compared, SpellsCat, sum, joined, SpellsCats, no_cat, cat_more, SpellsSum, term, summed, signed, SpellsTerms, no_terms, more_terms, SpellsTerm, factor, multiplied, SpellsFactors, no_factors, more_factors, SpellsFactor, primary, powered, SpellsPrimary, negated, literal, thousandths, referred, called, to_integer, to_bits, to_text, enclosed, SpellsExpressions, last_expression, more_expressions, SpellsReference, refers, SpellsSubscript, unsubscripted, by_name, by_integer, by_parts, SpellsCopies, copies_then, no_copies, SpellsArrays, arrays_then, no_arrays, SpellsComponents, components_then, no_components, SpellsSubscripts, last_subscript, more_subscripts, SpellsSub, every_place, one_place, range, portion, SpellsPosition, from_beginning, from_end}
@@ -20,7 +20,7 @@ relation_shorter not_equal = omega arith
 relation_shorter not_less = omega arith
 relation_shorter not_greater = omega arith
 
-pub literal_shorter : {l : Literal} {p : Place} {b a : Words} → SpellsLiteral l p b a → length a < length b
+pub literal_shorter : {l : LiteralValue} {p : Place} {b a : Words} → SpellsLiteral l p b a → length a < length b
 literal_shorter integer = omega arith
 literal_shorter text = omega arith
 literal_shorter bits = omega arith

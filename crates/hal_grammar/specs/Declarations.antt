@@ -1,12 +1,12 @@
 -- The trees of declarations, and how deep they are nested.
 use Rattle.std.specs.Prelude.{ℕ, ◌+◌, List, max, Option}
 use Rattle.hal_base.specs.declared.refusal.Place.{Place}
-use Rattle.hal_grammar.specs.Leaves.{Naming, Sign, Literal, most, if_any}
+use Rattle.hal_grammar.specs.Leaves.{Naming, Sign, LiteralValue, most, if_any}
 use Rattle.hal_grammar.specs.Expressions.{Expression, Expressions, nesting, nesting_of_all}
 
 -- an attribute of one word
 pub data Mark : Type 0 where
-  SingleMark DoubleMark LatchedMark StaticMark AutomaticMark DenseMark AlignedMark : Mark
+  Single Double Latched Static Automatic Dense Aligned : Mark
 
 -- a type
 pub data Kind : Type 0 where
@@ -17,8 +17,8 @@ pub data Kind : Type 0 where
 mutual
   -- an initial value; `count` times a literal, a name or a list, with the place of the integer
   pub data Initial : Type 0 where
-    Valued : (value : Expression) → Initial
-    LiteralTimes : (place : Place) (count : ℕ) (sign : Option Sign) (at : Place) (literal : Literal) → Initial
+    Value : (value : Expression) → Initial
+    LiteralTimes : (place : Place) (count : ℕ) (sign : Option Sign) (at : Place) (literal : LiteralValue) → Initial
     NameTimes : (place : Place) (count : ℕ) (sign : Option Sign) (name : Naming) → Initial
     ListTimes : (place : Place) (count : ℕ) (values : Initials) → Initial
 
@@ -59,8 +59,8 @@ part_of place level name attributes = record { place = place; level = level; nam
 
 -- DECLARE with the attributes before the comma, or STRUCTURE
 pub data Declaration : Type 0 where
-  Declares : (place : Place) (common : List Attribute) (items : List Declared) → Declaration
-  Structures : (place : Place) (name : Naming) (parts : List Part) → Declaration
+  Declare : (place : Place) (common : List Attribute) (items : List Declared) → Declaration
+  Structure : (place : Place) (name : Naming) (parts : List Part) → Declaration
 
 -- a type's parentheses don't count
 abbrev pub nesting_of_kind : Kind → ℕ
@@ -75,7 +75,7 @@ nesting_of_kind (StructureKind place template copies) = if_any nesting copies
 abbrev mutual
   -- a value is as deep as its expression or list
   pub nesting_of_initial : Initial → ℕ
-  nesting_of_initial (Valued value) = nesting value
+  nesting_of_initial (Value value) = nesting value
   nesting_of_initial (LiteralTimes place count sign at literal) = 0
   nesting_of_initial (NameTimes place count sign name) = 0
   nesting_of_initial (ListTimes place count values) = nesting_of_initials values + 1
@@ -105,5 +105,5 @@ nesting_of_part part = most nesting_of_attribute part.attributes
 
 -- a declaration is as deep as its attributes
 abbrev pub nesting_of_declaration : Declaration → ℕ
-nesting_of_declaration (Declares place common items) = max (most nesting_of_attribute common) (most nesting_of_declared items)
-nesting_of_declaration (Structures place name parts) = most nesting_of_part parts
+nesting_of_declaration (Declare place common items) = max (most nesting_of_attribute common) (most nesting_of_declared items)
+nesting_of_declaration (Structure place name parts) = most nesting_of_part parts

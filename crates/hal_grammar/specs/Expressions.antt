@@ -1,25 +1,25 @@
 -- The trees of expressions, and how deep they are nested. A tree's place is that of its first word.
 use Rattle.std.specs.Prelude.{ℕ, ◌+◌, List, max, Option}
 use Rattle.hal_base.specs.declared.refusal.Place.{Place}
-use Rattle.hal_grammar.specs.Leaves.{Naming, Sign, Relation, Conversion, Literal}
+use Rattle.hal_grammar.specs.Leaves.{Naming, Sign, Relation, Conversion, LiteralValue}
 
 mutual
   -- of OR, AND, CAT and a product the parts after the first one are at least one; of a sum they are so where it has no opening sign
   pub data Expression : Type 0 where
-    Ors : (place : Place) (first : Expression) (others : Expressions) → Expression
-    Ands : (place : Place) (first : Expression) (others : Expressions) → Expression
-    Compared : (place : Place) (left : Expression) (relation : Relation) (right : Expression) → Expression
-    Joined : (place : Place) (first : Expression) (others : Expressions) → Expression
-    Summed : (place : Place) (opening : Option Sign) (first : Expression) (others : Terms) → Expression
-    Multiplied : (place : Place) (first : Expression) (others : Expressions) → Expression
-    Powered : (place : Place) (base exponent : Expression) → Expression
-    Negated : (place : Place) (operand : Expression) → Expression
-    Literally : (place : Place) (literal : Literal) → Expression
-    Thousandths : (place : Place) (number : ℕ) → Expression
+    Or : (place : Place) (first : Expression) (others : Expressions) → Expression
+    And : (place : Place) (first : Expression) (others : Expressions) → Expression
+    Compare : (place : Place) (left : Expression) (relation : Relation) (right : Expression) → Expression
+    Cat : (place : Place) (first : Expression) (others : Expressions) → Expression
+    Sum : (place : Place) (opening : Option Sign) (first : Expression) (others : Terms) → Expression
+    Product : (place : Place) (first : Expression) (others : Expressions) → Expression
+    Power : (place : Place) (base exponent : Expression) → Expression
+    Not : (place : Place) (operand : Expression) → Expression
+    Literal : (place : Place) (literal : LiteralValue) → Expression
+    Decimal : (place : Place) (number : ℕ) → Expression
     Referred : (reference : Reference) → Expression
     Called : (place : Place) (name : List ℕ) (arguments : Expressions) → Expression
-    Converted : (place : Place) (conversion : Conversion) (operand : Expression) → Expression
-    Enclosed : (place : Place) (inner : Expression) → Expression
+    Convert : (place : Place) (conversion : Conversion) (operand : Expression) → Expression
+    Parenthesis : (place : Place) (inner : Expression) → Expression
 
   -- expressions one after another
   pub data Expressions : Type 0 where
@@ -49,8 +49,8 @@ mutual
 
   -- `*`, one place, `a TO b`, `n AT a`
   pub data Sub : Type 0 where
-    EveryPlace : (place : Place) → Sub
-    OnePlace : (position : Position) → Sub
+    Every : (place : Place) → Sub
+    One : (position : Position) → Sub
     Range : (first last : Position) → Sub
     Portion : (count : Expression) (first : Position) → Sub
 
@@ -63,20 +63,20 @@ mutual
 abbrev mutual
   -- how deep an expression is nested
   pub nesting : Expression → ℕ
-  nesting (Ors place first others) = max (nesting first) (nesting_of_all others)
-  nesting (Ands place first others) = max (nesting first) (nesting_of_all others)
-  nesting (Compared place left relation right) = max (nesting left) (nesting right)
-  nesting (Joined place first others) = max (nesting first) (nesting_of_all others)
-  nesting (Summed place opening first others) = max (nesting first) (nesting_of_terms others)
-  nesting (Multiplied place first others) = max (nesting first) (nesting_of_all others)
-  nesting (Powered place base exponent) = max (nesting base) (nesting exponent)
-  nesting (Negated place operand) = nesting operand + 1
-  nesting (Literally place literal) = 0
-  nesting (Thousandths place number) = 0
+  nesting (Or place first others) = max (nesting first) (nesting_of_all others)
+  nesting (And place first others) = max (nesting first) (nesting_of_all others)
+  nesting (Compare place left relation right) = max (nesting left) (nesting right)
+  nesting (Cat place first others) = max (nesting first) (nesting_of_all others)
+  nesting (Sum place opening first others) = max (nesting first) (nesting_of_terms others)
+  nesting (Product place first others) = max (nesting first) (nesting_of_all others)
+  nesting (Power place base exponent) = max (nesting base) (nesting exponent)
+  nesting (Not place operand) = nesting operand + 1
+  nesting (Literal place literal) = 0
+  nesting (Decimal place number) = 0
   nesting (Referred reference) = nesting_of_reference reference
   nesting (Called place name arguments) = nesting_of_all arguments + 1
-  nesting (Converted place conversion operand) = nesting operand + 1
-  nesting (Enclosed place inner) = nesting inner + 1
+  nesting (Convert place conversion operand) = nesting operand + 1
+  nesting (Parenthesis place inner) = nesting inner + 1
 
   -- the deepest of expressions
   pub nesting_of_all : Expressions → ℕ
@@ -107,8 +107,8 @@ abbrev mutual
 
   -- one subscript
   pub nesting_of_sub : Sub → ℕ
-  nesting_of_sub (EveryPlace place) = 0
-  nesting_of_sub (OnePlace position) = nesting_of_position position
+  nesting_of_sub (Every place) = 0
+  nesting_of_sub (One position) = nesting_of_position position
   nesting_of_sub (Range first last) = max (nesting_of_position first) (nesting_of_position last)
   nesting_of_sub (Portion count first) = max (nesting count) (nesting_of_position first)
 
@@ -123,17 +123,17 @@ place_of_reference (Refers place name further subscript) = place
 
 -- where an expression stands
 abbrev pub place_of : Expression → Place
-place_of (Ors place first others) = place
-place_of (Ands place first others) = place
-place_of (Compared place left relation right) = place
-place_of (Joined place first others) = place
-place_of (Summed place opening first others) = place
-place_of (Multiplied place first others) = place
-place_of (Powered place base exponent) = place
-place_of (Negated place operand) = place
-place_of (Literally place literal) = place
-place_of (Thousandths place number) = place
+place_of (Or place first others) = place
+place_of (And place first others) = place
+place_of (Compare place left relation right) = place
+place_of (Cat place first others) = place
+place_of (Sum place opening first others) = place
+place_of (Product place first others) = place
+place_of (Power place base exponent) = place
+place_of (Not place operand) = place
+place_of (Literal place literal) = place
+place_of (Decimal place number) = place
 place_of (Referred reference) = place_of_reference reference
 place_of (Called place name arguments) = place
-place_of (Converted place conversion operand) = place
-place_of (Enclosed place inner) = place
+place_of (Convert place conversion operand) = place
+place_of (Parenthesis place inner) = place

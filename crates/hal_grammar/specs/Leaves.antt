@@ -13,22 +13,22 @@ naming p n = record { place = p; name = n }
 
 -- the sign of a term: plus, minus
 pub data Sign : Type 0 where
-  Added Subtracted : Sign
+  Plus Minus : Sign
 
 -- how two values are compared
 pub data Relation : Type 0 where
-  IsEqual IsLess IsGreater IsAtMost IsAtLeast IsNotEqual IsNotLess IsNotGreater : Relation
+  Equal Less Greater AtMost AtLeast NotEqual NotLess NotGreater : Relation
 
 -- what a conversion makes: INTEGER, BIT, CHARACTER
 pub data Conversion : Type 0 where
   ToInteger ToBits ToText : Conversion
 
 -- an integer, a text, bits, or one of the words TRUE, FALSE, ON and OFF
-pub data Literal : Type 0 where
-  WholeNumber : (number : ℕ) → Literal
-  QuotedText : (text : List ℕ) → Literal
-  BitPattern : (len bits : ℕ) → Literal
-  TrueBit FalseBit OnBit OffBit : Literal
+pub data LiteralValue : Type 0 where
+  Integer : (number : ℕ) → LiteralValue
+  Text : (text : List ℕ) → LiteralValue
+  Bits : (len bits : ℕ) → LiteralValue
+  True False On Off : LiteralValue
 
 -- the most that a list's members count
 abbrev pub most : {X : Type 0} → (X → ℕ) → List X → ℕ

@@ -5,9 +5,9 @@ use Rattle.std.specs.Prelude.{ℕ, List, [], ◌∷◌, Option, Some, None}
 use Rattle.hal_base.specs.declared.refusal.Place.{Place}
 use Rattle.hal_words.specs.declared.reserved.Reserved.TheVariants as reserved
 use Rattle.hal_words.specs.declared.word.Symbol.TheVariants as symbol
-use Rattle.hal_grammar.specs.Leaves.{Naming, naming, Sign, Literal}
+use Rattle.hal_grammar.specs.Leaves.{Naming, naming, Sign, LiteralValue}
 use Rattle.hal_grammar.specs.Expressions.{Expression, Expressions}
-use Rattle.hal_grammar.specs.Declarations.{Mark, SingleMark, DoubleMark, LatchedMark, StaticMark, AutomaticMark, DenseMark, AlignedMark, Kind, IntegerKind, BooleanKind, EventKind, BitKind, CharacterKind, StructureKind, Initial, Valued, LiteralTimes, NameTimes, ListTimes, Initials, NoInitials, MoreInitials, Attribute, Dimensions, Typed, Marked, LockGroup, LockAny, InitialValues, ConstantValues, Declared, declared_of, Part, part_of, Declaration, Declares, Structures}
+use Rattle.hal_grammar.specs.Declarations.{Mark, Single, Double, Latched, Static, Automatic, Dense, Aligned, Kind, IntegerKind, BooleanKind, EventKind, BitKind, CharacterKind, StructureKind, Initial, Value, LiteralTimes, NameTimes, ListTimes, Initials, NoInitials, MoreInitials, Attribute, Dimensions, Typed, Marked, LockGroup, LockAny, InitialValues, ConstantValues, Declared, declared_of, Part, part_of, Declaration, Declare, Structure}
 use Rattle.hal_grammar.specs.Words.{Words, reserved_then, symbol_then, name_then, integer_then, BeginsReserved, BeginsSymbol}
 use Rattle.hal_grammar.specs.SpellsExpressions.{SpellsSign, SpellsLiteral, SpellsExpression, SpellsExpressions}
 
@@ -54,8 +54,8 @@ pub data SpellsOpening : Option Sign → Words → Words → Type 0 where
 mutual
   -- an expression, or an integer, `#`, and a literal or a name with a sign or without, or a list in parentheses
   pub data SpellsInitial : Initial → Words → Words → Type 0 where
-    valued : {t : Expression} {before after : Words} → SpellsExpression t before after → SpellsInitial (Valued t) before after
-    literal_times : {p q r : Place} {n : ℕ} {s : Option Sign} {l : Literal} {before middle after : Words} → SpellsOpening s before middle → SpellsLiteral l r middle after →
+    valued : {t : Expression} {before after : Words} → SpellsExpression t before after → SpellsInitial (Value t) before after
+    literal_times : {p q r : Place} {n : ℕ} {s : Option Sign} {l : LiteralValue} {before middle after : Words} → SpellsOpening s before middle → SpellsLiteral l r middle after →
         SpellsInitial (LiteralTimes p n s r l) (integer_then n p (symbol_then symbol.Number q before)) after
     name_times : {p q r : Place} {n : ℕ} {s : Option Sign} {x : List ℕ} {before after : Words} → SpellsOpening s before (name_then x r after) →
         SpellsInitial (NameTimes p n s (naming r x)) (integer_then n p (symbol_then symbol.Number q before)) after
@@ -70,13 +70,13 @@ mutual
 
 -- an attribute of one word
 pub data SpellsMark : Mark → Place → Words → Words → Type 0 where
-  single_mark : {p : Place} {after : Words} → SpellsMark SingleMark p (reserved_then reserved.Single p after) after
-  double_mark : {p : Place} {after : Words} → SpellsMark DoubleMark p (reserved_then reserved.Double p after) after
-  latched_mark : {p : Place} {after : Words} → SpellsMark LatchedMark p (reserved_then reserved.Latched p after) after
-  static_mark : {p : Place} {after : Words} → SpellsMark StaticMark p (reserved_then reserved.Static p after) after
-  automatic_mark : {p : Place} {after : Words} → SpellsMark AutomaticMark p (reserved_then reserved.Automatic p after) after
-  dense_mark : {p : Place} {after : Words} → SpellsMark DenseMark p (reserved_then reserved.Dense p after) after
-  aligned_mark : {p : Place} {after : Words} → SpellsMark AlignedMark p (reserved_then reserved.Aligned p after) after
+  single_mark : {p : Place} {after : Words} → SpellsMark Single p (reserved_then reserved.Single p after) after
+  double_mark : {p : Place} {after : Words} → SpellsMark Double p (reserved_then reserved.Double p after) after
+  latched_mark : {p : Place} {after : Words} → SpellsMark Latched p (reserved_then reserved.Latched p after) after
+  static_mark : {p : Place} {after : Words} → SpellsMark Static p (reserved_then reserved.Static p after) after
+  automatic_mark : {p : Place} {after : Words} → SpellsMark Automatic p (reserved_then reserved.Automatic p after) after
+  dense_mark : {p : Place} {after : Words} → SpellsMark Dense p (reserved_then reserved.Dense p after) after
+  aligned_mark : {p : Place} {after : Words} → SpellsMark Aligned p (reserved_then reserved.Aligned p after) after
 
 -- an attribute
 pub data SpellsAttribute : Attribute → Words → Words → Type 0 where
@@ -113,12 +113,12 @@ pub data SpellsPart : Part → Words → Words → Type 0 where
 -- DECLARE with attributes and a comma before the names, or without, or STRUCTURE
 pub data SpellsDeclaration : Declaration → Words → Words → Type 0 where
   declares : {p q : Place} {items : List Declared} {before after : Words} → Parted SpellsDeclared items before (symbol_then symbol.Semicolon q after) →
-      SpellsDeclaration (Declares p [] items) (reserved_then reserved.Declare p before) after
+      SpellsDeclaration (Declare p [] items) (reserved_then reserved.Declare p before) after
   declares_all : {p q r : Place} {x : Attribute} {xs : List Attribute} {items : List Declared} {before middle after : Words} →
       SpellsAttributes (x ∷ xs) before (symbol_then symbol.Comma r middle) → Parted SpellsDeclared items middle (symbol_then symbol.Semicolon q after) →
-      SpellsDeclaration (Declares p (x ∷ xs) items) (reserved_then reserved.Declare p before) after
+      SpellsDeclaration (Declare p (x ∷ xs) items) (reserved_then reserved.Declare p before) after
   structures : {p q r s : Place} {n : List ℕ} {parts : List Part} {before after : Words} → Parted SpellsPart parts before (symbol_then symbol.Semicolon s after) →
-      SpellsDeclaration (Structures p (naming q n) parts) (reserved_then reserved.Structure p (name_then n q (symbol_then symbol.Colon r before))) after
+      SpellsDeclaration (Structure p (naming q n) parts) (reserved_then reserved.Structure p (name_then n q (symbol_then symbol.Colon r before))) after
 
 -- any number of declarations
 pub data SpellsDeclarations : List Declaration → Words → Words → Type 0 where

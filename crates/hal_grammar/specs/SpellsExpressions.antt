@@ -5,35 +5,35 @@ use Rattle.hal_base.specs.declared.refusal.Place.{Place}
 use Rattle.hal_words.specs.declared.reserved.Reserved.TheVariants as reserved
 use Rattle.hal_words.specs.declared.word.Symbol.TheVariants as symbol
 use Rattle.hal_words.specs.declared.word.Word.TheVariants as word
-use Rattle.hal_grammar.specs.Leaves.{Naming, naming, Sign, Added, Subtracted, Relation, IsEqual, IsLess, IsGreater, IsAtMost, IsAtLeast, IsNotEqual, IsNotLess, IsNotGreater, ToInteger, ToBits, ToText, Literal, WholeNumber, QuotedText, BitPattern, TrueBit, FalseBit, OnBit, OffBit}
-use Rattle.hal_grammar.specs.Expressions.{Expression, Ors, Ands, Compared, Joined, Summed, Multiplied, Powered, Negated, Literally, Thousandths, Referred, Called, Converted, Enclosed, Expressions, NoExpressions, MoreExpressions, Terms, NoTerms, MoreTerms, Reference, Refers, Subscript, Unsubscripted, ByName, ByInteger, ByParts, Subscripts, NoSubscripts, MoreSubscripts, Sub, EveryPlace, OnePlace, Range, Portion, Position, FromBeginning, FromEnd}
+use Rattle.hal_grammar.specs.Leaves.{Naming, naming, Sign, Plus, Minus, Relation, Equal, Less, Greater, AtMost, AtLeast, NotEqual, NotLess, NotGreater, ToInteger, ToBits, ToText, LiteralValue, Integer, Text, Bits, True, False, On, Off}
+use Rattle.hal_grammar.specs.Expressions.{Expression, Or, And, Compare, Cat, Sum, Product, Power, Not, Literal, Decimal, Referred, Called, Convert, Parenthesis, Expressions, NoExpressions, MoreExpressions, Terms, NoTerms, MoreTerms, Reference, Refers, Subscript, Unsubscripted, ByName, ByInteger, ByParts, Subscripts, NoSubscripts, MoreSubscripts, Sub, Every, One, Range, Portion, Position, FromBeginning, FromEnd}
 use Rattle.hal_grammar.specs.Words.{Words, token, reserved_then, symbol_then, name_then, integer_then, At, BeginsReserved, BeginsSymbol}
 
 -- `+` or `-`
 pub data SpellsSign : Sign → Place → Words → Words → Type 0 where
-  plus : {p : Place} {after : Words} → SpellsSign Added p (symbol_then symbol.Plus p after) after
-  minus : {p : Place} {after : Words} → SpellsSign Subtracted p (symbol_then symbol.Minus p after) after
+  plus : {p : Place} {after : Words} → SpellsSign Plus p (symbol_then symbol.Plus p after) after
+  minus : {p : Place} {after : Words} → SpellsSign Minus p (symbol_then symbol.Minus p after) after
 
 -- `=` `<` `>` `<=` `>=`, and `NOT =` `NOT <` `NOT >`
 pub data SpellsRelation : Relation → Words → Words → Type 0 where
-  equal : {p : Place} {after : Words} → SpellsRelation IsEqual (symbol_then symbol.Equals p after) after
-  less : {p : Place} {after : Words} → SpellsRelation IsLess (symbol_then symbol.Less p after) after
-  greater : {p : Place} {after : Words} → SpellsRelation IsGreater (symbol_then symbol.Greater p after) after
-  at_most : {p : Place} {after : Words} → SpellsRelation IsAtMost (symbol_then symbol.AtMost p after) after
-  at_least : {p : Place} {after : Words} → SpellsRelation IsAtLeast (symbol_then symbol.AtLeast p after) after
-  not_equal : {p q : Place} {after : Words} → SpellsRelation IsNotEqual (reserved_then reserved.Not p (symbol_then symbol.Equals q after)) after
-  not_less : {p q : Place} {after : Words} → SpellsRelation IsNotLess (reserved_then reserved.Not p (symbol_then symbol.Less q after)) after
-  not_greater : {p q : Place} {after : Words} → SpellsRelation IsNotGreater (reserved_then reserved.Not p (symbol_then symbol.Greater q after)) after
+  equal : {p : Place} {after : Words} → SpellsRelation Equal (symbol_then symbol.Equals p after) after
+  less : {p : Place} {after : Words} → SpellsRelation Less (symbol_then symbol.Less p after) after
+  greater : {p : Place} {after : Words} → SpellsRelation Greater (symbol_then symbol.Greater p after) after
+  at_most : {p : Place} {after : Words} → SpellsRelation AtMost (symbol_then symbol.AtMost p after) after
+  at_least : {p : Place} {after : Words} → SpellsRelation AtLeast (symbol_then symbol.AtLeast p after) after
+  not_equal : {p q : Place} {after : Words} → SpellsRelation NotEqual (reserved_then reserved.Not p (symbol_then symbol.Equals q after)) after
+  not_less : {p q : Place} {after : Words} → SpellsRelation NotLess (reserved_then reserved.Not p (symbol_then symbol.Less q after)) after
+  not_greater : {p q : Place} {after : Words} → SpellsRelation NotGreater (reserved_then reserved.Not p (symbol_then symbol.Greater q after)) after
 
 -- an integer, a text, bits, TRUE, FALSE, ON, OFF
-pub data SpellsLiteral : Literal → Place → Words → Words → Type 0 where
-  integer : {n : ℕ} {p : Place} {after : Words} → SpellsLiteral (WholeNumber n) p (integer_then n p after) after
-  text : {t : List ℕ} {p : Place} {after : Words} → SpellsLiteral (QuotedText t) p (token (word.Text t) p ∷ after) after
-  bits : {len bits : ℕ} {p : Place} {after : Words} → SpellsLiteral (BitPattern len bits) p (token (word.Bits len bits) p ∷ after) after
-  true_bit : {p : Place} {after : Words} → SpellsLiteral TrueBit p (reserved_then reserved.True p after) after
-  false_bit : {p : Place} {after : Words} → SpellsLiteral FalseBit p (reserved_then reserved.False p after) after
-  on_bit : {p : Place} {after : Words} → SpellsLiteral OnBit p (reserved_then reserved.On p after) after
-  off_bit : {p : Place} {after : Words} → SpellsLiteral OffBit p (reserved_then reserved.Off p after) after
+pub data SpellsLiteral : LiteralValue → Place → Words → Words → Type 0 where
+  integer : {n : ℕ} {p : Place} {after : Words} → SpellsLiteral (Integer n) p (integer_then n p after) after
+  text : {t : List ℕ} {p : Place} {after : Words} → SpellsLiteral (Text t) p (token (word.Text t) p ∷ after) after
+  bits : {len bits : ℕ} {p : Place} {after : Words} → SpellsLiteral (Bits len bits) p (token (word.Bits len bits) p ∷ after) after
+  true_bit : {p : Place} {after : Words} → SpellsLiteral True p (reserved_then reserved.True p after) after
+  false_bit : {p : Place} {after : Words} → SpellsLiteral False p (reserved_then reserved.False p after) after
+  on_bit : {p : Place} {after : Words} → SpellsLiteral On p (reserved_then reserved.On p after) after
+  off_bit : {p : Place} {after : Words} → SpellsLiteral Off p (reserved_then reserved.Off p after) after
 
 -- any number of: a point and a name
 pub data SpellsFurther : List Naming → Words → Words → Type 0 where
@@ -50,7 +50,7 @@ mutual
   pub data SpellsExpression : Expression → Words → Words → Type 0 where
     both : {t : Expression} {before after : Words} → SpellsBoth t before after → SpellsExpression t before after
     ors : {p : Place} {t u : Expression} {us : Expressions} {before middle after : Words} → At p before →
-        SpellsBoth t before middle → SpellsOrs (MoreExpressions u us) middle after → SpellsExpression (Ors p t (MoreExpressions u us)) before after
+        SpellsBoth t before middle → SpellsOrs (MoreExpressions u us) middle after → SpellsExpression (Or p t (MoreExpressions u us)) before after
 
   -- any number of: OR and a conjunction
   pub data SpellsOrs : Expressions → Words → Words → Type 0 where
@@ -62,7 +62,7 @@ mutual
   pub data SpellsBoth : Expression → Words → Words → Type 0 where
     comparison : {t : Expression} {before after : Words} → SpellsComparison t before after → SpellsBoth t before after
     ands : {p : Place} {t u : Expression} {us : Expressions} {before middle after : Words} → At p before →
-        SpellsComparison t before middle → SpellsAnds (MoreExpressions u us) middle after → SpellsBoth (Ands p t (MoreExpressions u us)) before after
+        SpellsComparison t before middle → SpellsAnds (MoreExpressions u us) middle after → SpellsBoth (And p t (MoreExpressions u us)) before after
 
   -- any number of: AND and a comparison
   pub data SpellsAnds : Expressions → Words → Words → Type 0 where
@@ -74,13 +74,13 @@ mutual
   pub data SpellsComparison : Expression → Words → Words → Type 0 where
     cat : {t : Expression} {before after : Words} → SpellsCat t before after → SpellsComparison t before after
     compared : {p : Place} {t u : Expression} {r : Relation} {before left right after : Words} → At p before →
-        SpellsCat t before left → SpellsRelation r left right → SpellsCat u right after → SpellsComparison (Compared p t r u) before after
+        SpellsCat t before left → SpellsRelation r left right → SpellsCat u right after → SpellsComparison (Compare p t r u) before after
 
   -- sums with CAT between them, or one alone
   pub data SpellsCat : Expression → Words → Words → Type 0 where
     sum : {t : Expression} {before after : Words} → SpellsSum t before after → SpellsCat t before after
     joined : {p : Place} {t u : Expression} {us : Expressions} {before middle after : Words} → At p before →
-        SpellsSum t before middle → SpellsCats (MoreExpressions u us) middle after → SpellsCat (Joined p t (MoreExpressions u us)) before after
+        SpellsSum t before middle → SpellsCats (MoreExpressions u us) middle after → SpellsCat (Cat p t (MoreExpressions u us)) before after
 
   -- any number of: CAT and a sum
   pub data SpellsCats : Expressions → Words → Words → Type 0 where
@@ -92,9 +92,9 @@ mutual
   pub data SpellsSum : Expression → Words → Words → Type 0 where
     term : {t : Expression} {before after : Words} → SpellsTerm t before after → SpellsSum t before after
     summed : {p q : Place} {s : Sign} {t u : Expression} {us : Terms} {before middle after : Words} → At p before →
-        SpellsTerm t before middle → SpellsTerms (MoreTerms q s u us) middle after → SpellsSum (Summed p None t (MoreTerms q s u us)) before after
+        SpellsTerm t before middle → SpellsTerms (MoreTerms q s u us) middle after → SpellsSum (Sum p None t (MoreTerms q s u us)) before after
     signed : {p : Place} {s : Sign} {t : Expression} {us : Terms} {before left middle after : Words} → SpellsSign s p before left →
-        SpellsTerm t left middle → SpellsTerms us middle after → SpellsSum (Summed p (Some s) t us) before after
+        SpellsTerm t left middle → SpellsTerms us middle after → SpellsSum (Sum p (Some s) t us) before after
 
   -- any number of: a sign and a term
   pub data SpellsTerms : Terms → Words → Words → Type 0 where
@@ -106,7 +106,7 @@ mutual
   pub data SpellsTerm : Expression → Words → Words → Type 0 where
     factor : {t : Expression} {before after : Words} → SpellsFactor t before after → SpellsTerm t before after
     multiplied : {p : Place} {t u : Expression} {us : Expressions} {before middle after : Words} → At p before →
-        SpellsFactor t before middle → SpellsFactors (MoreExpressions u us) middle after → SpellsTerm (Multiplied p t (MoreExpressions u us)) before after
+        SpellsFactor t before middle → SpellsFactors (MoreExpressions u us) middle after → SpellsTerm (Product p t (MoreExpressions u us)) before after
 
   -- any number of factors, none of which begins with NOT
   pub data SpellsFactors : Expressions → Words → Words → Type 0 where
@@ -118,25 +118,25 @@ mutual
   pub data SpellsFactor : Expression → Words → Words → Type 0 where
     primary : {t : Expression} {before after : Words} → SpellsPrimary t before after → SpellsFactor t before after
     powered : {p q : Place} {t u : Expression} {before middle after : Words} → At p before →
-        SpellsPrimary t before (symbol_then symbol.Power q middle) → SpellsPrimary u middle after → SpellsFactor (Powered p t u) before after
+        SpellsPrimary t before (symbol_then symbol.Power q middle) → SpellsPrimary u middle after → SpellsFactor (Power p t u) before after
 
   -- NOT, a literal, a decimal, a reference, the call form, a conversion, a parenthesis; a name alone that `(` follows begins the call form
   pub data SpellsPrimary : Expression → Words → Words → Type 0 where
-    negated : {p : Place} {t : Expression} {before after : Words} → SpellsPrimary t before after → SpellsPrimary (Negated p t) (reserved_then reserved.Not p before) after
-    literal : {p : Place} {l : Literal} {before after : Words} → SpellsLiteral l p before after → SpellsPrimary (Literally p l) before after
-    thousandths : {p : Place} {n : ℕ} {after : Words} → SpellsPrimary (Thousandths p n) (token (word.Decimal n) p ∷ after) after
+    negated : {p : Place} {t : Expression} {before after : Words} → SpellsPrimary t before after → SpellsPrimary (Not p t) (reserved_then reserved.Not p before) after
+    literal : {p : Place} {l : LiteralValue} {before after : Words} → SpellsLiteral l p before after → SpellsPrimary (Literal p l) before after
+    thousandths : {p : Place} {n : ℕ} {after : Words} → SpellsPrimary (Decimal p n) (token (word.Decimal n) p ∷ after) after
     referred : {p : Place} {n : List ℕ} {r : Reference} {before after : Words} → SpellsReference r (name_then n p before) after →
         (IsNameAlone r → ¬ BeginsSymbol symbol.LeftParenthesis after) → SpellsPrimary (Referred r) (name_then n p before) after
     called : {p q r : Place} {n : List ℕ} {ts : Expressions} {before after : Words} → SpellsExpressions ts before (symbol_then symbol.RightParenthesis r after) →
         SpellsPrimary (Called p n ts) (name_then n p (symbol_then symbol.LeftParenthesis q before)) after
     to_integer : {p q r : Place} {t : Expression} {before after : Words} → SpellsExpression t before (symbol_then symbol.RightParenthesis r after) →
-        SpellsPrimary (Converted p ToInteger t) (reserved_then reserved.Integer p (symbol_then symbol.LeftParenthesis q before)) after
+        SpellsPrimary (Convert p ToInteger t) (reserved_then reserved.Integer p (symbol_then symbol.LeftParenthesis q before)) after
     to_bits : {p q r : Place} {t : Expression} {before after : Words} → SpellsExpression t before (symbol_then symbol.RightParenthesis r after) →
-        SpellsPrimary (Converted p ToBits t) (reserved_then reserved.Bit p (symbol_then symbol.LeftParenthesis q before)) after
+        SpellsPrimary (Convert p ToBits t) (reserved_then reserved.Bit p (symbol_then symbol.LeftParenthesis q before)) after
     to_text : {p q r : Place} {t : Expression} {before after : Words} → SpellsExpression t before (symbol_then symbol.RightParenthesis r after) →
-        SpellsPrimary (Converted p ToText t) (reserved_then reserved.Character p (symbol_then symbol.LeftParenthesis q before)) after
+        SpellsPrimary (Convert p ToText t) (reserved_then reserved.Character p (symbol_then symbol.LeftParenthesis q before)) after
     enclosed : {p r : Place} {t : Expression} {before after : Words} → SpellsExpression t before (symbol_then symbol.RightParenthesis r after) →
-        SpellsPrimary (Enclosed p t) (symbol_then symbol.LeftParenthesis p before) after
+        SpellsPrimary (Parenthesis p t) (symbol_then symbol.LeftParenthesis p before) after
 
   -- one expression or more, parted by commas
   pub data SpellsExpressions : Expressions → Words → Words → Type 0 where
@@ -184,8 +184,8 @@ mutual
 
   -- `*`, a place, a place TO a place, or a sum AT a place
   pub data SpellsSub : Sub → Words → Words → Type 0 where
-    every_place : {p : Place} {after : Words} → SpellsSub (EveryPlace p) (symbol_then symbol.Star p after) after
-    one_place : {x : Position} {before after : Words} → SpellsPosition x before after → SpellsSub (OnePlace x) before after
+    every_place : {p : Place} {after : Words} → SpellsSub (Every p) (symbol_then symbol.Star p after) after
+    one_place : {x : Position} {before after : Words} → SpellsPosition x before after → SpellsSub (One x) before after
     range : {p : Place} {x y : Position} {before middle after : Words} → SpellsPosition x before (reserved_then reserved.To p middle) →
         SpellsPosition y middle after → SpellsSub (Range x y) before after
     portion : {p : Place} {t : Expression} {x : Position} {before middle after : Words} → SpellsSum t before (reserved_then reserved.At p middle) →

@@ -7,7 +7,7 @@ use Rattle.hal_words.specs.declared.word.Symbol.TheVariants as symbol
 use Rattle.hal_grammar.specs.Leaves.{Naming, naming}
 use Rattle.hal_grammar.specs.Declarations.{Kind, Declaration}
 use Rattle.hal_grammar.specs.Statements.{Statement}
-use Rattle.hal_grammar.specs.Units.{Mode, Reenters, Excludes, Precision, SinglePrecision, DoublePrecision, Returns, NoKind, HasKind, Head, ProgramHead, CompoolHead, TaskHead, ProcedureHead, FunctionHead, Block, BlockOf, Elements, NoElements, StatementFirst, BlockFirst, Template, template_of, Preface, Includes, Templates, File, file_of, stands_inside, holds_elements}
+use Rattle.hal_grammar.specs.Units.{Mode, Reentrant, Exclusive, Precision, SinglePrecision, DoublePrecision, Returns, NoKind, HasKind, Head, Program, Compool, Task, Procedure, Function, Block, BlockOf, Elements, NoElements, StatementFirst, BlockFirst, Template, template_of, Preface, Include, Templates, File, file_of, stands_inside, holds_elements}
 use Rattle.hal_grammar.specs.Words.{Words, reserved_then, symbol_then, name_then, BeginsReserved, BeginsSymbol}
 use Rattle.hal_grammar.specs.SpellsDeclarations.{SpellsNames, SpellsNameEnd, SpellsKind, SpellsDeclarations}
 use Rattle.hal_grammar.specs.SpellsStatements.{SpellsStatement}
@@ -27,8 +27,8 @@ pub data SpellsOutputs : List Naming → Words → Words → Type 0 where
 -- a semicolon, or REENTRANT or EXCLUSIVE and a semicolon
 pub data SpellsModeEnd : Option Mode → Words → Words → Type 0 where
   no_mode_end : {q : Place} {after : Words} → SpellsModeEnd None (symbol_then symbol.Semicolon q after) after
-  reenters_end : {p q : Place} {after : Words} → SpellsModeEnd (Some (Reenters p)) (reserved_then reserved.Reentrant p (symbol_then symbol.Semicolon q after)) after
-  excludes_end : {p q : Place} {after : Words} → SpellsModeEnd (Some (Excludes p)) (reserved_then reserved.Exclusive p (symbol_then symbol.Semicolon q after)) after
+  reenters_end : {p q : Place} {after : Words} → SpellsModeEnd (Some (Reentrant p)) (reserved_then reserved.Reentrant p (symbol_then symbol.Semicolon q after)) after
+  excludes_end : {p q : Place} {after : Words} → SpellsModeEnd (Some (Exclusive p)) (reserved_then reserved.Exclusive p (symbol_then symbol.Semicolon q after)) after
 
 -- nothing, or SINGLE or DOUBLE, before the mode and the semicolon
 pub data SpellsPrecisionEnd : Option Precision → Option Mode → Words → Words → Type 0 where
@@ -46,13 +46,13 @@ pub data SpellsReturnsEnd : Returns → Option Mode → Words → Words → Type
 
 -- the head of a unit
 pub data SpellsHead : Head → Words → Words → Type 0 where
-  program_head : {p q : Place} {after : Words} → SpellsHead (ProgramHead p) (reserved_then reserved.Program p (symbol_then symbol.Semicolon q after)) after
-  compool_head : {p q : Place} {after : Words} → SpellsHead (CompoolHead p) (reserved_then reserved.Compool p (symbol_then symbol.Semicolon q after)) after
-  task_head : {p q : Place} {after : Words} → SpellsHead (TaskHead p) (reserved_then reserved.Task p (symbol_then symbol.Semicolon q after)) after
+  program_head : {p q : Place} {after : Words} → SpellsHead (Program p) (reserved_then reserved.Program p (symbol_then symbol.Semicolon q after)) after
+  compool_head : {p q : Place} {after : Words} → SpellsHead (Compool p) (reserved_then reserved.Compool p (symbol_then symbol.Semicolon q after)) after
+  task_head : {p q : Place} {after : Words} → SpellsHead (Task p) (reserved_then reserved.Task p (symbol_then symbol.Semicolon q after)) after
   procedure_head : {p : Place} {ins outs : List Naming} {m : Option Mode} {before middle rest after : Words} → SpellsInputs ins before middle → SpellsOutputs outs middle rest →
-      SpellsModeEnd m rest after → SpellsHead (ProcedureHead p ins outs m) (reserved_then reserved.Procedure p before) after
+      SpellsModeEnd m rest after → SpellsHead (Procedure p ins outs m) (reserved_then reserved.Procedure p before) after
   function_head : {p : Place} {ins : List Naming} {r : Returns} {m : Option Mode} {before middle after : Words} → SpellsInputs ins before middle →
-      SpellsReturnsEnd r m middle after → SpellsHead (FunctionHead p ins r m) (reserved_then reserved.Function p before) after
+      SpellsReturnsEnd r m middle after → SpellsHead (Function p ins r m) (reserved_then reserved.Function p before) after
 
 mutual
   -- a unit; a COMPOOL holds no elements
@@ -78,7 +78,7 @@ pub data SpellsTemplate : Template → Words → Words → Type 0 where
 
 -- INCLUDE and a name, or a template
 pub data SpellsPreface : Preface → Words → Words → Type 0 where
-  includes : {p q : Place} {n : List ℕ} {after : Words} → SpellsPreface (Includes p (naming q n)) (reserved_then reserved.Include p (name_then n q after)) after
+  includes : {p q : Place} {n : List ℕ} {after : Words} → SpellsPreface (Include p (naming q n)) (reserved_then reserved.Include p (name_then n q after)) after
   templates : {t : Template} {before after : Words} → SpellsTemplate t before after → SpellsPreface (Templates t) before after
 
 -- any number of includes and templates, and a unit

@@ -6,7 +6,7 @@ use Rattle.hal_words.specs.declared.reserved.Reserved.TheVariants as reserved
 use Rattle.hal_words.specs.declared.word.Symbol.TheVariants as symbol
 use Rattle.hal_grammar.specs.Leaves.{Naming, naming}
 use Rattle.hal_grammar.specs.Expressions.{Expression, Expressions, NoExpressions, Reference}
-use Rattle.hal_grammar.specs.Statements.{Guard, AsLong, Unless, Span, Stepped, Listed, Selector, EveryError, GroupErrors, OneError, Pulses, Raises, Lowers, Eventful, eventful, Response, BySystem, Ignored, Start, StartAt, StartIn, StartOn, Cycle, Cyclic, CyclicEvery, CyclicAfter, Schedule, scheduling, Statement, Labelled, Basic, Empty, Assigned, Chosen, Grouped, Selected, Looped, Ranged, Left, Repeated, Returned, CallsBlock, Inputs, Outputs, Updates, Scheduled, Cancelled, Terminated, Waits, WaitsUntil, WaitsForDependents, WaitsFor, Acts, Prioritizes, Handles, Answers, Forgets, Sends, Alternative, NoAlternative, Otherwise, Group, Groups, Statements, NoStatements, MoreStatements}
+use Rattle.hal_grammar.specs.Statements.{Guard, While, Until, Span, Stepped, Listed, Selector, EveryError, GroupErrors, OneError, Signal, Set, Reset, Eventful, eventful, Response, System, Ignore, Start, StartAt, StartIn, StartOn, Cycle, Cyclic, CyclicEvery, CyclicAfter, Schedule, scheduling, Statement, Labelled, Basic, Null, Assignment, If, Do, DoCase, DoLoop, DoFor, Exit, Repeat, Return, Call, Read, Write, Update, Scheduled, Cancel, Terminate, Wait, WaitUntil, WaitForDependent, WaitFor, Event, UpdatePriority, OnErrorStatement, OnErrorResponse, OffError, SendError, Alternative, NoAlternative, Otherwise, Group, Groups, Statements, NoStatements, MoreStatements}
 use Rattle.hal_grammar.specs.Words.{Words, reserved_then, symbol_then, name_then, integer_then, BeginsReserved, BeginsSymbol}
 use Rattle.hal_grammar.specs.SpellsExpressions.{SpellsExpression, SpellsExpressions, SpellsReference}
 use Rattle.hal_grammar.specs.SpellsDeclarations.{Parted, SpellsNames, SpellsNameEnd}
@@ -26,8 +26,8 @@ pub data SpellsReceivers : List Reference → Words → Words → Type 0 where
 -- nothing, or WHILE or UNTIL and a condition
 pub data SpellsGuard : Option Guard → Words → Words → Type 0 where
   no_guard : {after : Words} → ¬ BeginsReserved reserved.While after → ¬ BeginsReserved reserved.Until after → SpellsGuard None after after
-  as_long : {p : Place} {t : Expression} {before after : Words} → SpellsExpression t before after → SpellsGuard (Some (AsLong p t)) (reserved_then reserved.While p before) after
-  unless : {p : Place} {t : Expression} {before after : Words} → SpellsExpression t before after → SpellsGuard (Some (Unless p t)) (reserved_then reserved.Until p before) after
+  as_long : {p : Place} {t : Expression} {before after : Words} → SpellsExpression t before after → SpellsGuard (Some (While p t)) (reserved_then reserved.While p before) after
+  unless : {p : Place} {t : Expression} {before after : Words} → SpellsExpression t before after → SpellsGuard (Some (Until p t)) (reserved_then reserved.Until p before) after
 
 -- nothing, or BY and an expression
 pub data SpellsStep : Option Expression → Words → Words → Type 0 where
@@ -58,14 +58,14 @@ pub data SpellsSelector : Selector → Words → Words → Type 0 where
 
 -- SIGNAL, SET or RESET and a name
 pub data SpellsEvent : Eventful → Words → Words → Type 0 where
-  pulses : {p q : Place} {n : List ℕ} {after : Words} → SpellsEvent (eventful p Pulses (naming q n)) (reserved_then reserved.Signal p (name_then n q after)) after
-  raises : {p q : Place} {n : List ℕ} {after : Words} → SpellsEvent (eventful p Raises (naming q n)) (reserved_then reserved.Set p (name_then n q after)) after
-  lowers : {p q : Place} {n : List ℕ} {after : Words} → SpellsEvent (eventful p Lowers (naming q n)) (reserved_then reserved.Reset p (name_then n q after)) after
+  pulses : {p q : Place} {n : List ℕ} {after : Words} → SpellsEvent (eventful p Signal (naming q n)) (reserved_then reserved.Signal p (name_then n q after)) after
+  raises : {p q : Place} {n : List ℕ} {after : Words} → SpellsEvent (eventful p Set (naming q n)) (reserved_then reserved.Set p (name_then n q after)) after
+  lowers : {p q : Place} {n : List ℕ} {after : Words} → SpellsEvent (eventful p Reset (naming q n)) (reserved_then reserved.Reset p (name_then n q after)) after
 
 -- SYSTEM or IGNORE
 pub data SpellsResponse : Response → Words → Words → Type 0 where
-  by_system : {p : Place} {after : Words} → SpellsResponse BySystem (reserved_then reserved.System p after) after
-  ignored : {p : Place} {after : Words} → SpellsResponse Ignored (reserved_then reserved.Ignore p after) after
+  by_system : {p : Place} {after : Words} → SpellsResponse System (reserved_then reserved.System p after) after
+  ignored : {p : Place} {after : Words} → SpellsResponse Ignore (reserved_then reserved.Ignore p after) after
 
 -- a semicolon, or AND, an event and a semicolon
 pub data SpellsEventEnd : Option Eventful → Words → Words → Type 0 where
@@ -141,69 +141,69 @@ mutual
 
   -- a statement without labels
   pub data SpellsBasic : Basic → Words → Words → Type 0 where
-    empty : {p : Place} {after : Words} → SpellsBasic (Empty p) (symbol_then symbol.Semicolon p after) after
+    empty : {p : Place} {after : Words} → SpellsBasic (Null p) (symbol_then symbol.Semicolon p after) after
     assigned : {p q r : Place} {n : List ℕ} {xs : List Reference} {t : Expression} {before middle after : Words} →
         Parted SpellsReference xs (name_then n p before) (symbol_then symbol.Equals q middle) → SpellsExpression t middle (symbol_then symbol.Semicolon r after) →
-        SpellsBasic (Assigned p xs t) (name_then n p before) after
+        SpellsBasic (Assignment p xs t) (name_then n p before) after
     chosen : {p q : Place} {t : Expression} {s : Statement} {e : Alternative} {before middle rest after : Words} → SpellsExpression t before (reserved_then reserved.Then q middle) →
-        SpellsStatement s middle rest → SpellsAlternative e rest after → SpellsBasic (Chosen p t s e) (reserved_then reserved.If p before) after
+        SpellsStatement s middle rest → SpellsAlternative e rest after → SpellsBasic (If p t s e) (reserved_then reserved.If p before) after
     grouped : {p q : Place} {g : Group} {before after : Words} → SpellsGroup g before after →
-        SpellsBasic (Grouped p g) (reserved_then reserved.Do p (symbol_then symbol.Semicolon q before)) after
+        SpellsBasic (Do p g) (reserved_then reserved.Do p (symbol_then symbol.Semicolon q before)) after
     selected : {p q r : Place} {t : Expression} {e : Alternative} {g : Group} {before middle rest after : Words} → SpellsExpression t before (symbol_then symbol.Semicolon r middle) →
         SpellsAlternative e middle rest → SpellsGroup g rest after →
-        SpellsBasic (Selected p t e g) (reserved_then reserved.Do p (reserved_then reserved.Case q before)) after
+        SpellsBasic (DoCase p t e g) (reserved_then reserved.Do p (reserved_then reserved.Case q before)) after
     looped_while : {p q r : Place} {t : Expression} {g : Group} {before middle after : Words} → SpellsExpression t before (symbol_then symbol.Semicolon r middle) →
-        SpellsGroup g middle after → SpellsBasic (Looped p (AsLong q t) g) (reserved_then reserved.Do p (reserved_then reserved.While q before)) after
+        SpellsGroup g middle after → SpellsBasic (DoLoop p (While q t) g) (reserved_then reserved.Do p (reserved_then reserved.While q before)) after
     looped_until : {p q r : Place} {t : Expression} {g : Group} {before middle after : Words} → SpellsExpression t before (symbol_then symbol.Semicolon r middle) →
-        SpellsGroup g middle after → SpellsBasic (Looped p (Unless q t) g) (reserved_then reserved.Do p (reserved_then reserved.Until q before)) after
+        SpellsGroup g middle after → SpellsBasic (DoLoop p (Until q t) g) (reserved_then reserved.Do p (reserved_then reserved.Until q before)) after
     ranged : {p q r e s : Place} {b : Bool} {n : List ℕ} {x : Span} {c : Option Guard} {g : Group} {before span guard middle after : Words} →
         SpellsTemporary b before (name_then n r (symbol_then symbol.Equals e span)) → SpellsSpan x span guard → SpellsGuard c guard (symbol_then symbol.Semicolon s middle) →
-        SpellsGroup g middle after → SpellsBasic (Ranged p b (naming r n) x c g) (reserved_then reserved.Do p (reserved_then reserved.For q before)) after
-    left : {p : Place} {n : Option Naming} {before after : Words} → SpellsNameEnd n before after → SpellsBasic (Left p n) (reserved_then reserved.Exit p before) after
-    repeated : {p : Place} {n : Option Naming} {before after : Words} → SpellsNameEnd n before after → SpellsBasic (Repeated p n) (reserved_then reserved.Repeat p before) after
-    returned : {p q : Place} {after : Words} → SpellsBasic (Returned p None) (reserved_then reserved.Return p (symbol_then symbol.Semicolon q after)) after
+        SpellsGroup g middle after → SpellsBasic (DoFor p b (naming r n) x c g) (reserved_then reserved.Do p (reserved_then reserved.For q before)) after
+    left : {p : Place} {n : Option Naming} {before after : Words} → SpellsNameEnd n before after → SpellsBasic (Exit p n) (reserved_then reserved.Exit p before) after
+    repeated : {p : Place} {n : Option Naming} {before after : Words} → SpellsNameEnd n before after → SpellsBasic (Repeat p n) (reserved_then reserved.Repeat p before) after
+    returned : {p q : Place} {after : Words} → SpellsBasic (Return p None) (reserved_then reserved.Return p (symbol_then symbol.Semicolon q after)) after
     returned_value : {p q : Place} {t : Expression} {before after : Words} → SpellsExpression t before (symbol_then symbol.Semicolon q after) →
-        SpellsBasic (Returned p (Some t)) (reserved_then reserved.Return p before) after
+        SpellsBasic (Return p (Some t)) (reserved_then reserved.Return p before) after
     calls : {p q r : Place} {n : List ℕ} {ts : Expressions} {xs : List Reference} {before middle after : Words} → SpellsArguments ts before middle →
-        SpellsReceivers xs middle (symbol_then symbol.Semicolon r after) → SpellsBasic (CallsBlock p (naming q n) ts xs) (reserved_then reserved.Call p (name_then n q before)) after
+        SpellsReceivers xs middle (symbol_then symbol.Semicolon r after) → SpellsBasic (Call p (naming q n) ts xs) (reserved_then reserved.Call p (name_then n q before)) after
     inputs : {p q r s : Place} {t : Expression} {xs : List Reference} {before middle after : Words} → SpellsExpression t before (symbol_then symbol.RightParenthesis r middle) →
         Parted SpellsReference xs middle (symbol_then symbol.Semicolon s after) →
-        SpellsBasic (Inputs p t xs) (reserved_then reserved.Read p (symbol_then symbol.LeftParenthesis q before)) after
+        SpellsBasic (Read p t xs) (reserved_then reserved.Read p (symbol_then symbol.LeftParenthesis q before)) after
     outputs_nothing : {p q r s : Place} {t : Expression} {before after : Words} →
         SpellsExpression t before (symbol_then symbol.RightParenthesis r (symbol_then symbol.Semicolon s after)) →
-        SpellsBasic (Outputs p t NoExpressions) (reserved_then reserved.Write p (symbol_then symbol.LeftParenthesis q before)) after
+        SpellsBasic (Write p t NoExpressions) (reserved_then reserved.Write p (symbol_then symbol.LeftParenthesis q before)) after
     outputs : {p q r s : Place} {t : Expression} {ts : Expressions} {before middle after : Words} → SpellsExpression t before (symbol_then symbol.RightParenthesis r middle) →
         SpellsExpressions ts middle (symbol_then symbol.Semicolon s after) →
-        SpellsBasic (Outputs p t ts) (reserved_then reserved.Write p (symbol_then symbol.LeftParenthesis q before)) after
+        SpellsBasic (Write p t ts) (reserved_then reserved.Write p (symbol_then symbol.LeftParenthesis q before)) after
     updates : {p q r : Place} {b : Statements} {n : Option Naming} {before middle after : Words} → SpellsStatements b before (reserved_then reserved.Close r middle) →
-        SpellsNameEnd n middle after → SpellsBasic (Updates p b n) (reserved_then reserved.Update p (symbol_then symbol.Semicolon q before)) after
+        SpellsNameEnd n middle after → SpellsBasic (Update p b n) (reserved_then reserved.Update p (symbol_then symbol.Semicolon q before)) after
     scheduled : {p : Place} {s : Schedule} {before after : Words} → SpellsSchedule s before after → SpellsBasic (Scheduled p s) (reserved_then reserved.Schedule p before) after
-    cancelled_itself : {p q : Place} {after : Words} → SpellsBasic (Cancelled p []) (reserved_then reserved.Cancel p (symbol_then symbol.Semicolon q after)) after
+    cancelled_itself : {p q : Place} {after : Words} → SpellsBasic (Cancel p []) (reserved_then reserved.Cancel p (symbol_then symbol.Semicolon q after)) after
     cancelled : {p q : Place} {ns : List Naming} {before after : Words} → SpellsNames ns before (symbol_then symbol.Semicolon q after) →
-        SpellsBasic (Cancelled p ns) (reserved_then reserved.Cancel p before) after
-    terminated_itself : {p q : Place} {after : Words} → SpellsBasic (Terminated p []) (reserved_then reserved.Terminate p (symbol_then symbol.Semicolon q after)) after
+        SpellsBasic (Cancel p ns) (reserved_then reserved.Cancel p before) after
+    terminated_itself : {p q : Place} {after : Words} → SpellsBasic (Terminate p []) (reserved_then reserved.Terminate p (symbol_then symbol.Semicolon q after)) after
     terminated : {p q : Place} {ns : List Naming} {before after : Words} → SpellsNames ns before (symbol_then symbol.Semicolon q after) →
-        SpellsBasic (Terminated p ns) (reserved_then reserved.Terminate p before) after
+        SpellsBasic (Terminate p ns) (reserved_then reserved.Terminate p before) after
     waits : {p q : Place} {t : Expression} {before after : Words} → SpellsExpression t before (symbol_then symbol.Semicolon q after) →
-        SpellsBasic (Waits p t) (reserved_then reserved.Wait p before) after
+        SpellsBasic (Wait p t) (reserved_then reserved.Wait p before) after
     waits_until : {p q r : Place} {t : Expression} {before after : Words} → SpellsExpression t before (symbol_then symbol.Semicolon r after) →
-        SpellsBasic (WaitsUntil p t) (reserved_then reserved.Wait p (reserved_then reserved.Until q before)) after
+        SpellsBasic (WaitUntil p t) (reserved_then reserved.Wait p (reserved_then reserved.Until q before)) after
     waits_for_dependents : {p q r s : Place} {after : Words} →
-        SpellsBasic (WaitsForDependents p) (reserved_then reserved.Wait p (reserved_then reserved.For q (reserved_then reserved.Dependent r (symbol_then symbol.Semicolon s after)))) after
+        SpellsBasic (WaitForDependent p) (reserved_then reserved.Wait p (reserved_then reserved.For q (reserved_then reserved.Dependent r (symbol_then symbol.Semicolon s after)))) after
     waits_for : {p q r : Place} {t : Expression} {before after : Words} → SpellsExpression t before (symbol_then symbol.Semicolon r after) →
-        SpellsBasic (WaitsFor p t) (reserved_then reserved.Wait p (reserved_then reserved.For q before)) after
-    acts : {q : Place} {e : Eventful} {before after : Words} → SpellsEvent e before (symbol_then symbol.Semicolon q after) → SpellsBasic (Acts e) before after
+        SpellsBasic (WaitFor p t) (reserved_then reserved.Wait p (reserved_then reserved.For q before)) after
+    acts : {q : Place} {e : Eventful} {before after : Words} → SpellsEvent e before (symbol_then symbol.Semicolon q after) → SpellsBasic (Event e) before after
     prioritizes : {p q r s : Place} {n : Option Naming} {t : Expression} {before middle after : Words} → SpellsNameOption n before (reserved_then reserved.To r middle) →
         SpellsExpression t middle (symbol_then symbol.Semicolon s after) →
-        SpellsBasic (Prioritizes p n t) (reserved_then reserved.Update p (reserved_then reserved.Priority q before)) after
+        SpellsBasic (UpdatePriority p n t) (reserved_then reserved.Update p (reserved_then reserved.Priority q before)) after
     handles : {p q : Place} {x : Selector} {s : Statement} {before middle after : Words} → SpellsSelector x before middle → SpellsStatement s middle after →
-        SpellsBasic (Handles p x s) (reserved_then reserved.On p (reserved_then reserved.Error q before)) after
+        SpellsBasic (OnErrorStatement p x s) (reserved_then reserved.On p (reserved_then reserved.Error q before)) after
     answers : {p q : Place} {x : Selector} {r : Response} {e : Option Eventful} {before middle rest after : Words} → SpellsSelector x before middle →
-        SpellsResponse r middle rest → SpellsEventEnd e rest after → SpellsBasic (Answers p x r e) (reserved_then reserved.On p (reserved_then reserved.Error q before)) after
+        SpellsResponse r middle rest → SpellsEventEnd e rest after → SpellsBasic (OnErrorResponse p x r e) (reserved_then reserved.On p (reserved_then reserved.Error q before)) after
     forgets : {p q r : Place} {x : Selector} {before after : Words} → SpellsSelector x before (symbol_then symbol.Semicolon r after) →
-        SpellsBasic (Forgets p x) (reserved_then reserved.Off p (reserved_then reserved.Error q before)) after
+        SpellsBasic (OffError p x) (reserved_then reserved.Off p (reserved_then reserved.Error q before)) after
     sends : {p q d l g c m r s : Place} {group number : ℕ} {after : Words} →
-        SpellsBasic (Sends p group number) (reserved_then reserved.Send p (reserved_then reserved.Error q (symbol_then symbol.Dollar d (symbol_then symbol.LeftParenthesis l
+        SpellsBasic (SendError p group number) (reserved_then reserved.Send p (reserved_then reserved.Error q (symbol_then symbol.Dollar d (symbol_then symbol.LeftParenthesis l
         (integer_then group g (symbol_then symbol.Colon c (integer_then number m (symbol_then symbol.RightParenthesis r (symbol_then symbol.Semicolon s after))))))))) after
 
   -- nothing, or ELSE and a statement

@@ -6,8 +6,8 @@ use Rattle.hal_grammar.specs.Expressions.{Expression, Expressions, NoExpressions
 
 -- WHILE or UNTIL, and a condition
 pub data Guard : Type 0 where
-  AsLong : (place : Place) (condition : Expression) → Guard
-  Unless : (place : Place) (condition : Expression) → Guard
+  While : (place : Place) (condition : Expression) → Guard
+  Until : (place : Place) (condition : Expression) → Guard
 
 -- `a TO b`, with a step or without, or a list
 pub data Span : Type 0 where
@@ -22,7 +22,7 @@ pub data Selector : Type 0 where
 
 -- SIGNAL, SET, RESET
 pub data EventAction : Type 0 where
-  Pulses Raises Lowers : EventAction
+  Signal Set Reset : EventAction
 
 -- an event and what happens to it
 pub record Eventful : Type 0 where
@@ -36,7 +36,7 @@ eventful place action name = record { place = place; action = action; name = nam
 
 -- SYSTEM or IGNORE
 pub data Response : Type 0 where
-  BySystem Ignored : Response
+  System Ignore : Response
 
 -- when a process starts: AT, IN, ON, and an expression
 pub data Start : Type 0 where
@@ -67,33 +67,33 @@ mutual
 
   -- a statement without labels; one of SIGNAL, SET or RESET has its place in its event
   pub data Basic : Type 0 where
-    Empty : (place : Place) → Basic
-    Assigned : (place : Place) (receivers : List Reference) (value : Expression) → Basic
-    Chosen : (place : Place) (condition : Expression) (consequence : Statement) (alternative : Alternative) → Basic
-    Grouped : (place : Place) (group : Group) → Basic
-    Selected : (place : Place) (selector : Expression) (alternative : Alternative) (group : Group) → Basic
-    Looped : (place : Place) (guard : Guard) (group : Group) → Basic
-    Ranged : (place : Place) (temporary : Bool) (variable : Naming) (span : Span) (guard : Option Guard) (group : Group) → Basic
-    Left : (place : Place) (label : Option Naming) → Basic
-    Repeated : (place : Place) (label : Option Naming) → Basic
-    Returned : (place : Place) (value : Option Expression) → Basic
-    CallsBlock : (place : Place) (name : Naming) (arguments : Expressions) (receivers : List Reference) → Basic
-    Inputs : (place : Place) (channel : Expression) (receivers : List Reference) → Basic
-    Outputs : (place : Place) (channel : Expression) (items : Expressions) → Basic
-    Updates : (place : Place) (body : Statements) (close : Option Naming) → Basic
+    Null : (place : Place) → Basic
+    Assignment : (place : Place) (receivers : List Reference) (value : Expression) → Basic
+    If : (place : Place) (condition : Expression) (consequence : Statement) (alternative : Alternative) → Basic
+    Do : (place : Place) (group : Group) → Basic
+    DoCase : (place : Place) (selector : Expression) (alternative : Alternative) (group : Group) → Basic
+    DoLoop : (place : Place) (guard : Guard) (group : Group) → Basic
+    DoFor : (place : Place) (temporary : Bool) (variable : Naming) (span : Span) (guard : Option Guard) (group : Group) → Basic
+    Exit : (place : Place) (label : Option Naming) → Basic
+    Repeat : (place : Place) (label : Option Naming) → Basic
+    Return : (place : Place) (value : Option Expression) → Basic
+    Call : (place : Place) (name : Naming) (arguments : Expressions) (receivers : List Reference) → Basic
+    Read : (place : Place) (channel : Expression) (receivers : List Reference) → Basic
+    Write : (place : Place) (channel : Expression) (items : Expressions) → Basic
+    Update : (place : Place) (body : Statements) (close : Option Naming) → Basic
     Scheduled : (place : Place) (schedule : Schedule) → Basic
-    Cancelled : (place : Place) (names : List Naming) → Basic
-    Terminated : (place : Place) (names : List Naming) → Basic
-    Waits : (place : Place) (time : Expression) → Basic
-    WaitsUntil : (place : Place) (time : Expression) → Basic
-    WaitsForDependents : (place : Place) → Basic
-    WaitsFor : (place : Place) (event : Expression) → Basic
-    Acts : (event : Eventful) → Basic
-    Prioritizes : (place : Place) (name : Option Naming) (priority : Expression) → Basic
-    Handles : (place : Place) (selector : Selector) (handler : Statement) → Basic
-    Answers : (place : Place) (selector : Selector) (response : Response) (event : Option Eventful) → Basic
-    Forgets : (place : Place) (selector : Selector) → Basic
-    Sends : (place : Place) (group number : ℕ) → Basic
+    Cancel : (place : Place) (names : List Naming) → Basic
+    Terminate : (place : Place) (names : List Naming) → Basic
+    Wait : (place : Place) (time : Expression) → Basic
+    WaitUntil : (place : Place) (time : Expression) → Basic
+    WaitForDependent : (place : Place) → Basic
+    WaitFor : (place : Place) (event : Expression) → Basic
+    Event : (event : Eventful) → Basic
+    UpdatePriority : (place : Place) (name : Option Naming) (priority : Expression) → Basic
+    OnErrorStatement : (place : Place) (selector : Selector) (handler : Statement) → Basic
+    OnErrorResponse : (place : Place) (selector : Selector) (response : Response) (event : Option Eventful) → Basic
+    OffError : (place : Place) (selector : Selector) → Basic
+    SendError : (place : Place) (group number : ℕ) → Basic
 
   -- what stands after ELSE, if there is one
   pub data Alternative : Type 0 where
@@ -111,8 +111,8 @@ mutual
 
 -- a condition is as deep as its expression
 abbrev pub nesting_of_guard : Guard → ℕ
-nesting_of_guard (AsLong place condition) = nesting condition
-nesting_of_guard (Unless place condition) = nesting condition
+nesting_of_guard (While place condition) = nesting condition
+nesting_of_guard (Until place condition) = nesting condition
 
 -- a range is as deep as the deepest of its expressions
 abbrev pub nesting_of_span : Span → ℕ
@@ -154,34 +154,34 @@ abbrev mutual
 
   -- conditions, ranges and values are as deep as what they stand in
   pub nesting_of_basic : Basic → ℕ
-  nesting_of_basic (Empty place) = 0
-  nesting_of_basic (Assigned place receivers value) = max (most nesting_of_reference receivers) (nesting value)
-  nesting_of_basic (Chosen place condition consequence alternative) =
+  nesting_of_basic (Null place) = 0
+  nesting_of_basic (Assignment place receivers value) = max (most nesting_of_reference receivers) (nesting value)
+  nesting_of_basic (If place condition consequence alternative) =
       max (nesting condition) (max (nesting_of_statement consequence + 1) (nesting_of_alternative alternative))
-  nesting_of_basic (Grouped place group) = nesting_of_group group
-  nesting_of_basic (Selected place selector alternative group) = max (nesting selector) (max (nesting_of_alternative alternative) (nesting_of_group group))
-  nesting_of_basic (Looped place guard group) = max (nesting_of_guard guard) (nesting_of_group group)
-  nesting_of_basic (Ranged place temporary variable span guard group) = max (nesting_of_span span) (max (if_any nesting_of_guard guard) (nesting_of_group group))
-  nesting_of_basic (Left place label) = 0
-  nesting_of_basic (Repeated place label) = 0
-  nesting_of_basic (Returned place value) = if_any nesting value
-  nesting_of_basic (CallsBlock place name arguments receivers) = max (nesting_of_arguments arguments) (nesting_of_receivers receivers)
-  nesting_of_basic (Inputs place channel receivers) = max (nesting channel) (most nesting_of_reference receivers)
-  nesting_of_basic (Outputs place channel items) = max (nesting channel) (nesting_of_all items)
-  nesting_of_basic (Updates place body close) = nesting_of_statements body + 1
+  nesting_of_basic (Do place group) = nesting_of_group group
+  nesting_of_basic (DoCase place selector alternative group) = max (nesting selector) (max (nesting_of_alternative alternative) (nesting_of_group group))
+  nesting_of_basic (DoLoop place guard group) = max (nesting_of_guard guard) (nesting_of_group group)
+  nesting_of_basic (DoFor place temporary variable span guard group) = max (nesting_of_span span) (max (if_any nesting_of_guard guard) (nesting_of_group group))
+  nesting_of_basic (Exit place label) = 0
+  nesting_of_basic (Repeat place label) = 0
+  nesting_of_basic (Return place value) = if_any nesting value
+  nesting_of_basic (Call place name arguments receivers) = max (nesting_of_arguments arguments) (nesting_of_receivers receivers)
+  nesting_of_basic (Read place channel receivers) = max (nesting channel) (most nesting_of_reference receivers)
+  nesting_of_basic (Write place channel items) = max (nesting channel) (nesting_of_all items)
+  nesting_of_basic (Update place body close) = nesting_of_statements body + 1
   nesting_of_basic (Scheduled place schedule) = nesting_of_schedule schedule
-  nesting_of_basic (Cancelled place names) = 0
-  nesting_of_basic (Terminated place names) = 0
-  nesting_of_basic (Waits place time) = nesting time
-  nesting_of_basic (WaitsUntil place time) = nesting time
-  nesting_of_basic (WaitsForDependents place) = 0
-  nesting_of_basic (WaitsFor place event) = nesting event
-  nesting_of_basic (Acts event) = 0
-  nesting_of_basic (Prioritizes place name priority) = nesting priority
-  nesting_of_basic (Handles place selector handler) = nesting_of_statement handler + 1
-  nesting_of_basic (Answers place selector response event) = 0
-  nesting_of_basic (Forgets place selector) = 0
-  nesting_of_basic (Sends place group number) = 0
+  nesting_of_basic (Cancel place names) = 0
+  nesting_of_basic (Terminate place names) = 0
+  nesting_of_basic (Wait place time) = nesting time
+  nesting_of_basic (WaitUntil place time) = nesting time
+  nesting_of_basic (WaitForDependent place) = 0
+  nesting_of_basic (WaitFor place event) = nesting event
+  nesting_of_basic (Event event) = 0
+  nesting_of_basic (UpdatePriority place name priority) = nesting priority
+  nesting_of_basic (OnErrorStatement place selector handler) = nesting_of_statement handler + 1
+  nesting_of_basic (OnErrorResponse place selector response event) = 0
+  nesting_of_basic (OffError place selector) = 0
+  nesting_of_basic (SendError place group number) = 0
 
   -- what stands after ELSE is one deeper too
   pub nesting_of_alternative : Alternative → ℕ
@@ -200,33 +200,33 @@ abbrev mutual
 
 -- where a statement without labels stands
 abbrev pub place_of_basic : Basic → Place
-place_of_basic (Empty place) = place
-place_of_basic (Assigned place receivers value) = place
-place_of_basic (Chosen place condition consequence other) = place
-place_of_basic (Grouped place group) = place
-place_of_basic (Selected place selector other group) = place
-place_of_basic (Looped place guard group) = place
-place_of_basic (Ranged place temporary variable span guard group) = place
-place_of_basic (Left place label) = place
-place_of_basic (Repeated place label) = place
-place_of_basic (Returned place value) = place
-place_of_basic (CallsBlock place name arguments receivers) = place
-place_of_basic (Inputs place channel receivers) = place
-place_of_basic (Outputs place channel items) = place
-place_of_basic (Updates place body close) = place
+place_of_basic (Null place) = place
+place_of_basic (Assignment place receivers value) = place
+place_of_basic (If place condition consequence other) = place
+place_of_basic (Do place group) = place
+place_of_basic (DoCase place selector other group) = place
+place_of_basic (DoLoop place guard group) = place
+place_of_basic (DoFor place temporary variable span guard group) = place
+place_of_basic (Exit place label) = place
+place_of_basic (Repeat place label) = place
+place_of_basic (Return place value) = place
+place_of_basic (Call place name arguments receivers) = place
+place_of_basic (Read place channel receivers) = place
+place_of_basic (Write place channel items) = place
+place_of_basic (Update place body close) = place
 place_of_basic (Scheduled place schedule) = place
-place_of_basic (Cancelled place names) = place
-place_of_basic (Terminated place names) = place
-place_of_basic (Waits place time) = place
-place_of_basic (WaitsUntil place time) = place
-place_of_basic (WaitsForDependents place) = place
-place_of_basic (WaitsFor place event) = place
-place_of_basic (Acts event) = event.place
-place_of_basic (Prioritizes place name priority) = place
-place_of_basic (Handles place selector handler) = place
-place_of_basic (Answers place selector response event) = place
-place_of_basic (Forgets place selector) = place
-place_of_basic (Sends place group number) = place
+place_of_basic (Cancel place names) = place
+place_of_basic (Terminate place names) = place
+place_of_basic (Wait place time) = place
+place_of_basic (WaitUntil place time) = place
+place_of_basic (WaitForDependent place) = place
+place_of_basic (WaitFor place event) = place
+place_of_basic (Event event) = event.place
+place_of_basic (UpdatePriority place name priority) = place
+place_of_basic (OnErrorStatement place selector handler) = place
+place_of_basic (OnErrorResponse place selector response event) = place
+place_of_basic (OffError place selector) = place
+place_of_basic (SendError place group number) = place
 
 -- where a statement stands: at its first label, if it has one
 abbrev pub place_of_statement : Statement → Place

@@ -7,7 +7,7 @@ use Rattle.hal_grammar.specs.Statements.{Statement, nesting_of_statement}
 
 -- REENTRANT or EXCLUSIVE
 pub data Mode : Type 0 where
-  Reenters Excludes : (place : Place) → Mode
+  Reentrant Exclusive : (place : Place) → Mode
 
 -- SINGLE or DOUBLE
 pub data Precision : Type 0 where
@@ -20,9 +20,9 @@ pub data Returns : Type 0 where
 
 -- the head of a unit; the place is that of its first word
 pub data Head : Type 0 where
-  ProgramHead CompoolHead TaskHead : (place : Place) → Head
-  ProcedureHead : (place : Place) (inputs outputs : List Naming) (mode : Option Mode) → Head
-  FunctionHead : (place : Place) (inputs : List Naming) (returns : Returns) (mode : Option Mode) → Head
+  Program Compool Task : (place : Place) → Head
+  Procedure : (place : Place) (inputs outputs : List Naming) (mode : Option Mode) → Head
+  Function : (place : Place) (inputs : List Naming) (returns : Returns) (mode : Option Mode) → Head
 
 mutual
   -- a unit, with the name after CLOSE; the place is that of its name
@@ -48,7 +48,7 @@ template_of name head declarations close = record { name = name; head = head; de
 
 -- what stands before a file's unit
 pub data Preface : Type 0 where
-  Includes : (place : Place) (name : Naming) → Preface
+  Include : (place : Place) (name : Naming) → Preface
   Templates : (template : Template) → Preface
 
 -- a file
@@ -62,19 +62,19 @@ file_of prefaces block = record { prefaces = prefaces; block = block }
 
 -- PROGRAM and COMPOOL stand in no unit
 abbrev pub stands_inside : Head → Bool
-stands_inside (ProgramHead place) = false
-stands_inside (CompoolHead place) = false
-stands_inside (TaskHead place) = true
-stands_inside (ProcedureHead place inputs outputs mode) = true
-stands_inside (FunctionHead place inputs returns mode) = true
+stands_inside (Program place) = false
+stands_inside (Compool place) = false
+stands_inside (Task place) = true
+stands_inside (Procedure place inputs outputs mode) = true
+stands_inside (Function place inputs returns mode) = true
 
 -- a COMPOOL holds declarations alone
 abbrev pub holds_elements : Head → Bool
-holds_elements (ProgramHead place) = true
-holds_elements (CompoolHead place) = false
-holds_elements (TaskHead place) = true
-holds_elements (ProcedureHead place inputs outputs mode) = true
-holds_elements (FunctionHead place inputs returns mode) = true
+holds_elements (Program place) = true
+holds_elements (Compool place) = false
+holds_elements (Task place) = true
+holds_elements (Procedure place inputs outputs mode) = true
+holds_elements (Function place inputs returns mode) = true
 
 -- a FUNCTION's result is as deep as its type
 abbrev pub nesting_of_returns : Returns → ℕ
@@ -83,11 +83,11 @@ nesting_of_returns (HasKind kind precision) = nesting_of_kind kind
 
 -- a head's parameter lists don't count
 abbrev pub nesting_of_head : Head → ℕ
-nesting_of_head (ProgramHead place) = 0
-nesting_of_head (CompoolHead place) = 0
-nesting_of_head (TaskHead place) = 0
-nesting_of_head (ProcedureHead place inputs outputs mode) = 0
-nesting_of_head (FunctionHead place inputs returns mode) = nesting_of_returns returns
+nesting_of_head (Program place) = 0
+nesting_of_head (Compool place) = 0
+nesting_of_head (Task place) = 0
+nesting_of_head (Procedure place inputs outputs mode) = 0
+nesting_of_head (Function place inputs returns mode) = nesting_of_returns returns
 
 -- a unit is one deeper than what it stands in
 abbrev mutual
@@ -108,7 +108,7 @@ nesting_of_template template = max (nesting_of_head template.head) (most nesting
 
 -- an INCLUDE has no depth
 abbrev pub nesting_of_preface : Preface → ℕ
-nesting_of_preface (Includes place name) = 0
+nesting_of_preface (Include place name) = 0
 nesting_of_preface (Templates template) = nesting_of_template template
 
 -- a file is as deep as the deepest of its parts

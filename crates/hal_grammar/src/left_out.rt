@@ -6,7 +6,7 @@ ghost use Rattle.std.specs.Prelude.{ℕ, List, Option, Bool};
 ghost use Rattle.hal_base.specs.declared.refusal.Place.{Place};
 ghost use Rattle.hal_words.specs.declared.reserved.Reserved.TheVariants as reserved;
 ghost use Rattle.hal_words.specs.declared.word.Symbol.TheVariants as symbol;
-ghost use Rattle.hal_grammar.specs.Leaves.{Naming, Literal};
+ghost use Rattle.hal_grammar.specs.Leaves.{Naming, LiteralValue};
 ghost use Rattle.hal_grammar.specs.Expressions.{Expression, Reference};
 ghost use Rattle.hal_grammar.specs.Declarations.{Attribute};
 ghost use Rattle.hal_grammar.specs.Statements.{Guard, Cycle, Response, Statement, Basic, Group};
@@ -21,7 +21,7 @@ ghost use Rattle.hal_grammar.specs.SpellsFiles.{SpellsOutputs, SpellsModeEnd, Sp
 pub fn left_out_of_declarations()
     ensures copies { (xs : List Attribute) (b a : Words) → SpellsAttributes xs b a → ¬ BeginsSymbol symbol.LeftParenthesis b }
     ensures copies_of_result { (x : Option Precision) (m : Option Mode) (b a : Words) → SpellsPrecisionEnd x m b a → ¬ BeginsSymbol symbol.LeftParenthesis b }
-    ensures sign { (l : Literal) (p : Place) (b a : Words) → SpellsLiteral l p b a → ¬ BeginsSymbol symbol.Plus b × ¬ BeginsSymbol symbol.Minus b }
+    ensures sign { (l : LiteralValue) (p : Place) (b a : Words) → SpellsLiteral l p b a → ¬ BeginsSymbol symbol.Plus b × ¬ BeginsSymbol symbol.Minus b }
     ensures sign_of_name { (n : List ℕ) (p : Place) (a : Words) → ¬ BeginsSymbol symbol.Plus (name_then n p a) × ¬ BeginsSymbol symbol.Minus (name_then n p a) }
 {}
 

@@ -7,7 +7,7 @@ use Rattle.hal_words.specs.declared.word.Word.{Word}
 use Rattle.hal_words.specs.declared.word.Word.TheVariants as word
 use Rattle.hal_grammar.specs.Leaves.{Naming}
 use Rattle.hal_grammar.specs.Declarations.{Kind, nesting_of_kind}
-use Rattle.hal_grammar.specs.Units.{Mode, Reenters, Excludes, Precision, SinglePrecision, DoublePrecision, Returns, NoKind, HasKind, Head, nesting_of_returns, nesting_of_head}
+use Rattle.hal_grammar.specs.Units.{Mode, Reentrant, Exclusive, Precision, SinglePrecision, DoublePrecision, Returns, NoKind, HasKind, Head, nesting_of_returns, nesting_of_head}
 use Rattle.hal_grammar.specs.Words.{Words, token, reserved_then, symbol_then}
 use Rattle.hal_grammar.specs.SpellsDeclarations.{SpellsNames, SpellsKind}
 use Rattle.hal_grammar.specs.SpellsFiles.{SpellsInputs, no_inputs, input_names, SpellsOutputs, no_outputs, output_names, SpellsModeEnd, no_mode_end, reenters_end, excludes_end, SpellsPrecisionEnd, no_precision, single_precision, double_precision, SpellsReturnsEnd, no_kind, has_kind, SpellsHead, program_head, compool_head, task_head, procedure_head, function_head}
@@ -55,8 +55,8 @@ outputs_are (output_names {p = p} {q = q} {before = before} d) =
 
 -- REENTRANT or EXCLUSIVE
 data SpellsMode : Mode → Words → Words → Type 0 where
-  reenters : {p : Place} {a : Words} → SpellsMode (Reenters p) (reserved_then reserved.Reentrant p a) a
-  excludes : {p : Place} {a : Words} → SpellsMode (Excludes p) (reserved_then reserved.Exclusive p a) a
+  reenters : {p : Place} {a : Words} → SpellsMode (Reentrant p) (reserved_then reserved.Reentrant p a) a
+  excludes : {p : Place} {a : Words} → SpellsMode (Exclusive p) (reserved_then reserved.Exclusive p a) a
 
 mode_gives : (words : Words) → Holds (λ m rest. SpellsMode m words rest) (mode_at words)
 unfolding mode_at

@@ -5,7 +5,7 @@ use Rattle.hal_words.specs.declared.reserved.Reserved.TheVariants as reserved
 use Rattle.hal_words.specs.declared.word.Symbol.TheVariants as symbol
 use Rattle.hal_words.specs.declared.word.Word.{Word}
 use Rattle.hal_words.specs.declared.word.Word.TheVariants as word
-use Rattle.hal_grammar.specs.Units.{Head, ProgramHead, CompoolHead, TaskHead}
+use Rattle.hal_grammar.specs.Units.{Head, Program, Compool, Task}
 use Rattle.hal_parse_expr.specs.Reading.{Reader, made_of, past_symbol}
 use Rattle.hal_parse.specs.ReadingFiles.{procedure_behind, function_behind}
 use Rattle.hal_parse.specs.declared.heading.Heading.{Heading}
@@ -22,8 +22,8 @@ heads other = None
 
 -- the head that it begins
 unfoldable pub headed_at : ℕ → Place → Heading → Reader Head
-headed_at n p heading.Program rest = made_of (λ q. ProgramHead p) (past_symbol symbol.Semicolon rest)
-headed_at n p heading.Compool rest = made_of (λ q. CompoolHead p) (past_symbol symbol.Semicolon rest)
-headed_at n p heading.Task rest = made_of (λ q. TaskHead p) (past_symbol symbol.Semicolon rest)
+headed_at n p heading.Program rest = made_of (λ q. Program p) (past_symbol symbol.Semicolon rest)
+headed_at n p heading.Compool rest = made_of (λ q. Compool p) (past_symbol symbol.Semicolon rest)
+headed_at n p heading.Task rest = made_of (λ q. Task p) (past_symbol symbol.Semicolon rest)
 headed_at n p heading.Procedure rest = procedure_behind p rest
 headed_at n p heading.Function rest = function_behind n p rest

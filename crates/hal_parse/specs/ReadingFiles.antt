@@ -8,7 +8,7 @@ use Rattle.hal_words.specs.declared.word.Word.{Word}
 use Rattle.hal_words.specs.declared.word.Word.TheVariants as word
 use Rattle.hal_grammar.specs.Leaves.{Naming}
 use Rattle.hal_grammar.specs.Declarations.{Declaration}
-use Rattle.hal_grammar.specs.Units.{Mode, Reenters, Excludes, Precision, SinglePrecision, DoublePrecision, Returns, NoKind, HasKind, Head, ProgramHead, CompoolHead, TaskHead, ProcedureHead, FunctionHead, Block, BlockOf, Template, template_of, Preface, Includes, Templates, File, file_of, stands_inside, holds_elements}
+use Rattle.hal_grammar.specs.Units.{Mode, Reentrant, Exclusive, Precision, SinglePrecision, DoublePrecision, Returns, NoKind, HasKind, Head, Program, Compool, Task, Procedure, Function, Block, BlockOf, Template, template_of, Preface, Include, Templates, File, file_of, stands_inside, holds_elements}
 use Rattle.hal_grammar.specs.Words.{Words}
 pub use Rattle.hal_tree.specs.Rows.{Member as Element, OfStatement as StatementElement, OfBlock as BlockElement}
 unfoldable pub use Rattle.hal_tree.specs.Rows.{elements}
@@ -26,7 +26,7 @@ outputs_at words = decided (past reserved.Assign words) (λ p rest. in_parenthes
 
 -- REENTRANT or EXCLUSIVE
 unfoldable pub mode_at : Reader Mode
-mode_at words = decided (past reserved.Reentrant words) (λ p rest. Some (Reenters p, rest)) (made_of (λ p. Excludes p) (past reserved.Exclusive words))
+mode_at words = decided (past reserved.Reentrant words) (λ p rest. Some (Reentrant p, rest)) (made_of (λ p. Exclusive p) (past reserved.Exclusive words))
 
 -- REENTRANT or EXCLUSIVE or none, and a semicolon
 unfoldable pub mode_end_at : Reader (Option Mode)
@@ -48,7 +48,7 @@ returns_at n words = decided (kind_at n words) (λ k rest. made_of (λ x. HasKin
 -- behind PROCEDURE
 unfoldable pub procedure_behind : Place → Reader Head
 procedure_behind p words =
-    followed (inputs_at words) (λ ins rest. followed (outputs_at rest) (λ outs after. made_of (λ m. ProcedureHead p ins outs m) (mode_end_at after)))
+    followed (inputs_at words) (λ ins rest. followed (outputs_at rest) (λ outs after. made_of (λ m. Procedure p ins outs m) (mode_end_at after)))
 
 -- the type of a FUNCTION, its mode and the semicolon
 unfoldable pub returns_end_at : ℕ → Reader (Returns × Option Mode)
@@ -57,13 +57,13 @@ returns_end_at n words = followed (returns_at n words) (λ r rest. made_of (λ m
 -- behind FUNCTION
 unfoldable pub function_behind : ℕ → Place → Reader Head
 function_behind n p words =
-    followed (inputs_at words) (λ ins rest. made_of (λ f. FunctionHead p ins f.0 f.1) (returns_end_at n rest))
+    followed (inputs_at words) (λ ins rest. made_of (λ f. Function p ins f.0 f.1) (returns_end_at n rest))
 
 -- the head that the first word begins
 unfoldable pub head_behind : ℕ → Place → Word → Reader Head
-head_behind n p (word.Reserved reserved.Program) rest = made_of (λ q. ProgramHead p) (past_symbol symbol.Semicolon rest)
-head_behind n p (word.Reserved reserved.Compool) rest = made_of (λ q. CompoolHead p) (past_symbol symbol.Semicolon rest)
-head_behind n p (word.Reserved reserved.Task) rest = made_of (λ q. TaskHead p) (past_symbol symbol.Semicolon rest)
+head_behind n p (word.Reserved reserved.Program) rest = made_of (λ q. Program p) (past_symbol symbol.Semicolon rest)
+head_behind n p (word.Reserved reserved.Compool) rest = made_of (λ q. Compool p) (past_symbol symbol.Semicolon rest)
+head_behind n p (word.Reserved reserved.Task) rest = made_of (λ q. Task p) (past_symbol symbol.Semicolon rest)
 head_behind n p (word.Reserved reserved.Procedure) rest = procedure_behind p rest
 head_behind n p (word.Reserved reserved.Function) rest = function_behind n p rest
 head_behind n p other rest = None
@@ -124,7 +124,7 @@ template_at n words = followed (before reserved.External (label_at words)) (λ x
 -- INCLUDE and a name, or a template
 unfoldable pub preface_at : ℕ → Reader Preface
 preface_at n words =
-    decided (past reserved.Include words) (λ p rest. made_of (λ x. Includes p x) (name_at rest)) (made_of (λ t. Templates t) (template_at n words))
+    decided (past reserved.Include words) (λ p rest. made_of (λ x. Include p x) (name_at rest)) (made_of (λ t. Templates t) (template_at n words))
 
 -- as many includes and templates as can be read
 unfoldable pub prefaces_at : ℕ → Words → List Preface × Words

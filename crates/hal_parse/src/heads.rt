@@ -1,7 +1,7 @@
 //! The heads of units.
 
 ghost use Rattle.std.specs.Prelude.{◌≡◌, IfOk};
-ghost use Rattle.hal_grammar.specs.Units.{CompoolHead, ProgramHead, TaskHead, holds_elements, stands_inside};
+ghost use Rattle.hal_grammar.specs.Units.{Compool, Program, Task, holds_elements, stands_inside};
 ghost use Rattle.hal_words.specs.declared.word.Symbol.TheVariants as symbol;
 ghost use Rattle.hal_tree.specs.SeenUnits.{seen_head};
 ghost use Rattle.hal_parse_expr.specs.Reading.{made_of, past_symbol};
@@ -59,7 +59,7 @@ fn headed(
 /// Behind PROGRAM.
 #[tactic(auto, using(hal_tree::proofs::MadeUnits::made_program), unfolding(hal_parse_expr::specs::Reading::made_of, hal_parse_expr::specs::Seen::seen_as, hal_parse_expr::specs::Seen::seen))]
 fn program(place: Place, words: &[Token]) -> Option<(Head, &[Token])>
-    ensures { seen_as seen_head result ≡ made_of (λ q. ProgramHead place) (past_symbol symbol.Semicolon words.now) }
+    ensures { seen_as seen_head result ≡ made_of (λ q. Program place) (past_symbol symbol.Semicolon words.now) }
 {
     let Some((_, rest)) = past_symbol(words, Symbol::Semicolon) else {
         return None;
@@ -70,7 +70,7 @@ fn program(place: Place, words: &[Token]) -> Option<(Head, &[Token])>
 /// Behind COMPOOL.
 #[tactic(auto, using(hal_tree::proofs::MadeUnits::made_compool), unfolding(hal_parse_expr::specs::Reading::made_of, hal_parse_expr::specs::Seen::seen_as, hal_parse_expr::specs::Seen::seen))]
 fn compool(place: Place, words: &[Token]) -> Option<(Head, &[Token])>
-    ensures { seen_as seen_head result ≡ made_of (λ q. CompoolHead place) (past_symbol symbol.Semicolon words.now) }
+    ensures { seen_as seen_head result ≡ made_of (λ q. Compool place) (past_symbol symbol.Semicolon words.now) }
 {
     let Some((_, rest)) = past_symbol(words, Symbol::Semicolon) else {
         return None;
@@ -81,7 +81,7 @@ fn compool(place: Place, words: &[Token]) -> Option<(Head, &[Token])>
 /// Behind TASK.
 #[tactic(auto, using(hal_tree::proofs::MadeUnits::made_task), unfolding(hal_parse_expr::specs::Reading::made_of, hal_parse_expr::specs::Seen::seen_as, hal_parse_expr::specs::Seen::seen))]
 fn task(place: Place, words: &[Token]) -> Option<(Head, &[Token])>
-    ensures { seen_as seen_head result ≡ made_of (λ q. TaskHead place) (past_symbol symbol.Semicolon words.now) }
+    ensures { seen_as seen_head result ≡ made_of (λ q. Task place) (past_symbol symbol.Semicolon words.now) }
 {
     let Some((_, rest)) = past_symbol(words, Symbol::Semicolon) else {
         return None;

@@ -4,7 +4,7 @@ use Rattle.hal_base.specs.declared.refusal.Place.{Place}
 use Rattle.hal_words.specs.declared.reserved.Reserved.TheVariants as reserved
 use Rattle.hal_words.specs.declared.word.Symbol.TheVariants as symbol
 use Rattle.hal_grammar.specs.Leaves.{Naming, naming, most}
-use Rattle.hal_grammar.specs.Declarations.{Attribute, Declared, Part, Declaration, Declares, Structures, nesting_of_attribute, nesting_of_declared, nesting_of_declaration}
+use Rattle.hal_grammar.specs.Declarations.{Attribute, Declared, Part, Declaration, Declare, Structure, nesting_of_attribute, nesting_of_declared, nesting_of_declaration}
 use Rattle.hal_grammar.specs.Words.{Words, reserved_then, symbol_then, name_then, BeginsReserved, BeginsSymbol, begins}
 use Rattle.hal_grammar.specs.SpellsDeclarations.{Parted, last, more, SpellsAttributes, attributes_comma, attributes_semicolon, attributes_more, SpellsDeclared, declared, SpellsDeclaration, declares, declares_all, structures, SpellsDeclarations, no_declarations, more_declarations}
 use Rattle.hal_grammar.proofs.OneDeclaration.{class, attribute_class}
@@ -45,11 +45,11 @@ label_shortens = shortens label_gives label_shorter
 abbrev pub DeclarationOf : ℕ → Declaration → Words → Words → Type 0
 DeclarationOf n x b a = SpellsDeclaration x b a × (nesting_of_declaration x ≤ n)
 
-alone_spelled : {n : ℕ} {p : Place} {xs : List Declared} {b a : Words} → ItemsOf n xs b a → DeclarationOf n (Declares p [] xs) (reserved_then reserved.Declare p b) a
+alone_spelled : {n : ℕ} {p : Place} {xs : List Declared} {b a : Words} → ItemsOf n xs b a → DeclarationOf n (Declare p [] xs) (reserved_then reserved.Declare p b) a
 alone_spelled (items_of d l) = (declares d, omega (arith, l))
 
 all_spelled : {n : ℕ} {p q : Place} {x : Attribute} {xs : List Attribute} {ys : List Declared} {b m a : Words} → Chain (AttributeOf n) (x ∷ xs) b (symbol_then symbol.Comma q m) → ItemsOf n ys m a →
-    DeclarationOf n (Declares p (x ∷ xs) ys) (reserved_then reserved.Declare p b) a
+    DeclarationOf n (Declare p (x ∷ xs) ys) (reserved_then reserved.Declare p b) a
 all_spelled {n = n} c (items_of d l) = let r = attributes_spelled n c (inl begins) in (declares_all r.0 d, omega (arith, r.1, l))
 
 items_behind_gives : (n : ℕ) (p : Place) {xs : List Attribute} {words rest : Words} → Chain (AttributeOf n) xs words rest →
@@ -63,7 +63,7 @@ declare_gives : (n : ℕ) (p : Place) (words : Words) → Holds (λ x rest. Decl
 unfolding declare_behind attributes_at
 declare_gives n p words = items_behind_gives n p (all_chain (attribute_at n) (attribute_gives n) words)
 
-structure_spelled : {n : ℕ} {p : Place} {x : Naming} {xs : List Part} {b m a : Words} → SpellsLabel x b m → PartsOf n xs m a → DeclarationOf n (Structures p x xs) (reserved_then reserved.Structure p b) a
+structure_spelled : {n : ℕ} {p : Place} {x : Naming} {xs : List Part} {b m a : Words} → SpellsLabel x b m → PartsOf n xs m a → DeclarationOf n (Structure p x xs) (reserved_then reserved.Structure p b) a
 structure_spelled one_label (parts_of d l) = (structures d, l)
 
 template_gives : (n : ℕ) (p : Place) (words : Words) → Holds (λ x rest. DeclarationOf n x (reserved_then reserved.Structure p words) rest) (template_behind n p words)
@@ -102,17 +102,17 @@ unfolding attributes_at
 no_attributes n {b = b} d = all_none (attribute_at n) b (items_no_attribute n d)
 
 declares_is : (n : ℕ) (p : Place) {xs : List Declared} {b : Words} {q : Place} {a : Words} → Parted SpellsDeclared xs b (symbol_then symbol.Semicolon q a) → most nesting_of_declared xs ≤ n →
-    declare_behind n p b ≡ Some (Declares p [] xs, a)
+    declare_behind n p b ≡ Some (Declare p [] xs, a)
 unfolding declare_behind items_behind
 declares_is n p d h = ap (λ l. items_behind n p l.0 l.1) (no_attributes n d) ∙ made_equals _ (items_are n d h)
 
 declares_all_is : (n : ℕ) (p : Place) {x : Attribute} {xs : List Attribute} {ys : List Declared} {b m : Words} {r q : Place} {a : Words} →
     SpellsAttributes (x ∷ xs) b (symbol_then symbol.Comma r m) → most nesting_of_attribute (x ∷ xs) ≤ n → Parted SpellsDeclared ys m (symbol_then symbol.Semicolon q a) →
-    most nesting_of_declared ys ≤ n → declare_behind n p b ≡ Some (Declares p (x ∷ xs) ys, a)
+    most nesting_of_declared ys ≤ n → declare_behind n p b ≡ Some (Declare p (x ∷ xs) ys, a)
 unfolding declare_behind items_behind
 declares_all_is n p {m = m} {r = r} d h e l = ap (λ l. items_behind n p l.0 l.1) (attributes_are n d h) ∙ symbol_is symbol.Comma r m _ ∙ made_equals _ (items_are n e l)
 
-structures_is : (n : ℕ) (p : Place) {x : Naming} {xs : List Part} {b m a : Words} → SpellsLabel x b m → PartsOf n xs m a → template_behind n p b ≡ Some (Structures p x xs, a)
+structures_is : (n : ℕ) (p : Place) {x : Naming} {xs : List Part} {b m a : Words} → SpellsLabel x b m → PartsOf n xs m a → template_behind n p b ≡ Some (Structure p x xs, a)
 unfolding template_behind
 structures_is n p e (parts_of d h) = followed_is _ (label_is e) ∙ made_equals _ (parts_are n d h)
 

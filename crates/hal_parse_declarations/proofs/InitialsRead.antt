@@ -2,8 +2,8 @@
 use Rattle.std.proofs.Common.{◌≡◌, ℕ, zero, suc, ◌+◌, ◌≤◌, List, ◌∷◌, Option, Some, None, refl, ◌∙◌, arith}
 use Rattle.hal_base.specs.declared.refusal.Place.{Place}
 use Rattle.hal_words.specs.declared.word.Symbol.TheVariants as symbol
-use Rattle.hal_grammar.specs.Leaves.{naming, Sign, Literal, WholeNumber}
-use Rattle.hal_grammar.specs.Expressions.{Expression, Literally}
+use Rattle.hal_grammar.specs.Leaves.{naming, Sign, LiteralValue, Integer}
+use Rattle.hal_grammar.specs.Expressions.{Expression, Literal}
 use Rattle.hal_grammar.specs.Declarations.{Initial, LiteralTimes, NameTimes, ListTimes, Initials, MoreInitials, nesting_of_initial, nesting_of_initials}
 use Rattle.hal_grammar.specs.Words.{Words, symbol_then, name_then, integer_then, BeginsSymbol, begins}
 use Rattle.hal_grammar.specs.GoesOn.{strength}
@@ -101,11 +101,11 @@ number_after e n = n (rw e begins)
 -- an expression that begins with an integer and `#` ends before `#`
 not_counted : {t : Expression} {p : Place} {m : ℕ} {b a c : Words} → SpellsExpression t b a → EndsInitial a → Counted p m b c → ⊥
 not_counted {t = t} {p = p} {m = m} {a = a} d h (counted_so {q = q} {after = after}) =
-    let e : SpellsExpression (Literally p (WholeNumber m)) (integer_then m p (symbol_then symbol.Number q after)) (symbol_then symbol.Number q after) =
+    let e : SpellsExpression (Literal p (Integer m)) (integer_then m p (symbol_then symbol.Number q after)) (symbol_then symbol.Number q after) =
     both (comparison (cat (sum (term (factor (primary (literal integer))))))) in
     let r = exact d e h.0 (omega arith) in number_after r.1 h.1
 
-literal_no_name : {l : Literal} {p : Place} {b a : Words} → SpellsLiteral l p b a → name_at b ≡ None
+literal_no_name : {l : LiteralValue} {p : Place} {b a : Words} → SpellsLiteral l p b a → name_at b ≡ None
 unfolding name_at
 literal_no_name integer = refl
 literal_no_name text = refl
@@ -115,7 +115,7 @@ literal_no_name false_bit = refl
 literal_no_name on_bit = refl
 literal_no_name off_bit = refl
 
-literal_not_left : {l : Literal} {p : Place} {b a : Words} → SpellsLiteral l p b a → ¬ BeginsSymbol symbol.LeftParenthesis b
+literal_not_left : {l : LiteralValue} {p : Place} {b a : Words} → SpellsLiteral l p b a → ¬ BeginsSymbol symbol.LeftParenthesis b
 literal_not_left integer = λ d. elim d [ ]
 literal_not_left text = λ d. elim d [ ]
 literal_not_left bits = λ d. elim d [ ]
@@ -136,7 +136,7 @@ opening_not_left (opening minus) h = λ d. elim d [ ]
 abbrev pub ReadsInner : ℕ → Option (Reader Initials) → Type 0
 ReadsInner n inner = (ts : Initials) (b a : Words) → InitialsIn n ts b a → EndsInitial a × ¬ BeginsSymbol symbol.Comma a → where_left inner b ≡ Some (ts, a)
 
-signed_literal : (p : Place) (m : ℕ) (s : Option Sign) {l : Literal} {r : Place} {b a : Words} → SpellsLiteral l r b a → signed_value p m s b ≡ Some (LiteralTimes p m s r l, a)
+signed_literal : (p : Place) (m : ℕ) (s : Option Sign) {l : LiteralValue} {r : Place} {b a : Words} → SpellsLiteral l r b a → signed_value p m s b ≡ Some (LiteralTimes p m s r l, a)
 unfolding signed_value
 signed_literal p m s d = decided_not _ _ (literal_no_name d) ∙ made_equals _ (literal_is d)
 

@@ -5,7 +5,7 @@ use Rattle.hal_words.specs.declared.reserved.Reserved.TheVariants as reserved
 use Rattle.hal_words.specs.declared.word.Symbol.TheVariants as symbol
 use Rattle.hal_words.specs.declared.word.Word.{Word}
 use Rattle.hal_words.specs.declared.word.Word.TheVariants as word
-use Rattle.hal_grammar.specs.Leaves.{Naming, naming, Sign, Literal}
+use Rattle.hal_grammar.specs.Leaves.{Naming, naming, Sign, LiteralValue}
 use Rattle.hal_grammar.specs.Words.{Words, token, name_then, BeginsSymbol, begins}
 use Rattle.hal_grammar.specs.SpellsExpressions.{SpellsSign, plus, minus, SpellsLiteral, integer, text, bits, true_bit, false_bit, on_bit, off_bit}
 use Rattle.hal_grammar.specs.SpellsDeclarations.{Parted, last, more, SpellsNames, last_name, more_names, SpellsNameEnd, no_name_end, name_end, SpellsOpening, no_opening, opening}
@@ -61,8 +61,8 @@ name_end_is (no_name_end {q = q} {after = after}) = decided_not _ _ refl ∙ mad
 name_end_is (name_end {q = q} {after = after}) = decided_is _ _ refl ∙ made_equals _ (past_symbol_here symbol.Semicolon q after)
 
 -- what a word is as a literal
-data LiteralOf (w : Word) : Option Literal → Type 0 where
-  literal_so : {l : Literal} → ((p : Place) (rest : Words) → SpellsLiteral l p (token w p ∷ rest) rest) → LiteralOf w (Some l)
+data LiteralOf (w : Word) : Option LiteralValue → Type 0 where
+  literal_so : {l : LiteralValue} → ((p : Place) (rest : Words) → SpellsLiteral l p (token w p ∷ rest) rest) → LiteralOf w (Some l)
   no_literal : LiteralOf w None
 
 literal_view : (w : Word) → LiteralOf w (literal_of w)
@@ -76,8 +76,8 @@ literal_view (word.Reserved reserved.On) = literal_so (λ p rest. on_bit)
 literal_view (word.Reserved reserved.Off) = literal_so (λ p rest. off_bit)
 literal_view other = no_literal
 
-literal_word : {w : Word} {o : Option Literal} (p : Place) (rest : Words) → LiteralOf w o →
-    Holds (λ (l : Place × Literal) after. SpellsLiteral l.1 l.0 (token w p ∷ rest) after) (elim o [ None ↦ None | Some l ↦ Some ((p, l), rest) ])
+literal_word : {w : Word} {o : Option LiteralValue} (p : Place) (rest : Words) → LiteralOf w o →
+    Holds (λ (l : Place × LiteralValue) after. SpellsLiteral l.1 l.0 (token w p ∷ rest) after) (elim o [ None ↦ None | Some l ↦ Some ((p, l), rest) ])
 literal_word p rest (literal_so f) = holds (f p rest)
 literal_word p rest no_literal = holds_none
 
@@ -86,7 +86,7 @@ unfolding literal_at
 literal_gives [] = holds_none
 literal_gives (first ∷ rest) = literal_word first.place rest (literal_view first.word)
 
-pub literal_is : {l : Literal} {p : Place} {b a : Words} → SpellsLiteral l p b a → literal_at b ≡ Some ((p, l), a)
+pub literal_is : {l : LiteralValue} {p : Place} {b a : Words} → SpellsLiteral l p b a → literal_at b ≡ Some ((p, l), a)
 unfolding literal_at literal_of
 literal_is integer = refl
 literal_is text = refl

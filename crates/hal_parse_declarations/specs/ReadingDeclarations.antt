@@ -6,9 +6,9 @@ use Rattle.hal_words.specs.declared.reserved.Reserved.TheVariants as reserved
 use Rattle.hal_words.specs.declared.word.Symbol.TheVariants as symbol
 use Rattle.hal_words.specs.declared.word.Word.{Word}
 use Rattle.hal_words.specs.declared.word.Word.TheVariants as word
-use Rattle.hal_grammar.specs.Leaves.{Naming, Sign, Literal}
+use Rattle.hal_grammar.specs.Leaves.{Naming, Sign, LiteralValue}
 use Rattle.hal_grammar.specs.Expressions.{Expression}
-use Rattle.hal_grammar.specs.Declarations.{Mark, SingleMark, DoubleMark, LatchedMark, StaticMark, AutomaticMark, DenseMark, AlignedMark, Kind, IntegerKind, BooleanKind, EventKind, BitKind, CharacterKind, StructureKind, Initial, Valued, LiteralTimes, NameTimes, ListTimes, Initials, MoreInitials, Attribute, Dimensions, Typed, Marked, LockGroup, LockAny, InitialValues, ConstantValues, Declared, declared_of, Part, part_of, Declaration, Declares, Structures}
+use Rattle.hal_grammar.specs.Declarations.{Mark, Single, Double, Latched, Static, Automatic, Dense, Aligned, Kind, IntegerKind, BooleanKind, EventKind, BitKind, CharacterKind, StructureKind, Initial, Value, LiteralTimes, NameTimes, ListTimes, Initials, MoreInitials, Attribute, Dimensions, Typed, Marked, LockGroup, LockAny, InitialValues, ConstantValues, Declared, declared_of, Part, part_of, Declaration, Declare, Structure}
 use Rattle.hal_grammar.specs.Words.{Words}
 unfoldable pub use Rattle.hal_tree.specs.Rows.{initials}
 use Rattle.hal_parse_expr.specs.Reading.{Reader, followed, made_of, decided, past, past_symbol, name_at, integer_at, before_symbol, all, parted}
@@ -37,7 +37,7 @@ name_end_at words =
     decided (name_at words) (λ n rest. made_of (λ p. Some n) (past_symbol symbol.Semicolon rest)) (made_of (λ p. None) (past_symbol symbol.Semicolon words))
 
 -- a literal and its place
-unfoldable pub literal_at : Reader (Place × Literal)
+unfoldable pub literal_at : Reader (Place × LiteralValue)
 literal_at [] = None
 literal_at (first ∷ rest) = elim (literal_of first.word) [ None ↦ None | Some l ↦ Some ((first.place, l), rest) ]
 
@@ -87,7 +87,7 @@ counted_value inner p m words =
 
 -- an initial value
 unfoldable pub initial_of : ℕ → Option (Reader Initials) → Reader Initial
-initial_of n inner words = decided (count_at words) (λ f rest. counted_value inner f.0 f.1 rest) (made_of (λ t. Valued t) (expression_at n words))
+initial_of n inner words = decided (count_at words) (λ f rest. counted_value inner f.0 f.1 rest) (made_of (λ t. Value t) (expression_at n words))
 
 -- one initial value or more, parted by commas
 unfoldable pub initials_of : ℕ → Option (Reader Initials) → Reader Initials
@@ -105,13 +105,13 @@ initials_below (suc n) = Some (initials_at n)
 
 -- the attribute of one word that a word is
 unfoldable pub mark_of : Word → Option Mark
-mark_of (word.Reserved reserved.Single) = Some SingleMark
-mark_of (word.Reserved reserved.Double) = Some DoubleMark
-mark_of (word.Reserved reserved.Latched) = Some LatchedMark
-mark_of (word.Reserved reserved.Static) = Some StaticMark
-mark_of (word.Reserved reserved.Automatic) = Some AutomaticMark
-mark_of (word.Reserved reserved.Dense) = Some DenseMark
-mark_of (word.Reserved reserved.Aligned) = Some AlignedMark
+mark_of (word.Reserved reserved.Single) = Some Single
+mark_of (word.Reserved reserved.Double) = Some Double
+mark_of (word.Reserved reserved.Latched) = Some Latched
+mark_of (word.Reserved reserved.Static) = Some Static
+mark_of (word.Reserved reserved.Automatic) = Some Automatic
+mark_of (word.Reserved reserved.Dense) = Some Dense
+mark_of (word.Reserved reserved.Aligned) = Some Aligned
 mark_of other = None
 
 -- behind LOCK and its parenthesis: `*`, or an expression
@@ -158,8 +158,8 @@ parts_at n words = before_symbol symbol.Semicolon (made_of first_and_others (par
 
 -- behind the attributes of all names: a comma and the names, or the names at once where there are none
 unfoldable pub items_behind : ℕ → Place → List Attribute → Reader Declaration
-items_behind n p [] words = made_of (λ items. Declares p [] items) (items_at n words)
-items_behind n p (x ∷ xs) words = followed (past_symbol symbol.Comma words) (λ q rest. made_of (λ items. Declares p (x ∷ xs) items) (items_at n rest))
+items_behind n p [] words = made_of (λ items. Declare p [] items) (items_at n words)
+items_behind n p (x ∷ xs) words = followed (past_symbol symbol.Comma words) (λ q rest. made_of (λ items. Declare p (x ∷ xs) items) (items_at n rest))
 
 -- behind DECLARE
 unfoldable pub declare_behind : ℕ → Place → Reader Declaration
@@ -171,7 +171,7 @@ label_at words = followed (name_at words) (λ x rest. made_of (λ p. x) (past_sy
 
 -- behind STRUCTURE
 unfoldable pub template_behind : ℕ → Place → Reader Declaration
-template_behind n p words = followed (label_at words) (λ x rest. made_of (λ parts. Structures p x parts) (parts_at n rest))
+template_behind n p words = followed (label_at words) (λ x rest. made_of (λ parts. Structure p x parts) (parts_at n rest))
 
 -- a declaration
 unfoldable pub declaration_at : ℕ → Reader Declaration

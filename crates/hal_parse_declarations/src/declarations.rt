@@ -1,7 +1,7 @@
 //! Declarations.
 
 ghost use Rattle.std.specs.Prelude.{◌≡◌, map, IfOk};
-ghost use Rattle.hal_grammar.specs.Declarations.{Declares};
+ghost use Rattle.hal_grammar.specs.Declarations.{Declare};
 ghost use Rattle.hal_tree.specs.SeenDeclarations.{seen_attribute, seen_declaration};
 ghost use Rattle.hal_parse_expr.specs.Reading.{made_of};
 ghost use Rattle.hal_parse_expr.specs.Seen.{seen_as, seen_list};
@@ -77,7 +77,7 @@ fn declare_items(
     words: &[Token],
     depth: u32,
 ) -> Result<Option<(Declaration, &[Token])>, AllocError>
-    ensures { IfOk result (λ found. seen_as seen_declaration found ≡ made_of (λ items. Declares place (map seen_attribute common.items) items) (items_at depth words.now)) }
+    ensures { IfOk result (λ found. seen_as seen_declaration found ≡ made_of (λ items. Declare place (map seen_attribute common.items) items) (items_at depth words.now)) }
 {
     let Some((items, rest)) = items(alloc, words, depth)? else {
         return Ok(None);

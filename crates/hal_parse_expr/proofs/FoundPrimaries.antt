@@ -5,8 +5,8 @@ use Rattle.hal_words.specs.declared.reserved.Reserved.TheVariants as reserved
 use Rattle.hal_words.specs.declared.word.Symbol.TheVariants as symbol
 use Rattle.hal_words.specs.declared.word.Word.{Word}
 use Rattle.hal_words.specs.declared.word.Word.TheVariants as word
-use Rattle.hal_grammar.specs.Leaves.{Conversion, Literal}
-use Rattle.hal_grammar.specs.Expressions.{Expression, Literally, Referred, Called, Converted, Enclosed, Expressions, Reference, nesting, nesting_of_all}
+use Rattle.hal_grammar.specs.Leaves.{Conversion, LiteralValue}
+use Rattle.hal_grammar.specs.Expressions.{Expression, Literal, Referred, Called, Convert, Parenthesis, Expressions, Reference, nesting, nesting_of_all}
 use Rattle.hal_grammar.specs.Words.{Words, token, reserved_then, symbol_then, name_then, BeginsSymbol}
 use Rattle.hal_grammar.specs.SpellsExpressions.{no_further, IsNameAlone, name_alone, SpellsExpression, SpellsPrimary, negated, literal, thousandths, referred, called, to_integer, to_bits, to_text, enclosed, SpellsExpressions, SpellsReference, refers, unsubscripted}
 use Rattle.hal_parse_expr.specs.Reading.{Read, Reader, followed, made_of}
@@ -34,7 +34,7 @@ named_in h p w {words = words} (not_past m) = made_holds Referred (reference_beh
     (λ r a q. record { spells = referred q.spells (λ i. subst (λ z. ¬ BeginsSymbol symbol.LeftParenthesis z) (alone_rest i q.spells) m); shallow = q.shallow })
 
 enclosed_in : {n : ℕ} {p : Place} {t : Expression} {b a : Words} → Before (word.Symbol symbol.RightParenthesis) SpellsExpression t b a → nesting t + 1 ≤ n →
-    Phrase SpellsPrimary nesting n (symbol_then symbol.LeftParenthesis p b) (Enclosed p t) a
+    Phrase SpellsPrimary nesting n (symbol_then symbol.LeftParenthesis p b) (Parenthesis p t) a
 enclosed_in (before_it d) l = record { spells = enclosed d; shallow = l }
 
 negated_sound : {n : ℕ} {deeper : Option (Reader Expression)} → Lower n deeper → (p : Place) (words : Words) → Holds (Phrase SpellsPrimary nesting n (reserved_then reserved.Not p words)) (negated_at deeper p words)
@@ -46,7 +46,7 @@ negated_sound (lower h) p words = made_holds _ (h.sound words) (λ t a q. record
 data ConversionOf (w : Word) : Option Conversion → Type 0 where
   no_conversion : ConversionOf w None
   is_conversion : {c : Conversion} → ((p q r : Place) (t : Expression) (b a : Words) → SpellsExpression t b (symbol_then symbol.RightParenthesis r a) →
-      SpellsPrimary (Converted p c t) (token w p ∷ symbol_then symbol.LeftParenthesis q b) a) → ConversionOf w (Some c)
+      SpellsPrimary (Convert p c t) (token w p ∷ symbol_then symbol.LeftParenthesis q b) a) → ConversionOf w (Some c)
 
 conversion_sound : (w : Word) → ConversionOf w (conversion_of w)
 unfolding conversion_of
@@ -57,14 +57,14 @@ conversion_sound (word.Reserved r) = no_conversion
 conversion_sound other = no_conversion
 
 converted_then : {n : ℕ} {w : Word} {c : Conversion} {p q : Place} {t : Expression} {b a : Words} →
-    ((r : Place) → SpellsExpression t b (symbol_then symbol.RightParenthesis r a) → SpellsPrimary (Converted p c t) (token w p ∷ symbol_then symbol.LeftParenthesis q b) a) →
-    Before (word.Symbol symbol.RightParenthesis) SpellsExpression t b a → nesting t + 1 ≤ n → Phrase SpellsPrimary nesting n (token w p ∷ symbol_then symbol.LeftParenthesis q b) (Converted p c t) a
+    ((r : Place) → SpellsExpression t b (symbol_then symbol.RightParenthesis r a) → SpellsPrimary (Convert p c t) (token w p ∷ symbol_then symbol.LeftParenthesis q b) a) →
+    Before (word.Symbol symbol.RightParenthesis) SpellsExpression t b a → nesting t + 1 ≤ n → Phrase SpellsPrimary nesting n (token w p ∷ symbol_then symbol.LeftParenthesis q b) (Convert p c t) a
 converted_then f (before_it d) l = record { spells = f _ d; shallow = l }
 
 converted_in : {n : ℕ} {deeper : Option (Reader Expression)} → Lower n deeper → {w : Word} {c : Conversion} {p : Place} → ((q r : Place) (t : Expression) (b a : Words) →
-    SpellsExpression t b (symbol_then symbol.RightParenthesis r a) → SpellsPrimary (Converted p c t) (token w p ∷ symbol_then symbol.LeftParenthesis q b) a) →
+    SpellsExpression t b (symbol_then symbol.RightParenthesis r a) → SpellsPrimary (Convert p c t) (token w p ∷ symbol_then symbol.LeftParenthesis q b) a) →
     {words : Words} {o : Read Place} → PastOf (word.Symbol symbol.LeftParenthesis) words o →
-    Holds (Phrase SpellsPrimary nesting n (token w p ∷ words)) (followed o (λ q rest. made_of (λ t. Converted p c t) (closed expression_of deeper rest)))
+    Holds (Phrase SpellsPrimary nesting n (token w p ∷ words)) (followed o (λ q rest. made_of (λ t. Convert p c t) (closed expression_of deeper rest)))
 unfolding followed
 converted_in h f (is_past {p = q} {rest = rest}) = made_holds _ (closed_expression h rest) (λ t a e. converted_then (λ r. f q r t rest a) e.spells e.shallow)
 converted_in h f (not_past m) = holds_none
@@ -75,9 +75,9 @@ unfolding converted_at
 conversion_in h w p rest no_conversion = holds_none
 conversion_in h w p rest (is_conversion f) = converted_in h (f p) (past_symbol_of symbol.LeftParenthesis rest)
 
-literal_in : {n : ℕ} {deeper : Option (Reader Expression)} → Lower n deeper → (w : Word) (p : Place) (rest : Words) {l : Option Literal} {o : Option Conversion} → LiteralOf w l → ConversionOf w o →
+literal_in : {n : ℕ} {deeper : Option (Reader Expression)} → Lower n deeper → (w : Word) (p : Place) (rest : Words) {l : Option LiteralValue} {o : Option Conversion} → LiteralOf w l → ConversionOf w o →
     Holds (Phrase SpellsPrimary nesting n (token w p ∷ rest))
-    (elim l [ Some x ↦ Some (Literally p x, rest) | None ↦ elim o [ None ↦ None | Some c ↦ converted_at deeper p c rest ] ])
+    (elim l [ Some x ↦ Some (Literal p x, rest) | None ↦ elim o [ None ↦ None | Some c ↦ converted_at deeper p c rest ] ])
 literal_in h w p rest (is_literal f) g = holds (record { spells = literal (f p rest); shallow = omega arith })
 literal_in h w p rest no_literal g = conversion_in h w p rest g
 

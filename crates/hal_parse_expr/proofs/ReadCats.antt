@@ -3,7 +3,7 @@ use Rattle.std.proofs.Common.{◌≡◌, ℕ, ◌≤◌, length, refl, arith}
 use Rattle.hal_words.specs.declared.reserved.Reserved.{Reserved}
 use Rattle.hal_words.specs.declared.reserved.Reserved.TheVariants as reserved
 use Rattle.hal_words.specs.declared.word.Word.TheVariants as word
-use Rattle.hal_grammar.specs.Expressions.{Expression, Joined, Expressions, NoExpressions, MoreExpressions, nesting, nesting_of_all}
+use Rattle.hal_grammar.specs.Expressions.{Expression, Cat, Expressions, NoExpressions, MoreExpressions, nesting, nesting_of_all}
 use Rattle.hal_grammar.specs.Words.{Words}
 use Rattle.hal_grammar.specs.SpellsExpressions.{both, comparison, cat, SpellsCat, sum, joined, SpellsCats, no_cat, cat_more, SpellsSum}
 use Rattle.hal_grammar.proofs.Beginnings.{cats_ends}
@@ -29,7 +29,7 @@ cats_then (behind_it d) ds = cat_more d ds
 cats_ended : {b a : Words} → SpellsCats NoExpressions b a → b ≡ a
 cats_ended no_cat = refl
 
-cats_row : IsRow Joined SpellsSum (Behind (word.Reserved reserved.Cat) SpellsSum) SpellsCat SpellsCats
+cats_row : IsRow Cat SpellsSum (Behind (word.Reserved reserved.Cat) SpellsSum) SpellsCat SpellsCats
 cats_row = record {
   alone = λ t b a d. sum d;
   row = λ t u us b m a d ds. joined (expression_placed (both (comparison (cat (sum d))))) d ds;
@@ -49,8 +49,8 @@ cats_far read h (cat_more d ds) l = all_step _ (further_sums read h) (behind_it 
 
 cat_reach : {n : ℕ} (read : Reader Expression) → Primaries n read → {t : Expression} {b a : Words} → SpellsCat t b a → nesting t ≤ n → Reaches (length a) (cat_of read b)
 unfolding cat_of row_at
-cat_reach read h (sum d) l = first_alone _ _ (row_of Joined) (sum_reads read h) (further_sums read h).short d l
-cat_reach read h (joined i d ds) l = first_then _ _ (row_of Joined) (sum_reads read h) (further_sums read h).short d (omega arith) (cats_ends ds) (cats_far read h ds (omega arith))
+cat_reach read h (sum d) l = first_alone _ _ (row_of Cat) (sum_reads read h) (further_sums read h).short d l
+cat_reach read h (joined i d ds) l = first_then _ _ (row_of Cat) (sum_reads read h) (further_sums read h).short d (omega arith) (cats_ends ds) (cats_far read h ds (omega arith))
 
 pub cat_reads : {n : ℕ} (read : Reader Expression) → Primaries n read → Reads SpellsCat nesting n 5 (cat_of read)
 unfolding cat_of

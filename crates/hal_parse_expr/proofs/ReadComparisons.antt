@@ -1,7 +1,7 @@
 -- The reader of comparisons.
 use Rattle.std.proofs.Common.{ℕ, ◌≤◌, length, arith}
 use Rattle.hal_grammar.specs.Leaves.{Relation}
-use Rattle.hal_grammar.specs.Expressions.{Expression, Compared, nesting, place_of}
+use Rattle.hal_grammar.specs.Expressions.{Expression, Compare, nesting, place_of}
 use Rattle.hal_grammar.specs.Words.{Words}
 use Rattle.hal_grammar.specs.SpellsExpressions.{SpellsRelation, both, comparison, SpellsComparison, cat, compared, SpellsCat}
 use Rattle.hal_grammar.proofs.Beginnings.{relation_strength}
@@ -31,7 +31,7 @@ unfolding related
 related_reach read h r d l = followed_at _ (relation_here r) (made_reaches _ ((cat_reads read h).reach _ _ _ d l))
 
 compared_in : {n : ℕ} {t : Expression} {f : Relation × Expression} {b m a : Words} → Phrase SpellsCat nesting n b t m → SpellsRelated f m a → nesting f.1 ≤ n →
-    Phrase SpellsComparison nesting n b (Compared (place_of t) t f.0 f.1) a
+    Phrase SpellsComparison nesting n b (Compare (place_of t) t f.0 f.1) a
 compared_in p (related_so r e) l = record { spells = compared (expression_placed (both (comparison (cat p.spells)))) p.spells r e; shallow = omega (arith, p.shallow) }
 
 comparison_sound : {n : ℕ} (read : Reader Expression) → Primaries n read → (words : Words) → Holds (Phrase SpellsComparison nesting n words) (comparison_of read words)

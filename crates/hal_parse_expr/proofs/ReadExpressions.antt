@@ -2,7 +2,7 @@
 use Rattle.std.proofs.Common.{◌≡◌, ℕ, ◌≤◌, length, refl, arith}
 use Rattle.hal_words.specs.declared.reserved.Reserved.TheVariants as reserved
 use Rattle.hal_words.specs.declared.word.Word.TheVariants as word
-use Rattle.hal_grammar.specs.Expressions.{Expression, Ors, Ands, Expressions, NoExpressions, MoreExpressions, nesting, nesting_of_all}
+use Rattle.hal_grammar.specs.Expressions.{Expression, Or, And, Expressions, NoExpressions, MoreExpressions, nesting, nesting_of_all}
 use Rattle.hal_grammar.specs.Words.{Words}
 use Rattle.hal_grammar.specs.SpellsExpressions.{SpellsExpression, both, ors, SpellsOrs, no_or, or_more, SpellsBoth, comparison, ands, SpellsAnds, no_and, and_more, SpellsComparison}
 use Rattle.hal_grammar.proofs.Beginnings.{ors_ends, ands_ends}
@@ -25,7 +25,7 @@ ands_then (behind_it d) ds = and_more d ds
 ands_ended : {b a : Words} → SpellsAnds NoExpressions b a → b ≡ a
 ands_ended no_and = refl
 
-ands_row : IsRow Ands SpellsComparison (Behind (word.Reserved reserved.And) SpellsComparison) SpellsBoth SpellsAnds
+ands_row : IsRow And SpellsComparison (Behind (word.Reserved reserved.And) SpellsComparison) SpellsBoth SpellsAnds
 ands_row = record {
   alone = λ t b a d. comparison d;
   row = λ t u us b m a d ds. ands (expression_placed (both (comparison d))) d ds;
@@ -45,9 +45,9 @@ ands_far read h (and_more d ds) l = all_step _ (further_comparisons read h) (beh
 
 both_reach : {n : ℕ} (read : Reader Expression) → Primaries n read → {t : Expression} {b a : Words} → SpellsBoth t b a → nesting t ≤ n → Reaches (length a) (both_of read b)
 unfolding both_of row_at
-both_reach read h (comparison d) l = first_alone _ _ (row_of Ands) (comparison_reads read h) (further_comparisons read h).short d l
+both_reach read h (comparison d) l = first_alone _ _ (row_of And) (comparison_reads read h) (further_comparisons read h).short d l
 both_reach read h (ands i d ds) l =
-    first_then _ _ (row_of Ands) (comparison_reads read h) (further_comparisons read h).short d (omega arith) (ands_ends ds) (ands_far read h ds (omega arith))
+    first_then _ _ (row_of And) (comparison_reads read h) (further_comparisons read h).short d (omega arith) (ands_ends ds) (ands_far read h ds (omega arith))
 
 pub both_reads : {n : ℕ} (read : Reader Expression) → Primaries n read → Reads SpellsBoth nesting n 3 (both_of read)
 unfolding both_of
@@ -64,7 +64,7 @@ ors_then (behind_it d) ds = or_more d ds
 ors_ended : {b a : Words} → SpellsOrs NoExpressions b a → b ≡ a
 ors_ended no_or = refl
 
-ors_row : IsRow Ors SpellsBoth (Behind (word.Reserved reserved.Or) SpellsBoth) SpellsExpression SpellsOrs
+ors_row : IsRow Or SpellsBoth (Behind (word.Reserved reserved.Or) SpellsBoth) SpellsExpression SpellsOrs
 ors_row = record {
   alone = λ t b a d. both d;
   row = λ t u us b m a d ds. ors (expression_placed (both d)) d ds;
@@ -84,8 +84,8 @@ ors_far read h (or_more d ds) l = all_step _ (further_boths read h) (behind_it d
 
 expression_reach : {n : ℕ} (read : Reader Expression) → Primaries n read → {t : Expression} {b a : Words} → SpellsExpression t b a → nesting t ≤ n → Reaches (length a) (expression_of read b)
 unfolding expression_of row_at
-expression_reach read h (both d) l = first_alone _ _ (row_of Ors) (both_reads read h) (further_boths read h).short d l
-expression_reach read h (ors i d ds) l = first_then _ _ (row_of Ors) (both_reads read h) (further_boths read h).short d (omega arith) (ors_ends ds) (ors_far read h ds (omega arith))
+expression_reach read h (both d) l = first_alone _ _ (row_of Or) (both_reads read h) (further_boths read h).short d l
+expression_reach read h (ors i d ds) l = first_then _ _ (row_of Or) (both_reads read h) (further_boths read h).short d (omega arith) (ors_ends ds) (ors_far read h ds (omega arith))
 
 pub expression_reads : {n : ℕ} (read : Reader Expression) → Primaries n read → Reads SpellsExpression nesting n 2 (expression_of read)
 unfolding expression_of

@@ -2,7 +2,7 @@
 use Rattle.std.proofs.Common.{ℕ, ◌≤◌, length, arith}
 use Rattle.hal_words.specs.declared.word.Symbol.TheVariants as symbol
 use Rattle.hal_words.specs.declared.word.Word.TheVariants as word
-use Rattle.hal_grammar.specs.Expressions.{Expression, Powered, nesting, place_of}
+use Rattle.hal_grammar.specs.Expressions.{Expression, Power, nesting, place_of}
 use Rattle.hal_grammar.specs.Words.{Words}
 use Rattle.hal_grammar.specs.SpellsExpressions.{both, comparison, cat, sum, term, factor, SpellsFactor, primary, powered, SpellsPrimary}
 use Rattle.hal_grammar.proofs.OneExpression.{one_factor}
@@ -20,7 +20,7 @@ abbrev pub Primaries : ℕ → Reader Expression → Type 0
 Primaries n read = Reads SpellsPrimary nesting n 9 read
 
 powered_in : {n : ℕ} {t u : Expression} {b m a : Words} → Phrase SpellsPrimary nesting n b t m → Behind (word.Symbol symbol.Power) SpellsPrimary u m a → nesting u ≤ n →
-    Phrase SpellsFactor nesting n b (Powered (place_of t) t u) a
+    Phrase SpellsFactor nesting n b (Power (place_of t) t u) a
 powered_in p (behind_it e) l =
     record { spells = powered (expression_placed (both (comparison (cat (sum (term (factor (primary p.spells)))))))) p.spells e; shallow = omega (arith, p.shallow) }
 

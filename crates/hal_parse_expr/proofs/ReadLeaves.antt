@@ -5,7 +5,7 @@ use Rattle.hal_words.specs.declared.reserved.Reserved.TheVariants as reserved
 use Rattle.hal_words.specs.declared.word.Symbol.TheVariants as symbol
 use Rattle.hal_words.specs.declared.word.Word.{Word}
 use Rattle.hal_words.specs.declared.word.Word.TheVariants as word
-use Rattle.hal_grammar.specs.Leaves.{Naming, naming, Sign, Literal}
+use Rattle.hal_grammar.specs.Leaves.{Naming, naming, Sign, LiteralValue}
 use Rattle.hal_grammar.specs.Words.{Words, token, name_then, integer_then}
 use Rattle.hal_grammar.specs.SpellsExpressions.{SpellsSign, plus, minus, SpellsLiteral, integer, text, bits, true_bit, false_bit, on_bit, off_bit}
 use Rattle.hal_grammar.proofs.Beginnings.{Opening, Opening-unsigned, sign_strength}
@@ -75,9 +75,9 @@ pub unsigned : (words : Words) → Opening words → sign_at words ≡ None
 unsigned words h = unsigned_in h (sign_sound words)
 
 -- the literal that a word is
-pub data LiteralOf (w : Word) : Option Literal → Type 0 where
+pub data LiteralOf (w : Word) : Option LiteralValue → Type 0 where
   no_literal : LiteralOf w None
-  is_literal : {l : Literal} → ((p : Place) (rest : Words) → SpellsLiteral l p (token w p ∷ rest) rest) → LiteralOf w (Some l)
+  is_literal : {l : LiteralValue} → ((p : Place) (rest : Words) → SpellsLiteral l p (token w p ∷ rest) rest) → LiteralOf w (Some l)
 
 pub literal_sound : (w : Word) → LiteralOf w (literal_of w)
 unfolding literal_of

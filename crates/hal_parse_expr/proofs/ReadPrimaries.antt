@@ -2,7 +2,7 @@
 use Rattle.std.proofs.Common.{ℕ, zero, suc, ◌≤◌, ◌+◌, List, length, Option, Some, None, sym, subst, arith}
 use Rattle.hal_base.specs.declared.refusal.Place.{Place}
 use Rattle.hal_words.specs.declared.word.Symbol.TheVariants as symbol
-use Rattle.hal_grammar.specs.Leaves.{Naming, Conversion, ToInteger, ToBits, ToText, Literal}
+use Rattle.hal_grammar.specs.Leaves.{Naming, Conversion, ToInteger, ToBits, ToText, LiteralValue}
 use Rattle.hal_grammar.specs.Expressions.{Expression, Referred, Called, Expressions, Reference, Refers, Subscript, nesting, nesting_of_all, nesting_of_reference}
 use Rattle.hal_grammar.specs.Words.{Words, symbol_then, name_then, BeginsSymbol}
 use Rattle.hal_grammar.specs.SpellsExpressions.{SpellsLiteral, integer, text, bits, true_bit, false_bit, on_bit, off_bit, SpellsFurther, no_further, further, IsNameAlone, name_alone, SpellsExpression, SpellsPrimary, negated, literal, thousandths, referred, called, to_integer, to_bits, to_text, enclosed, SpellsExpressions, SpellsReference, refers, SpellsSubscript, unsubscripted, by_name, by_integer, by_parts}
@@ -18,7 +18,7 @@ use Rattle.hal_parse_expr.proofs.ReadReferences.{Lower, lowest, lower, reference
 use Rattle.hal_parse_expr.proofs.ReadClosed.{expression_closed, expressions_closed}
 use Rattle.hal_parse_expr.proofs.FoundPrimaries.{of_sound}
 
-literal_reach : (deeper : Option (Reader Expression)) {l : Literal} {p : Place} {b a : Words} → SpellsLiteral l p b a → Reaches (length a) (primary_of deeper b)
+literal_reach : (deeper : Option (Reader Expression)) {l : LiteralValue} {p : Place} {b a : Words} → SpellsLiteral l p b a → Reaches (length a) (primary_of deeper b)
 unfolding primary_of primary_behind literal_of
 literal_reach deeper integer = reaches (omega arith)
 literal_reach deeper text = reaches (omega arith)

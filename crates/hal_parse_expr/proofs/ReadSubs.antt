@@ -4,7 +4,7 @@ use Rattle.hal_base.specs.declared.refusal.Place.{Place}
 use Rattle.hal_words.specs.declared.reserved.Reserved.TheVariants as reserved
 use Rattle.hal_words.specs.declared.word.Symbol.TheVariants as symbol
 use Rattle.hal_words.specs.declared.word.Word.TheVariants as word
-use Rattle.hal_grammar.specs.Expressions.{Expression, Sub, EveryPlace, OnePlace, Range, Portion, Position, FromBeginning, FromEnd, nesting_of_sub, nesting_of_position}
+use Rattle.hal_grammar.specs.Expressions.{Expression, Sub, Every, One, Range, Portion, Position, FromBeginning, FromEnd, nesting_of_sub, nesting_of_position}
 use Rattle.hal_grammar.specs.Words.{Words, begins, BeginsReserved, BeginsSymbol}
 use Rattle.hal_grammar.specs.SpellsExpressions.{SpellsSum, SpellsSub, every_place, one_place, range, portion, SpellsPosition, from_beginning}
 use Rattle.hal_grammar.proofs.Beginnings.{position_not_star}
@@ -36,7 +36,7 @@ range_in p (behind_it e) l = record { spells = range p.spells e; shallow = omega
 range_sound : {n : ℕ} (read : Reader Expression) → Primaries n read → {x : Position} {b : Words} (m : Words) → Phrase SpellsPosition nesting_of_position n b x m →
     Holds (Phrase SpellsSub nesting_of_sub n b) (range_from read x m)
 unfolding range_from
-range_sound read h {x = x} m p = tail_holds _ (OnePlace x) m (record { spells = one_place p.spells; shallow = p.shallow }) ((to_reads read h).sound m) (λ y a q. range_in p q.spells q.shallow)
+range_sound read h {x = x} m p = tail_holds _ (One x) m (record { spells = one_place p.spells; shallow = p.shallow }) ((to_reads read h).sound m) (λ y a q. range_in p q.spells q.shallow)
 
 sum_of_position : {t : Expression} {b a : Words} → SpellsPosition (FromBeginning t) b a → SpellsSum t b a
 sum_of_position (from_beginning d) = d
@@ -51,7 +51,7 @@ unfolding portion_from
 portion_sound read h (FromEnd q ts) m p = range_sound read h m p
 portion_sound read h (FromBeginning t) m p = or_holds (made_holds _ ((at_reads read h).sound m) (λ y a q. portion_in p q.spells q.shallow)) (range_sound read h m p)
 
-every_in : {n : ℕ} {words : Words} {o : Read Place} → PastOf (word.Symbol symbol.Star) words o → Holds (Phrase SpellsSub nesting_of_sub n words) (made_of EveryPlace o)
+every_in : {n : ℕ} {words : Words} {o : Read Place} → PastOf (word.Symbol symbol.Star) words o → Holds (Phrase SpellsSub nesting_of_sub n words) (made_of Every o)
 unfolding made_of
 every_in is_past = holds (record { spells = every_place; shallow = omega arith })
 every_in (not_past n) = holds_none

@@ -2,7 +2,7 @@
 use Rattle.std.proofs.Common.{◌≡◌, ℕ, ◌≤◌, List, [], ◌∷◌, length, Some, None, refl, sym, subst, arith}
 use Rattle.hal_base.specs.declared.refusal.Place.{Place}
 use Rattle.hal_grammar.specs.Leaves.{Sign}
-use Rattle.hal_grammar.specs.Expressions.{Expression, Summed, Terms, NoTerms, MoreTerms, nesting, nesting_of_terms}
+use Rattle.hal_grammar.specs.Expressions.{Expression, Sum, Terms, NoTerms, MoreTerms, nesting, nesting_of_terms}
 use Rattle.hal_grammar.specs.Words.{Words}
 use Rattle.hal_grammar.specs.SpellsExpressions.{SpellsSign, both, comparison, cat, SpellsSum, sum, term, summed, signed, SpellsTerms, no_terms, more_terms, SpellsTerm}
 use Rattle.hal_grammar.specs.GoesOn.{Outcome}
@@ -85,7 +85,7 @@ unsigned_sound : {n : ℕ} (read : Reader Expression) → Primaries n read → (
 unfolding unsigned_sum
 unsigned_sound read h words = followed_holds ((term_reads read h).sound words) (λ t rest p. holds (sum_in (all (signed_term read) rest).0 p (terms_sound read h rest)))
 
-signed_then : {t : SignedTerm} {ts : Terms} {b m a : Words} → SpellsSigned t b m → SpellsTerms ts m a → SpellsSum (Summed t.0 (Some t.1) t.2 ts) b a
+signed_then : {t : SignedTerm} {ts : Terms} {b m a : Words} → SpellsSigned t b m → SpellsTerms ts m a → SpellsSum (Sum t.0 (Some t.1) t.2 ts) b a
 signed_then (signed_so s d) ds = signed s d ds
 
 signed_sum_sound : {n : ℕ} (read : Reader Expression) → Primaries n read → (words : Words) → Holds (Phrase SpellsSum nesting n words) (signed_sum read words)
@@ -115,7 +115,7 @@ sum_reach read h (term d) l = without_sign read (term_opens d) (first_alone _ _ 
 sum_reach read h (summed i d ds) l = without_sign read (term_opens d)
     (first_then _ _ sum_from (term_reads read h) (signed_term_shortens read h.short) d (omega arith) (terms_ends ds) (terms_far read h ds (omega arith)))
 sum_reach read h (signed s d ds) l = with_sign read s
-    (first_then _ _ (λ t us. Summed t.0 (Some t.1) t.2 (terms us)) (signed_reads read h) (signed_term_shortens read h.short) (signed_so s d) (omega arith) (terms_ends ds) (terms_far read h ds (omega arith)))
+    (first_then _ _ (λ t us. Sum t.0 (Some t.1) t.2 (terms us)) (signed_reads read h) (signed_term_shortens read h.short) (signed_so s d) (omega arith) (terms_ends ds) (terms_far read h ds (omega arith)))
 
 pub sum_reads : {n : ℕ} (read : Reader Expression) → Primaries n read → Reads SpellsSum nesting n 6 (sum_of read)
 sum_reads read h = record {

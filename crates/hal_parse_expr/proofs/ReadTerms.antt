@@ -3,7 +3,7 @@ use Rattle.std.proofs.Common.{◌≡◌, ℕ, ◌≤◌, length, Some, None, ref
 use Rattle.hal_base.specs.declared.refusal.Place.{Place}
 use Rattle.hal_words.specs.declared.reserved.Reserved.TheVariants as reserved
 use Rattle.hal_words.specs.declared.word.Word.TheVariants as word
-use Rattle.hal_grammar.specs.Expressions.{Expression, Multiplied, Expressions, NoExpressions, MoreExpressions, nesting, nesting_of_all}
+use Rattle.hal_grammar.specs.Expressions.{Expression, Product, Expressions, NoExpressions, MoreExpressions, nesting, nesting_of_all}
 use Rattle.hal_grammar.specs.Words.{Words, BeginsReserved}
 use Rattle.hal_grammar.specs.SpellsExpressions.{both, comparison, cat, sum, term, SpellsTerm, factor, multiplied, SpellsFactors, no_factors, more_factors, SpellsFactor}
 use Rattle.hal_grammar.specs.GoesOn.{Outcome}
@@ -55,7 +55,7 @@ factors_then (not_negated m d) ds = more_factors m d ds
 factors_ended : {b a : Words} → SpellsFactors NoExpressions b a → b ≡ a
 factors_ended no_factors = refl
 
-product : IsRow Multiplied SpellsFactor FurtherFactor SpellsTerm SpellsFactors
+product : IsRow Product SpellsFactor FurtherFactor SpellsTerm SpellsFactors
 product = record {
   alone = λ t b a d. factor d;
   row = λ t u us b m a d ds. multiplied (expression_placed (both (comparison (cat (sum (term (factor d))))))) d ds;
@@ -71,9 +71,9 @@ factors_far read h (more_factors m d ds) l = all_step (further_factor read) (fur
 
 term_reach : {n : ℕ} (read : Reader Expression) → Primaries n read → {t : Expression} {b a : Words} → SpellsTerm t b a → nesting t ≤ n → Reaches (length a) (term_of read b)
 unfolding term_of row_at
-term_reach read h (factor d) l = first_alone _ _ (row_of Multiplied) (factor_reads read h) (further_factor_shortens read h.short) d l
+term_reach read h (factor d) l = first_alone _ _ (row_of Product) (factor_reads read h) (further_factor_shortens read h.short) d l
 term_reach read h (multiplied i d ds) l =
-    first_then _ _ (row_of Multiplied) (factor_reads read h) (further_factor_shortens read h.short) d (omega arith) (factors_ends ds) (factors_far read h ds (omega arith))
+    first_then _ _ (row_of Product) (factor_reads read h) (further_factor_shortens read h.short) d (omega arith) (factors_ends ds) (factors_far read h ds (omega arith))
 
 pub term_reads : {n : ℕ} (read : Reader Expression) → Primaries n read → Reads SpellsTerm nesting n 7 (term_of read)
 unfolding term_of

@@ -5,8 +5,8 @@ use Rattle.hal_words.specs.declared.reserved.Reserved.TheVariants as reserved
 use Rattle.hal_words.specs.declared.word.Symbol.TheVariants as symbol
 use Rattle.hal_words.specs.declared.word.Word.{Word}
 use Rattle.hal_words.specs.declared.word.Word.TheVariants as word
-use Rattle.hal_grammar.specs.Leaves.{Conversion, Literal}
-use Rattle.hal_grammar.specs.Expressions.{Expression, Literally, Referred, Called, Subscripts, NoSubscripts}
+use Rattle.hal_grammar.specs.Leaves.{Conversion, LiteralValue}
+use Rattle.hal_grammar.specs.Expressions.{Expression, Literal, Referred, Called, Subscripts, NoSubscripts}
 use Rattle.hal_grammar.specs.Words.{Words}
 use Rattle.hal_parse_expr.specs.Reading.{Read, Reader, made_of, past_symbol, name_at, integer_at, all}
 use Rattle.hal_parse_expr.specs.ReadingExpressions.{further_at, expression_of, expressions_of, subs_of, components_of, arrays_then, arrays_of, copies_then, parts_of, enclosed_parts, subscript_behind, subscript_of, subscript_or_none, reference_behind, closed, named_at, converted_at, negated_at, literal_of, conversion_of, primary_behind, primary_of, primary_at, deeper_than, reference_of, reference_at}
@@ -100,8 +100,8 @@ conversion_below : (deeper : Option (Reader Expression)) → ShortensIfAny deepe
 conversion_below deeper h p rest None = tt
 conversion_below deeper h p rest (Some c) = converted_keeps deeper h p c rest
 
-literal_below : (deeper : Option (Reader Expression)) → ShortensIfAny deeper → (p : Place) (rest : Words) (l : Option Literal) (c : Option Conversion) →
-    Below (suc (length rest)) (elim l [ Some x ↦ Some (Literally p x, rest) | None ↦ elim c [ None ↦ None | Some x ↦ converted_at deeper p x rest ] ])
+literal_below : (deeper : Option (Reader Expression)) → ShortensIfAny deeper → (p : Place) (rest : Words) (l : Option LiteralValue) (c : Option Conversion) →
+    Below (suc (length rest)) (elim l [ Some x ↦ Some (Literal p x, rest) | None ↦ elim c [ None ↦ None | Some x ↦ converted_at deeper p x rest ] ])
 literal_below deeper h p rest (Some l) c = omega arith
 literal_below deeper h p rest None c = conversion_below deeper h p rest c
 

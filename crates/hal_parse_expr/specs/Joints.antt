@@ -1,7 +1,7 @@
 -- The four kinds of rows: OR, AND, CAT, and factors one after another.
 use Rattle.hal_base.specs.declared.refusal.Place.{Place}
 use Rattle.hal_words.specs.declared.reserved.Reserved.TheVariants as reserved
-use Rattle.hal_grammar.specs.Expressions.{Expression, Ors, Ands, Joined, Multiplied, Expressions}
+use Rattle.hal_grammar.specs.Expressions.{Expression, Or, And, Cat, Product, Expressions}
 use Rattle.hal_parse_expr.specs.Reading.{Reader}
 use Rattle.hal_parse_expr.specs.ReadingExpressions.{behind, both_of, comparison_of, sum_of, further_factor}
 use Rattle.hal_parse_expr.specs.declared.joint.Joint.{Joint}
@@ -16,7 +16,7 @@ more_of joint.Product primary = further_factor primary
 
 -- the row's tree
 unfoldable pub make_of : Joint → Place → Expression → Expressions → Expression
-make_of joint.Or = Ors
-make_of joint.And = Ands
-make_of joint.Cat = Joined
-make_of joint.Product = Multiplied
+make_of joint.Or = Or
+make_of joint.And = And
+make_of joint.Cat = Cat
+make_of joint.Product = Product

@@ -5,7 +5,7 @@ use Rattle.hal_words.specs.declared.reserved.Reserved.TheVariants as reserved
 use Rattle.hal_words.specs.declared.word.Symbol.TheVariants as symbol
 use Rattle.hal_words.specs.declared.word.Word.{Word}
 use Rattle.hal_words.specs.declared.word.Word.TheVariants as word
-use Rattle.hal_grammar.specs.Expressions.{Expression, Literally, Thousandths, Enclosed}
+use Rattle.hal_grammar.specs.Expressions.{Expression, Literal, Decimal, Parenthesis}
 use Rattle.hal_tree.specs.declared.leaf.Conversion.TheVariants as conversion
 use Rattle.hal_tree.specs.declared.leaf.LiteralValue.TheVariants as literal
 use Rattle.hal_tree.specs.SeenLeaves.{seen_conversion, seen_literal}
@@ -35,8 +35,8 @@ opens other = None
 -- the primary that it opens
 unfoldable pub opened_at : Option (Reader Expression) → Place → Opening → Reader Expression
 opened_at deeper p (opening.Name n) rest = named_at deeper p n rest
-opened_at deeper p (opening.Decimal n) rest = Some (Thousandths p n, rest)
-opened_at deeper p opening.Parenthesis rest = made_of (λ t. Enclosed p t) (closed expression_of deeper rest)
+opened_at deeper p (opening.Decimal n) rest = Some (Decimal p n, rest)
+opened_at deeper p opening.Parenthesis rest = made_of (λ t. Parenthesis p t) (closed expression_of deeper rest)
 opened_at deeper p opening.Not rest = negated_at deeper p rest
-opened_at deeper p (opening.Literal l) rest = Some (Literally p (seen_literal l), rest)
+opened_at deeper p (opening.Literal l) rest = Some (Literal p (seen_literal l), rest)
 opened_at deeper p (opening.Conversion c) rest = converted_at deeper p (seen_conversion c) rest

@@ -7,16 +7,16 @@ use Rattle.hal_words.specs.declared.reserved.Reserved.TheVariants as reserved
 use Rattle.hal_words.specs.declared.word.Symbol.TheVariants as symbol
 use Rattle.hal_words.specs.declared.word.Word.{Word}
 use Rattle.hal_words.specs.declared.word.Word.TheVariants as word
-use Rattle.hal_grammar.specs.Leaves.{Naming, Sign, Added, Subtracted, Relation, IsEqual, IsLess, IsGreater, IsAtMost, IsAtLeast, IsNotEqual, IsNotLess, IsNotGreater, Conversion, ToInteger, ToBits, ToText, Literal, WholeNumber, QuotedText, BitPattern, TrueBit, FalseBit, OnBit, OffBit}
-use Rattle.hal_grammar.specs.Expressions.{Expression, Ors, Ands, Compared, Joined, Summed, Multiplied, Powered, Negated, Literally, Thousandths, Referred, Called, Converted, Enclosed, Expressions, MoreExpressions, Reference, Refers, Subscript, Unsubscripted, ByName, ByInteger, ByParts, Subscripts, NoSubscripts, MoreSubscripts, Sub, EveryPlace, OnePlace, Range, Portion, Position, FromBeginning, FromEnd, place_of}
+use Rattle.hal_grammar.specs.Leaves.{Naming, Sign, Plus, Minus, Relation, Equal, Less, Greater, AtMost, AtLeast, NotEqual, NotLess, NotGreater, Conversion, ToInteger, ToBits, ToText, LiteralValue, Integer, Text, Bits, True, False, On, Off}
+use Rattle.hal_grammar.specs.Expressions.{Expression, Or, And, Compare, Cat, Sum, Product, Power, Not, Literal, Decimal, Referred, Called, Convert, Parenthesis, Expressions, MoreExpressions, Reference, Refers, Subscript, Unsubscripted, ByName, ByInteger, ByParts, Subscripts, NoSubscripts, MoreSubscripts, Sub, Every, One, Range, Portion, Position, FromBeginning, FromEnd, place_of}
 unfoldable pub use Rattle.hal_tree.specs.Rows.{expressions, terms, subscripts}
 pub use Rattle.hal_tree.specs.Rows.{SignedTerm}
 use Rattle.hal_parse_expr.specs.Reading.{Reader, followed, made_of, with_tail, or_else, decided, past, past_symbol, name_at, integer_at, before_symbol, all, parted}
 
 -- the sign that a word is
 unfoldable pub sign_of : Word → Option Sign
-sign_of (word.Symbol symbol.Plus) = Some Added
-sign_of (word.Symbol symbol.Minus) = Some Subtracted
+sign_of (word.Symbol symbol.Plus) = Some Plus
+sign_of (word.Symbol symbol.Minus) = Some Minus
 sign_of other = None
 
 -- a sign and its place
@@ -26,18 +26,18 @@ sign_at (first ∷ rest) = elim (sign_of first.word) [ None ↦ None | Some s �
 
 -- the relation that a symbol is
 unfoldable pub plain_relation : Word → Option Relation
-plain_relation (word.Symbol symbol.Equals) = Some IsEqual
-plain_relation (word.Symbol symbol.Less) = Some IsLess
-plain_relation (word.Symbol symbol.Greater) = Some IsGreater
-plain_relation (word.Symbol symbol.AtMost) = Some IsAtMost
-plain_relation (word.Symbol symbol.AtLeast) = Some IsAtLeast
+plain_relation (word.Symbol symbol.Equals) = Some Equal
+plain_relation (word.Symbol symbol.Less) = Some Less
+plain_relation (word.Symbol symbol.Greater) = Some Greater
+plain_relation (word.Symbol symbol.AtMost) = Some AtMost
+plain_relation (word.Symbol symbol.AtLeast) = Some AtLeast
 plain_relation other = None
 
 -- the relation that a symbol behind NOT is
 unfoldable pub negated_relation : Word → Option Relation
-negated_relation (word.Symbol symbol.Equals) = Some IsNotEqual
-negated_relation (word.Symbol symbol.Less) = Some IsNotLess
-negated_relation (word.Symbol symbol.Greater) = Some IsNotGreater
+negated_relation (word.Symbol symbol.Equals) = Some NotEqual
+negated_relation (word.Symbol symbol.Less) = Some NotLess
+negated_relation (word.Symbol symbol.Greater) = Some NotGreater
 negated_relation other = None
 
 -- what the first word says
@@ -50,14 +50,14 @@ unfoldable pub relation_at : Reader Relation
 relation_at words = or_else (said plain_relation words) (followed (past reserved.Not words) (λ p rest. said negated_relation rest))
 
 -- the literal that a word is
-unfoldable pub literal_of : Word → Option Literal
-literal_of (word.Integer n) = Some (WholeNumber n)
-literal_of (word.Text t) = Some (QuotedText t)
-literal_of (word.Bits len bits) = Some (BitPattern len bits)
-literal_of (word.Reserved reserved.True) = Some TrueBit
-literal_of (word.Reserved reserved.False) = Some FalseBit
-literal_of (word.Reserved reserved.On) = Some OnBit
-literal_of (word.Reserved reserved.Off) = Some OffBit
+unfoldable pub literal_of : Word → Option LiteralValue
+literal_of (word.Integer n) = Some (Integer n)
+literal_of (word.Text t) = Some (Text t)
+literal_of (word.Bits len bits) = Some (Bits len bits)
+literal_of (word.Reserved reserved.True) = Some True
+literal_of (word.Reserved reserved.False) = Some False
+literal_of (word.Reserved reserved.On) = Some On
+literal_of (word.Reserved reserved.Off) = Some Off
 literal_of other = None
 
 -- the conversion that a word begins
@@ -78,7 +78,7 @@ exponent_of primary words = followed (past_symbol symbol.Power words) (λ p afte
 -- a factor: a primary, or a primary to the power of a primary
 unfoldable pub factor_of : Reader Expression → Reader Expression
 factor_of primary words =
-    followed (primary words) (λ t rest. with_tail (λ base exponent. Powered (place_of base) base exponent) t rest (followed (past_symbol symbol.Power rest) (λ p after. primary after)))
+    followed (primary words) (λ t rest. with_tail (λ base exponent. Power (place_of base) base exponent) t rest (followed (past_symbol symbol.Power rest) (λ p after. primary after)))
 
 -- a factor behind another one
 unfoldable pub further_factor : Reader Expression → Reader Expression
@@ -96,7 +96,7 @@ row_at make first_read more_read words =
 
 -- a term: factors one after another
 unfoldable pub term_of : Reader Expression → Reader Expression
-term_of primary words = row_at Multiplied (factor_of primary) (further_factor primary) words
+term_of primary words = row_at Product (factor_of primary) (further_factor primary) words
 
 -- a sign and a term
 unfoldable pub signed_term : Reader Expression → Reader SignedTerm
@@ -105,7 +105,7 @@ signed_term primary words = followed (sign_at words) (λ s rest. made_of (λ t. 
 -- a sum without an opening sign: a term alone, or terms
 unfoldable pub sum_from : Expression → List SignedTerm → Expression
 sum_from t [] = t
-sum_from t (u ∷ us) = Summed (place_of t) None t (terms (u ∷ us))
+sum_from t (u ∷ us) = Sum (place_of t) None t (terms (u ∷ us))
 
 -- a sum: terms with a sign before each of them, but for the first one, which may have none
 unfoldable pub unsigned_sum : Reader Expression → Reader Expression
@@ -113,7 +113,7 @@ unsigned_sum primary words = followed (term_of primary words) (λ t rest. Some (
 
 unfoldable pub signed_sum : Reader Expression → Reader Expression
 signed_sum primary words =
-    followed (signed_term primary words) (λ t rest. Some (Summed t.0 (Some t.1) t.2 (terms (all (signed_term primary) rest).0), (all (signed_term primary) rest).1))
+    followed (signed_term primary words) (λ t rest. Some (Sum t.0 (Some t.1) t.2 (terms (all (signed_term primary) rest).0), (all (signed_term primary) rest).1))
 
 unfoldable pub sum_of : Reader Expression → Reader Expression
 sum_of primary words = elim (sign_at words) [ None ↦ unsigned_sum primary words | Some s ↦ signed_sum primary words ]
@@ -124,7 +124,7 @@ behind r read words = followed (past r words) (λ p rest. read rest)
 
 -- sums with CAT between them
 unfoldable pub cat_of : Reader Expression → Reader Expression
-cat_of primary words = row_at Joined (sum_of primary) (behind reserved.Cat (sum_of primary)) words
+cat_of primary words = row_at Cat (sum_of primary) (behind reserved.Cat (sum_of primary)) words
 
 -- a relation and what stands behind it
 unfoldable pub related : Reader Expression → Reader (Relation × Expression)
@@ -132,15 +132,15 @@ related primary words = followed (relation_at words) (λ r rest. made_of (λ t. 
 
 -- two chains of CAT with a relation between them, or one alone
 unfoldable pub comparison_of : Reader Expression → Reader Expression
-comparison_of primary words = followed (cat_of primary words) (λ t rest. with_tail (λ left r. Compared (place_of left) left r.0 r.1) t rest (related primary rest))
+comparison_of primary words = followed (cat_of primary words) (λ t rest. with_tail (λ left r. Compare (place_of left) left r.0 r.1) t rest (related primary rest))
 
 -- comparisons with AND between them
 unfoldable pub both_of : Reader Expression → Reader Expression
-both_of primary words = row_at Ands (comparison_of primary) (behind reserved.And (comparison_of primary)) words
+both_of primary words = row_at And (comparison_of primary) (behind reserved.And (comparison_of primary)) words
 
 -- an expression: conjunctions with OR between them
 unfoldable pub expression_of : Reader Expression → Reader Expression
-expression_of primary words = row_at Ors (both_of primary) (behind reserved.Or (both_of primary)) words
+expression_of primary words = row_at Or (both_of primary) (behind reserved.Or (both_of primary)) words
 
 -- expressions parted by commas
 unfoldable pub expressions_of : Reader Expression → Reader Expressions
@@ -164,7 +164,7 @@ at_position primary words = followed (past reserved.At words) (λ p rest. positi
 
 -- a place that stands from the end, alone or as the first of a range
 unfoldable pub range_from : Reader Expression → Position → Reader Sub
-range_from primary x rest = with_tail (λ alone last. Range x last) (OnePlace x) rest (to_position primary rest)
+range_from primary x rest = with_tail (λ alone last. Range x last) (One x) rest (to_position primary rest)
 
 -- a sum AT a place, or as `range_from`
 unfoldable pub portion_from : Reader Expression → Position → Reader Sub
@@ -173,7 +173,7 @@ portion_from primary (FromBeginning t) rest = or_else (made_of (λ x. Portion t 
 
 -- `*`
 unfoldable pub every_at : Reader Sub
-every_at words = made_of EveryPlace (past_symbol symbol.Star words)
+every_at words = made_of Every (past_symbol symbol.Star words)
 
 -- one subscript
 unfoldable pub sub_of : Reader Expression → Reader Sub
@@ -255,21 +255,21 @@ named_at deeper p n words = elim (past_symbol symbol.LeftParenthesis words) [
 -- a conversion
 unfoldable pub converted_at : Option (Reader Expression) → Place → Conversion → Reader Expression
 converted_at deeper p c words =
-    followed (past_symbol symbol.LeftParenthesis words) (λ q rest. made_of (λ t. Converted p c t) (closed expression_of deeper rest))
+    followed (past_symbol symbol.LeftParenthesis words) (λ q rest. made_of (λ t. Convert p c t) (closed expression_of deeper rest))
 
 -- NOT and a primary, where one level more is left
 unfoldable pub negated_at : Option (Reader Expression) → Place → Reader Expression
 negated_at None p words = None
-negated_at (Some primary) p words = made_of (λ t. Negated p t) (primary words)
+negated_at (Some primary) p words = made_of (λ t. Not p t) (primary words)
 
 -- what the first word of a primary begins
 unfoldable pub primary_behind : Option (Reader Expression) → Place → Word → Reader Expression
 primary_behind deeper p (word.Name n) rest = named_at deeper p n rest
-primary_behind deeper p (word.Decimal n) rest = Some (Thousandths p n, rest)
-primary_behind deeper p (word.Symbol symbol.LeftParenthesis) rest = made_of (λ t. Enclosed p t) (closed expression_of deeper rest)
+primary_behind deeper p (word.Decimal n) rest = Some (Decimal p n, rest)
+primary_behind deeper p (word.Symbol symbol.LeftParenthesis) rest = made_of (λ t. Parenthesis p t) (closed expression_of deeper rest)
 primary_behind deeper p (word.Reserved reserved.Not) rest = negated_at deeper p rest
 primary_behind deeper p other rest = elim (literal_of other) [
-  | Some l ↦ Some (Literally p l, rest)
+  | Some l ↦ Some (Literal p l, rest)
   | None ↦ elim (conversion_of other) [ None ↦ None | Some c ↦ converted_at deeper p c rest ]
 ]
 

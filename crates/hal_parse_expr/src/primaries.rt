@@ -6,7 +6,7 @@ ghost use Rattle.hal_tree.specs.SeenLeaves.{seen_conversion};
 ghost use Rattle.hal_parse_expr.specs.Openings.{opened_at};
 ghost use Rattle.hal_parse_expr.specs.Reading.{made_of};
 ghost use Rattle.hal_parse_expr.specs.ReadingExpressions.{closed, converted_at, deeper_than, expression_of, expressions, expressions_of, named_at, negated_at, primary_at};
-ghost use Rattle.hal_grammar.specs.Expressions.{Called, Enclosed};
+ghost use Rattle.hal_grammar.specs.Expressions.{Called, Parenthesis};
 ghost use Rattle.hal_parse_expr.specs.Seen.{seen_as, seen_as_list};
 
 use crate::leading::past_symbol;
@@ -69,7 +69,7 @@ fn parenthesis(
     words: &[Token],
     depth: u32,
 ) -> Result<Option<(Expr, &[Token])>, AllocError>
-    ensures { IfOk result (λ found. seen_as seen_expression found ≡ made_of (λ t. Enclosed place t) (closed expression_of (deeper_than depth) words.now)) }
+    ensures { IfOk result (λ found. seen_as seen_expression found ≡ made_of (λ t. Parenthesis place t) (closed expression_of (deeper_than depth) words.now)) }
 {
     let Some((inner, rest)) = closed_expression(alloc, words, depth)? else {
         return Ok(None);

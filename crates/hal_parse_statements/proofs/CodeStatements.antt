@@ -2,7 +2,7 @@
 use Rattle.std.proofs.Common.{◌≡◌, ◌≢◌, ℕ, zero, suc, ◌-◌, None, refl, ap, arith}
 use Rattle.hal_base.specs.declared.refusal.Place.{Place}
 use Rattle.hal_words.specs.declared.reserved.Reserved.TheVariants as reserved
-use Rattle.hal_grammar.specs.Statements.{Updates}
+use Rattle.hal_grammar.specs.Statements.{Update}
 use Rattle.hal_grammar.specs.Words.{Words}
 use Rattle.hal_parse_expr.specs.Reading.{followed, made_of, past}
 use Rattle.hal_parse_declarations.specs.ReadingDeclarations.{name_end_at, where_left}
@@ -26,7 +26,7 @@ updates_none (suc n) p words e = absurd (omega (arith, e))
 -- the statements of an update block are those inside it
 pub updates_some : (n : ℕ) (p : Place) (words : Words) → n ≢ 0 →
     updates_of (statement_below n) p words
-    ≡ followed (past reserved.Close (statements_of (statement_below n) words).1) (λ q rest. made_of (λ x. Updates p (statements (statements_of (statement_below n) words).0) x) (name_end_at rest))
+    ≡ followed (past reserved.Close (statements_of (statement_below n) words).1) (λ q rest. made_of (λ x. Update p (statements (statements_of (statement_below n) words).0) x) (name_end_at rest))
 unfolding updates_of statement_below body_of statements_of where_left
 updates_some zero p words h = absurd (h refl)
 updates_some (suc n) p words h = refl

@@ -8,7 +8,7 @@ use Rattle.hal_words.specs.declared.word.Word.{Word}
 use Rattle.hal_words.specs.declared.word.Word.TheVariants as word
 use Rattle.hal_grammar.specs.Leaves.{Naming, if_any}
 use Rattle.hal_grammar.specs.Expressions.{Expression, nesting}
-use Rattle.hal_grammar.specs.Statements.{Guard, AsLong, Unless, Span, Selector, Response, Eventful, Statement, Chosen, Grouped, Selected, Looped, Ranged, Updates, Handles, Answers, Alternative, Group, Groups, Statements, NoStatements, MoreStatements, nesting_of_guard, nesting_of_span, nesting_of_statement, nesting_of_basic, nesting_of_alternative, nesting_of_group, nesting_of_statements}
+use Rattle.hal_grammar.specs.Statements.{Guard, While, Until, Span, Selector, Response, Eventful, Statement, If, Do, DoCase, DoLoop, DoFor, Update, OnErrorStatement, OnErrorResponse, Alternative, Group, Groups, Statements, NoStatements, MoreStatements, nesting_of_guard, nesting_of_span, nesting_of_statement, nesting_of_basic, nesting_of_alternative, nesting_of_group, nesting_of_statements}
 use Rattle.hal_grammar.specs.Words.{Words, token, reserved_then, symbol_then, name_then}
 use Rattle.hal_grammar.specs.SpellsExpressions.{SpellsExpression}
 use Rattle.hal_grammar.specs.SpellsDeclarations.{SpellsNameEnd}
@@ -158,7 +158,7 @@ then_gives : (n : ℕ) (words : Words) → Holds (λ t rest. BeforeThen n t word
 then_gives n words = gives_before reserved.Then (expression_gives n words) (λ t q rest d. before_then d.0 d.1)
 
 if_spelled : {n : ℕ} {t : Expression} {s : Statement} {x : Alternative} {p : Place} {b m c a : Words} → BeforeThen n t b m → StatementIn n s m c → AlternativeOf n x c a →
-    BasicOf n (Chosen p t s x) (reserved_then reserved.If p b) a
+    BasicOf n (If p t s x) (reserved_then reserved.If p b) a
 if_spelled (before_then d l) e f = (chosen d e.0 f.0, omega (arith, l, e.1, f.1))
 
 pub if_gives : {n : ℕ} {inner : Option (Reader Statement)} → Inside n inner → (p : Place) (words : Words) → Holds (λ x rest. BasicOf n x (reserved_then reserved.If p words) rest) (if_of n inner p words)
@@ -167,13 +167,13 @@ if_gives {n = n} ins p words =
     followed_holds (then_gives n words) (λ t r1 d. followed_holds (ins.sound r1) (λ s r2 e. made_holds _ (alternative_gives ins r2) (λ x rest f. if_spelled d e f)))
 
 pub if_is : {n : ℕ} {inner : Option (Reader Statement)} → Inside n inner → (p : Place) {t : Expression} {s : Statement} {x : Alternative} {b : Words} {q : Place} {m c a : Words} →
-    SpellsExpression t b (reserved_then reserved.Then q m) → SpellsStatement s m c → SpellsAlternative x c a → nesting_of_basic (Chosen p t s x) ≤ n → if_of n inner p b ≡ Some (Chosen p t s x, a)
+    SpellsExpression t b (reserved_then reserved.Then q m) → SpellsStatement s m c → SpellsAlternative x c a → nesting_of_basic (If p t s x) ≤ n → if_of n inner p b ≡ Some (If p t s x, a)
 unfolding if_of chosen_of
 if_is {n = n} ins p {s = s} {m = m} {c = c} d e f h =
     followed_is _ (before_is (expression_is n d (omega arith) (omega arith))) ∙ followed_is _ (ins.full s m c (e, omega arith)) ∙ made_equals _ (alternative_is ins f (omega arith))
 
 case_spelled : {n : ℕ} {t : Expression} {x : Alternative} {g : Group} {p q : Place} {b m c a : Words} → Ended symbol.Semicolon (ExpressionOf n) t b m → AlternativeOf n x m c → GroupOf n g c a →
-    BasicOf n (Selected p t x g) (reserved_then reserved.Do p (reserved_then reserved.Case q b)) a
+    BasicOf n (DoCase p t x g) (reserved_then reserved.Do p (reserved_then reserved.Case q b)) a
 case_spelled (ended d) e f = (selected d.0 e.0 f.0, omega (arith, d.1, e.1, f.1))
 
 case_gives : {n : ℕ} {inner : Option (Reader Statement)} → Inside n inner → (p q : Place) (words : Words) →
@@ -183,30 +183,30 @@ case_gives {n = n} ins p q words =
     followed_holds (expression_end_gives n words) (λ t r1 d. followed_holds (alternative_gives ins r1) (λ x r2 e. made_holds _ (group_gives ins r2) (λ g rest f. case_spelled d e f)))
 
 case_is : {n : ℕ} {inner : Option (Reader Statement)} → Inside n inner → (p : Place) {t : Expression} {x : Alternative} {g : Group} {b : Words} {q : Place} {m c a : Words} →
-    SpellsExpression t b (symbol_then symbol.Semicolon q m) → SpellsAlternative x m c → SpellsGroup g c a → nesting_of_basic (Selected p t x g) ≤ n → case_of n inner p b ≡ Some (Selected p t x g, a)
+    SpellsExpression t b (symbol_then symbol.Semicolon q m) → SpellsAlternative x m c → SpellsGroup g c a → nesting_of_basic (DoCase p t x g) ≤ n → case_of n inner p b ≡ Some (DoCase p t x g, a)
 unfolding case_of
 case_is {n = n} ins p d e f h = followed_is _ (expression_end_is n d (omega arith)) ∙ followed_is _ (alternative_is ins e (omega arith)) ∙ made_equals _ (group_is ins f (omega arith))
 
 while_spelled : {n : ℕ} {t : Expression} {g : Group} {p q : Place} {b m a : Words} → Ended symbol.Semicolon (ExpressionOf n) t b m → GroupOf n g m a →
-    BasicOf n (Looped p (AsLong q t) g) (reserved_then reserved.Do p (reserved_then reserved.While q b)) a
+    BasicOf n (DoLoop p (While q t) g) (reserved_then reserved.Do p (reserved_then reserved.While q b)) a
 while_spelled (ended d) e = (looped_while d.0 e.0, omega (arith, d.1, e.1))
 
 while_gives : {n : ℕ} {inner : Option (Reader Statement)} → Inside n inner → (p q : Place) (words : Words) →
-    Holds (λ x rest. BasicOf n x (reserved_then reserved.Do p (reserved_then reserved.While q words)) rest) (loop_of n inner p (λ t. AsLong q t) words)
+    Holds (λ x rest. BasicOf n x (reserved_then reserved.Do p (reserved_then reserved.While q words)) rest) (loop_of n inner p (λ t. While q t) words)
 unfolding loop_of
 while_gives {n = n} ins p q words = followed_holds (expression_end_gives n words) (λ t rest d. made_holds _ (group_gives ins rest) (λ g after e. while_spelled d e))
 
 until_spelled : {n : ℕ} {t : Expression} {g : Group} {p q : Place} {b m a : Words} → Ended symbol.Semicolon (ExpressionOf n) t b m → GroupOf n g m a →
-    BasicOf n (Looped p (Unless q t) g) (reserved_then reserved.Do p (reserved_then reserved.Until q b)) a
+    BasicOf n (DoLoop p (Until q t) g) (reserved_then reserved.Do p (reserved_then reserved.Until q b)) a
 until_spelled (ended d) e = (looped_until d.0 e.0, omega (arith, d.1, e.1))
 
 until_gives : {n : ℕ} {inner : Option (Reader Statement)} → Inside n inner → (p q : Place) (words : Words) →
-    Holds (λ x rest. BasicOf n x (reserved_then reserved.Do p (reserved_then reserved.Until q words)) rest) (loop_of n inner p (λ t. Unless q t) words)
+    Holds (λ x rest. BasicOf n x (reserved_then reserved.Do p (reserved_then reserved.Until q words)) rest) (loop_of n inner p (λ t. Until q t) words)
 unfolding loop_of
 until_gives {n = n} ins p q words = followed_holds (expression_end_gives n words) (λ t rest d. made_holds _ (group_gives ins rest) (λ g after e. until_spelled d e))
 
 loop_is : {n : ℕ} {inner : Option (Reader Statement)} → Inside n inner → (p : Place) (make : Expression → Guard) {t : Expression} {g : Group} {b : Words} {q : Place} {m a : Words} →
-    SpellsExpression t b (symbol_then symbol.Semicolon q m) → SpellsGroup g m a → nesting t ≤ n → nesting_of_group g ≤ n → loop_of n inner p make b ≡ Some (Looped p (make t) g, a)
+    SpellsExpression t b (symbol_then symbol.Semicolon q m) → SpellsGroup g m a → nesting t ≤ n → nesting_of_group g ≤ n → loop_of n inner p make b ≡ Some (DoLoop p (make t) g, a)
 unfolding loop_of
 loop_is {n = n} ins p make d e h l = followed_is _ (expression_end_is n d h) ∙ made_equals _ (group_is ins e l)
 
@@ -226,7 +226,7 @@ variable_gives words = weaker_holds (gives_ended symbol.Equals words (name_spell
 
 range_spelled : {n : ℕ} {d : Bool} {x : Naming} {s : Span} {c : Option Guard} {g : Group} {p q : Place} {b m span guard body a : Words} → SpellsTemporary d b m → Variable x m span →
     SpellsSpan s span guard → nesting_of_span s ≤ n → Ended symbol.Semicolon (GuardOf n) c guard body → GroupOf n g body a →
-    BasicOf n (Ranged p d x s c g) (reserved_then reserved.Do p (reserved_then reserved.For q b)) a
+    BasicOf n (DoFor p d x s c g) (reserved_then reserved.Do p (reserved_then reserved.For q b)) a
 range_spelled t variable s l (ended c) g = (ranged t s c.0 g.0, omega (arith, l, c.1, g.1))
 
 for_gives : {n : ℕ} {inner : Option (Reader Statement)} → Inside n inner → (p q : Place) (words : Words) →
@@ -238,14 +238,14 @@ for_gives {n = n} ins p q words =
 
 for_is : {n : ℕ} {inner : Option (Reader Statement)} → Inside n inner → (p : Place) {d : Bool} (x : Naming) {s : Span} {c : Option Guard} {g : Group} {b : Words} {e : Place} {span guard : Words} {q : Place} {body a : Words} →
     SpellsTemporary d b (name_then x.name x.place (symbol_then symbol.Equals e span)) → SpellsSpan s span guard → SpellsGuard c guard (symbol_then symbol.Semicolon q body) → SpellsGroup g body a →
-    nesting_of_basic (Ranged p d x s c g) ≤ n → for_of n inner p b ≡ Some (Ranged p d x s c g, a)
+    nesting_of_basic (DoFor p d x s c g) ≤ n → for_of n inner p b ≡ Some (DoFor p d x s c g, a)
 unfolding for_of range_of name_at
 for_is {n = n} ins p x t s c g h =
     followed_is _ (temporary_is t) ∙ followed_is _ (before_symbol_is refl) ∙ followed_is _ (span_is n s (omega arith) (guard_weak c (omega arith)))
     ∙ followed_is _ (before_symbol_is (guard_is n c (omega arith) (omega arith))) ∙ made_equals _ (group_is ins g (omega arith))
 
 -- a group is as deep as its statement
-grouped_spelled : {n : ℕ} {g : Group} {p q : Place} {b a : Words} → GroupOf n g b a → BasicOf n (Grouped p g) (reserved_then reserved.Do p (symbol_then symbol.Semicolon q b)) a
+grouped_spelled : {n : ℕ} {g : Group} {p q : Place} {b a : Words} → GroupOf n g b a → BasicOf n (Do p g) (reserved_then reserved.Do p (symbol_then symbol.Semicolon q b)) a
 grouped_spelled d = (grouped d.0, d.1)
 
 do_behind_gives : {n : ℕ} {inner : Option (Reader Statement)} → Inside n inner → (p q : Place) (w : Word) (words : Words) →
@@ -264,36 +264,36 @@ do_gives ins p [] = holds_none
 do_gives ins p (first ∷ rest) = do_behind_gives ins p first.place first.word rest
 
 pub group_done : {n : ℕ} {inner : Option (Reader Statement)} → Inside n inner → (p q : Place) {g : Group} {b a : Words} → SpellsGroup g b a → nesting_of_group g ≤ n →
-    do_of n inner p (symbol_then symbol.Semicolon q b) ≡ Some (Grouped p g, a)
+    do_of n inner p (symbol_then symbol.Semicolon q b) ≡ Some (Do p g, a)
 unfolding do_of do_behind
 group_done ins p q d h = made_equals _ (group_is ins d h)
 
 pub case_done : {n : ℕ} {inner : Option (Reader Statement)} → Inside n inner → (p q : Place) {t : Expression} {x : Alternative} {g : Group} {b : Words} {r : Place} {m c a : Words} →
-    SpellsExpression t b (symbol_then symbol.Semicolon r m) → SpellsAlternative x m c → SpellsGroup g c a → nesting_of_basic (Selected p t x g) ≤ n →
-    do_of n inner p (reserved_then reserved.Case q b) ≡ Some (Selected p t x g, a)
+    SpellsExpression t b (symbol_then symbol.Semicolon r m) → SpellsAlternative x m c → SpellsGroup g c a → nesting_of_basic (DoCase p t x g) ≤ n →
+    do_of n inner p (reserved_then reserved.Case q b) ≡ Some (DoCase p t x g, a)
 unfolding do_of do_behind
 case_done ins p q d e f h = case_is ins p d e f h
 
 pub while_done : {n : ℕ} {inner : Option (Reader Statement)} → Inside n inner → (p q : Place) {t : Expression} {g : Group} {b : Words} {r : Place} {m a : Words} →
     SpellsExpression t b (symbol_then symbol.Semicolon r m) → SpellsGroup g m a → nesting t ≤ n → nesting_of_group g ≤ n →
-    do_of n inner p (reserved_then reserved.While q b) ≡ Some (Looped p (AsLong q t) g, a)
+    do_of n inner p (reserved_then reserved.While q b) ≡ Some (DoLoop p (While q t) g, a)
 unfolding do_of do_behind
-while_done ins p q d e h l = loop_is ins p (λ t. AsLong q t) d e h l
+while_done ins p q d e h l = loop_is ins p (λ t. While q t) d e h l
 
 pub until_done : {n : ℕ} {inner : Option (Reader Statement)} → Inside n inner → (p q : Place) {t : Expression} {g : Group} {b : Words} {r : Place} {m a : Words} →
     SpellsExpression t b (symbol_then symbol.Semicolon r m) → SpellsGroup g m a → nesting t ≤ n → nesting_of_group g ≤ n →
-    do_of n inner p (reserved_then reserved.Until q b) ≡ Some (Looped p (Unless q t) g, a)
+    do_of n inner p (reserved_then reserved.Until q b) ≡ Some (DoLoop p (Until q t) g, a)
 unfolding do_of do_behind
-until_done ins p q d e h l = loop_is ins p (λ t. Unless q t) d e h l
+until_done ins p q d e h l = loop_is ins p (λ t. Until q t) d e h l
 
 pub for_done : {n : ℕ} {inner : Option (Reader Statement)} → Inside n inner → (p q : Place) {d : Bool} (x : Naming) {s : Span} {c : Option Guard} {g : Group} {b : Words} {e : Place} {span guard : Words} {r : Place} {body a : Words} →
     SpellsTemporary d b (name_then x.name x.place (symbol_then symbol.Equals e span)) → SpellsSpan s span guard → SpellsGuard c guard (symbol_then symbol.Semicolon r body) → SpellsGroup g body a →
-    nesting_of_basic (Ranged p d x s c g) ≤ n → do_of n inner p (reserved_then reserved.For q b) ≡ Some (Ranged p d x s c g, a)
+    nesting_of_basic (DoFor p d x s c g) ≤ n → do_of n inner p (reserved_then reserved.For q b) ≡ Some (DoFor p d x s c g, a)
 unfolding do_of do_behind
 for_done ins p q x t s c g h = for_is ins p x t s c g h
 
 updates_spelled : {n : ℕ} {ss : List Statement} {x : Option Naming} {p q r : Place} {b m a : Words} → Chain (StatementIn n) ss b (reserved_then reserved.Close r m) → SpellsNameEnd x m a → 1 ≤ n →
-    BasicOf n (Updates p (statements ss) x) (reserved_then reserved.Update p (symbol_then symbol.Semicolon q b)) a
+    BasicOf n (Update p (statements ss) x) (reserved_then reserved.Update p (symbol_then symbol.Semicolon q b)) a
 updates_spelled c d l = (updates (statements_spelled c ends_close) d, statements_depth c l)
 
 body_gives : {n : ℕ} (read : Reader Statement) → 1 ≤ n → ((words : Words) → Holds (λ s rest. StatementIn n s words rest) (read words)) → (p q : Place) (words : Words) →
@@ -316,20 +316,20 @@ update_gives {n = n} {inner = inner} ins p words =
     (λ e. followed_holds (past_gives reserved.Priority words) (λ q rest f. weaker_holds (prioritizes_gives n p q rest) (λ x after d. rw f d)))
 
 row_body : {read : Reader Statement} {ss : Statements} {x : Option Naming} (p : Place) {r : Place} {b m a : Words} → ReadsRow read ss b (reserved_then reserved.Close r m) → SpellsNameEnd x m a →
-    body_of read p b ≡ Some (Updates p ss x, a)
+    body_of read p b ≡ Some (Update p ss x, a)
 unfolding body_of
 row_body p {r = r} {m = m} (reads_row e) d =
-    ap (λ l. followed (past reserved.Close l.1) (λ q rest. made_of (λ x. Updates p (statements l.0) x) (name_end_at rest))) e ∙ past_is reserved.Close r m _ ∙ made_equals _ (name_end_is d)
+    ap (λ l. followed (past reserved.Close l.1) (λ q rest. made_of (λ x. Update p (statements l.0) x) (name_end_at rest))) e ∙ past_is reserved.Close r m _ ∙ made_equals _ (name_end_is d)
 
 updates_are : {n : ℕ} (inner : Option (Reader Statement)) → Inside n inner → (p : Place) {ss : Statements} {x : Option Naming} {r : Place} {b m a : Words} →
-    SpellsStatements ss b (reserved_then reserved.Close r m) → SpellsNameEnd x m a → nesting_of_statements ss + 1 ≤ n → updates_of inner p b ≡ Some (Updates p ss x, a)
+    SpellsStatements ss b (reserved_then reserved.Close r m) → SpellsNameEnd x m a → nesting_of_statements ss + 1 ≤ n → updates_of inner p b ≡ Some (Update p ss x, a)
 unfolding updates_of where_left
 updates_are None ins p d e h = absurd (omega (arith, h, ins.level))
 updates_are (Some read) ins p {ss = ss} d e h = row_body p (row_read ins d (all_in ss h)) e
 
 pub update_is : {n : ℕ} {inner : Option (Reader Statement)} → Inside n inner → (p q : Place) {ss : Statements} {x : Option Naming} {r : Place} {b m a : Words} →
     SpellsStatements ss b (reserved_then reserved.Close r m) → SpellsNameEnd x m a → nesting_of_statements ss + 1 ≤ n →
-    update_of n inner p (symbol_then symbol.Semicolon q b) ≡ Some (Updates p ss x, a)
+    update_of n inner p (symbol_then symbol.Semicolon q b) ≡ Some (Update p ss x, a)
 unfolding update_of
 update_is {inner = inner} ins p q {b = b} d e h = decided_is _ _ (past_symbol_here symbol.Semicolon q b) ∙ updates_are inner ins p d e h
 
@@ -349,12 +349,12 @@ no_response : {s : Statement} {b a : Words} → SpellsStatement s b a → {r : R
 no_response d e = (statement_starts d).0 (response_starts e)
 
 pub statement_handled : {n : ℕ} {inner : Option (Reader Statement)} → Inside n inner → (p q : Place) {x : Selector} {s : Statement} {b m a : Words} → SpellsSelector x b m → SpellsStatement s m a →
-    nesting_of_statement s + 1 ≤ n → on_of inner p (reserved_then reserved.Error q b) ≡ Some (Handles p x s, a)
+    nesting_of_statement s + 1 ≤ n → on_of inner p (reserved_then reserved.Error q b) ≡ Some (OnErrorStatement p x s, a)
 unfolding on_of handled_of
 statement_handled ins p q {s = s} {b = b} {m = m} {a = a} d e h =
     past_is reserved.Error q b _ ∙ followed_is _ (selector_is d) ∙ decided_not _ _ (nothing_read (response_gives m) (λ r rest f. no_response e f)) ∙ made_equals _ (ins.full s m a (e, h))
 
 pub response_handled : (inner : Option (Reader Statement)) (p q : Place) {x : Selector} {r : Response} {e : Option Eventful} {b m c a : Words} → SpellsSelector x b m → SpellsResponse r m c → SpellsEventEnd e c a →
-    on_of inner p (reserved_then reserved.Error q b) ≡ Some (Answers p x r e, a)
+    on_of inner p (reserved_then reserved.Error q b) ≡ Some (OnErrorResponse p x r e, a)
 unfolding on_of handled_of
 response_handled inner p q {b = b} d e f = past_is reserved.Error q b _ ∙ followed_is _ (selector_is d) ∙ decided_is _ _ (response_is e) ∙ made_equals _ (event_end_is f)

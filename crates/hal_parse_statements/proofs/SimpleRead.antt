@@ -5,7 +5,7 @@ use Rattle.hal_words.specs.declared.reserved.Reserved.TheVariants as reserved
 use Rattle.hal_words.specs.declared.word.Symbol.TheVariants as symbol
 use Rattle.hal_grammar.specs.Leaves.{Naming, naming}
 use Rattle.hal_grammar.specs.Expressions.{Expression, Expressions, NoExpressions, Reference, nesting, nesting_of_all}
-use Rattle.hal_grammar.specs.Statements.{Selector, EventAction, eventful, Basic, Assigned, Returned, CallsBlock, Inputs, Outputs, Waits, WaitsUntil, WaitsForDependents, WaitsFor, Acts, Prioritizes, Forgets, Sends, nesting_of_arguments, nesting_of_receivers, nesting_of_basic}
+use Rattle.hal_grammar.specs.Statements.{Selector, EventAction, eventful, Basic, Assignment, Return, Call, Read, Write, Wait, WaitUntil, WaitForDependent, WaitFor, Event, UpdatePriority, OffError, SendError, nesting_of_arguments, nesting_of_receivers, nesting_of_basic}
 use Rattle.hal_grammar.specs.Words.{Words, reserved_then, symbol_then, name_then, integer_then}
 use Rattle.hal_grammar.specs.SpellsExpressions.{SpellsExpression, SpellsExpressions}
 use Rattle.hal_grammar.specs.SpellsDeclarations.{SpellsNames, last_name, more_names}
@@ -77,7 +77,7 @@ names_end_is (no_names {q = q} {a = a}) = decided_is _ _ (past_symbol_here symbo
 names_end_is (some_names d) = decided_not _ _ (names_not_ended d) ∙ before_symbol_is (names_are d (λ e. elim e [ ]))
 
 assigned_spelled : {n : ℕ} {m : List ℕ} {xs : List Reference} {t : Expression} {p : Place} {b c a : Words} → Ended symbol.Equals (ReferencesOf n) xs (name_then m p b) c →
-    Ended symbol.Semicolon (ExpressionOf n) t c a → BasicOf n (Assigned p xs t) (name_then m p b) a
+    Ended symbol.Semicolon (ExpressionOf n) t c a → BasicOf n (Assignment p xs t) (name_then m p b) a
 assigned_spelled (ended d) (ended e) = (assigned d.0 e.0, omega (arith, d.1, e.1))
 
 pub assigned_gives : (n : ℕ) (m : List ℕ) (p : Place) (words : Words) → Holds (λ x rest. BasicOf n x (name_then m p words) rest) (assigned_at n p (name_then m p words))
@@ -87,11 +87,11 @@ assigned_gives n m p words =
     (λ xs rest d. made_holds _ (expression_end_gives n rest) (λ t after e. assigned_spelled d e))
 
 pub assigned_is : (n : ℕ) (p : Place) {xs : List Reference} {t : Expression} {b : Words} {q : Place} {m : Words} {r : Place} {a : Words} →
-    ReferencesOf n xs b (symbol_then symbol.Equals q m) → SpellsExpression t m (symbol_then symbol.Semicolon r a) → nesting t ≤ n → assigned_at n p b ≡ Some (Assigned p xs t, a)
+    ReferencesOf n xs b (symbol_then symbol.Equals q m) → SpellsExpression t m (symbol_then symbol.Semicolon r a) → nesting t ≤ n → assigned_at n p b ≡ Some (Assignment p xs t, a)
 unfolding assigned_at
 assigned_is n p d e l = followed_is _ (before_symbol_is (references_are n d.0 d.1 (omega arith) (λ e. elim e [ ]))) ∙ made_equals _ (expression_end_is n e l)
 
-returned_spelled : {n : ℕ} {t : Expression} {p : Place} {b a : Words} → Ended symbol.Semicolon (ExpressionOf n) t b a → BasicOf n (Returned p (Some t)) (reserved_then reserved.Return p b) a
+returned_spelled : {n : ℕ} {t : Expression} {p : Place} {b a : Words} → Ended symbol.Semicolon (ExpressionOf n) t b a → BasicOf n (Return p (Some t)) (reserved_then reserved.Return p b) a
 returned_spelled (ended d) = (returned_value d.0, d.1)
 
 pub returned_gives : (n : ℕ) (p : Place) (words : Words) → Holds (λ x rest. BasicOf n x (reserved_then reserved.Return p words) rest) (returned_at n p words)
@@ -99,12 +99,12 @@ unfolding returned_at
 returned_gives n p words =
     decided_holds (symbol_gives symbol.Semicolon words) (λ q rest e. holds (rw e returned, omega arith)) (λ e. made_holds _ (expression_end_gives n words) (λ t rest d. returned_spelled d))
 
-pub nothing_returned : (n : ℕ) (p q : Place) (words : Words) → returned_at n p (symbol_then symbol.Semicolon q words) ≡ Some (Returned p None, words)
+pub nothing_returned : (n : ℕ) (p q : Place) (words : Words) → returned_at n p (symbol_then symbol.Semicolon q words) ≡ Some (Return p None, words)
 unfolding returned_at
 nothing_returned n p q words = decided_is _ _ (past_symbol_here symbol.Semicolon q words)
 
 pub value_returned : (n : ℕ) (p : Place) {t : Expression} {b : Words} {q : Place} {a : Words} → SpellsExpression t b (symbol_then symbol.Semicolon q a) → nesting t ≤ n →
-    returned_at n p b ≡ Some (Returned p (Some t), a)
+    returned_at n p b ≡ Some (Return p (Some t), a)
 unfolding returned_at
 value_returned n p {b = b} d l = decided_not _ _ (no_weak_symbol symbol.Semicolon b (omega arith) (expression_strong d)) ∙ made_equals _ (expression_end_is n d l)
 
@@ -113,7 +113,7 @@ abbrev ReceiversOf : ℕ → List Reference → Words → Words → Type 0
 ReceiversOf n xs b a = SpellsReceivers xs b a × (nesting_of_receivers xs ≤ n)
 
 call_spelled : {n : ℕ} {x : Naming} {ts : Expressions} {xs : List Reference} {p : Place} {b m a : Words} → SpellsArguments ts b m → nesting_of_arguments ts ≤ n →
-    Ended symbol.Semicolon (ReceiversOf n) xs m a → BasicOf n (CallsBlock p x ts xs) (reserved_then reserved.Call p (name_then x.name x.place b)) a
+    Ended symbol.Semicolon (ReceiversOf n) xs m a → BasicOf n (Call p x ts xs) (reserved_then reserved.Call p (name_then x.name x.place b)) a
 call_spelled d l (ended e) = (calls d e.0, omega (arith, l, e.1))
 
 call_behind_gives : (n : ℕ) (p : Place) (x : Naming) (words : Words) →
@@ -127,12 +127,12 @@ unfolding call_at
 call_gives n p words = followed_holds (name_gives words) (λ x rest e. weaker_holds (call_behind_gives n p x rest) (λ y after d. rw e d))
 
 pub call_is : (n : ℕ) (p q : Place) (m : List ℕ) {ts : Expressions} {xs : List Reference} {b c : Words} {r : Place} {a : Words} → SpellsArguments ts b c →
-    SpellsReceivers xs c (symbol_then symbol.Semicolon r a) → nesting_of_arguments ts ≤ n → nesting_of_receivers xs ≤ n → call_at n p (name_then m q b) ≡ Some (CallsBlock p (naming q m) ts xs, a)
+    SpellsReceivers xs c (symbol_then symbol.Semicolon r a) → nesting_of_arguments ts ≤ n → nesting_of_receivers xs ≤ n → call_at n p (name_then m q b) ≡ Some (Call p (naming q m) ts xs, a)
 unfolding call_at call_behind name_at
 call_is n p q m d e l k = followed_is _ refl ∙ followed_is _ (arguments_are n d l) ∙ made_equals _ (before_symbol_is (receivers_are n e k))
 
 read_spelled : {n : ℕ} {t : Expression} {xs : List Reference} {p : Place} {b m a : Words} → Enclosed (ExpressionOf n) t b m → Ended symbol.Semicolon (ReferencesOf n) xs m a →
-    BasicOf n (Inputs p t xs) (reserved_then reserved.Read p b) a
+    BasicOf n (Read p t xs) (reserved_then reserved.Read p b) a
 read_spelled (enclosed_so d) (ended e) = (inputs d.0 e.0, omega (arith, d.1, e.1))
 
 pub read_gives : (n : ℕ) (p : Place) (words : Words) → Holds (λ x rest. BasicOf n x (reserved_then reserved.Read p words) rest) (read_at n p words)
@@ -143,7 +143,7 @@ read_gives n p words =
 
 pub read_is : (n : ℕ) (p q : Place) {t : Expression} {xs : List Reference} {b : Words} {r : Place} {m : Words} {s : Place} {a : Words} →
     SpellsExpression t b (symbol_then symbol.RightParenthesis r m) → nesting t ≤ n → ReferencesOf n xs m (symbol_then symbol.Semicolon s a) →
-    read_at n p (symbol_then symbol.LeftParenthesis q b) ≡ Some (Inputs p t xs, a)
+    read_at n p (symbol_then symbol.LeftParenthesis q b) ≡ Some (Read p t xs, a)
 unfolding read_at
 read_is n p q {b = b} d l e = followed_is _ (enclosed_is (expression_at n) q b (expression_is n d l (omega arith))) ∙ made_equals _ (references_end_is n e)
 
@@ -161,7 +161,7 @@ items_end_gives n words =
     decided_holds (symbol_gives symbol.Semicolon words) (λ p rest e. holds (rw e no_items))
     (λ e. weaker_holds (gives_ended symbol.Semicolon words (expressions_gives n words)) (λ ts rest d. items_ended d))
 
-write_spelled : {n : ℕ} {t : Expression} {ts : Expressions} {p : Place} {b m a : Words} → Enclosed (ExpressionOf n) t b m → ItemsEnd n ts m a → BasicOf n (Outputs p t ts) (reserved_then reserved.Write p b) a
+write_spelled : {n : ℕ} {t : Expression} {ts : Expressions} {p : Place} {b m a : Words} → Enclosed (ExpressionOf n) t b m → ItemsEnd n ts m a → BasicOf n (Write p t ts) (reserved_then reserved.Write p b) a
 write_spelled (enclosed_so d) no_items = (outputs_nothing d.0, omega (arith, d.1))
 write_spelled (enclosed_so d) (some_items e l) = (outputs d.0 e, omega (arith, d.1, l))
 
@@ -180,25 +180,25 @@ some_items_are n {b = b} d l = decided_not _ _ (no_weak_symbol symbol.Semicolon 
 
 pub nothing_written : (n : ℕ) (p q : Place) {t : Expression} {b : Words} {r s : Place} {a : Words} →
     SpellsExpression t b (symbol_then symbol.RightParenthesis r (symbol_then symbol.Semicolon s a)) → nesting t ≤ n →
-    write_at n p (symbol_then symbol.LeftParenthesis q b) ≡ Some (Outputs p t NoExpressions, a)
+    write_at n p (symbol_then symbol.LeftParenthesis q b) ≡ Some (Write p t NoExpressions, a)
 unfolding write_at
 nothing_written n p q {b = b} {s = s} {a = a} d l = followed_is _ (enclosed_is (expression_at n) q b (expression_is n d l (omega arith))) ∙ made_equals _ (no_items_are n s a)
 
 pub items_written : (n : ℕ) (p q : Place) {t : Expression} {ts : Expressions} {b : Words} {r : Place} {m : Words} {s : Place} {a : Words} →
     SpellsExpression t b (symbol_then symbol.RightParenthesis r m) → nesting t ≤ n → SpellsExpressions ts m (symbol_then symbol.Semicolon s a) → nesting_of_all ts ≤ n →
-    write_at n p (symbol_then symbol.LeftParenthesis q b) ≡ Some (Outputs p t ts, a)
+    write_at n p (symbol_then symbol.LeftParenthesis q b) ≡ Some (Write p t ts, a)
 unfolding write_at
 items_written n p q {b = b} d l e k = followed_is _ (enclosed_is (expression_at n) q b (expression_is n d l (omega arith))) ∙ made_equals _ (some_items_are n e k)
 
-waits_spelled : {n : ℕ} {t : Expression} {p : Place} {b a : Words} → Ended symbol.Semicolon (ExpressionOf n) t b a → BasicOf n (Waits p t) (reserved_then reserved.Wait p b) a
+waits_spelled : {n : ℕ} {t : Expression} {p : Place} {b a : Words} → Ended symbol.Semicolon (ExpressionOf n) t b a → BasicOf n (Wait p t) (reserved_then reserved.Wait p b) a
 waits_spelled (ended d) = (waits d.0, d.1)
 
 until_spelled : {n : ℕ} {t : Expression} {p q : Place} {b a : Words} → Ended symbol.Semicolon (ExpressionOf n) t b a →
-    BasicOf n (WaitsUntil p t) (reserved_then reserved.Wait p (reserved_then reserved.Until q b)) a
+    BasicOf n (WaitUntil p t) (reserved_then reserved.Wait p (reserved_then reserved.Until q b)) a
 until_spelled (ended d) = (waits_until d.0, d.1)
 
 for_spelled : {n : ℕ} {t : Expression} {p q : Place} {b a : Words} → Ended symbol.Semicolon (ExpressionOf n) t b a →
-    BasicOf n (WaitsFor p t) (reserved_then reserved.Wait p (reserved_then reserved.For q b)) a
+    BasicOf n (WaitFor p t) (reserved_then reserved.Wait p (reserved_then reserved.For q b)) a
 for_spelled (ended d) = (waits_for d.0, d.1)
 
 wait_for_gives : (n : ℕ) (p q : Place) (words : Words) → Holds (λ x rest. BasicOf n x (reserved_then reserved.Wait p (reserved_then reserved.For q words)) rest) (wait_for_at n p words)
@@ -214,33 +214,33 @@ wait_gives n p words =
     (λ e. decided_holds (past_gives reserved.For words) (λ q rest f. weaker_holds (wait_for_gives n p q rest) (λ x after d. rw f d))
     (λ f. made_holds _ (expression_end_gives n words) (λ t rest d. waits_spelled d)))
 
-pub time_waited : (n : ℕ) (p : Place) {t : Expression} {b : Words} {q : Place} {a : Words} → SpellsExpression t b (symbol_then symbol.Semicolon q a) → nesting t ≤ n → wait_at n p b ≡ Some (Waits p t, a)
+pub time_waited : (n : ℕ) (p : Place) {t : Expression} {b : Words} {q : Place} {a : Words} → SpellsExpression t b (symbol_then symbol.Semicolon q a) → nesting t ≤ n → wait_at n p b ≡ Some (Wait p t, a)
 unfolding wait_at
 time_waited n p {b = b} d l =
     decided_not _ _ (no_weak_reserved reserved.Until b (omega arith) (expression_strong d)) ∙ decided_not _ _ (no_weak_reserved reserved.For b (omega arith) (expression_strong d))
     ∙ made_equals _ (expression_end_is n d l)
 
 pub waited_until : (n : ℕ) (p q : Place) {t : Expression} {b : Words} {r : Place} {a : Words} → SpellsExpression t b (symbol_then symbol.Semicolon r a) → nesting t ≤ n →
-    wait_at n p (reserved_then reserved.Until q b) ≡ Some (WaitsUntil p t, a)
+    wait_at n p (reserved_then reserved.Until q b) ≡ Some (WaitUntil p t, a)
 unfolding wait_at past is_reserved where_true
 waited_until n p q d l = decided_is _ _ refl ∙ made_equals _ (expression_end_is n d l)
 
 pub dependents_waited : (n : ℕ) (p q r s : Place) (words : Words) →
-    wait_at n p (reserved_then reserved.For q (reserved_then reserved.Dependent r (symbol_then symbol.Semicolon s words))) ≡ Some (WaitsForDependents p, words)
+    wait_at n p (reserved_then reserved.For q (reserved_then reserved.Dependent r (symbol_then symbol.Semicolon s words))) ≡ Some (WaitForDependent p, words)
 unfolding wait_at wait_for_at past is_reserved past_symbol is_symbol where_true
 dependents_waited n p q r s words = decided_not _ _ refl ∙ decided_is _ _ refl ∙ decided_is _ _ refl ∙ made_equals _ refl
 
 pub event_waited : (n : ℕ) (p q : Place) {t : Expression} {b : Words} {r : Place} {a : Words} → SpellsExpression t b (symbol_then symbol.Semicolon r a) → nesting t ≤ n →
-    wait_at n p (reserved_then reserved.For q b) ≡ Some (WaitsFor p t, a)
+    wait_at n p (reserved_then reserved.For q b) ≡ Some (WaitFor p t, a)
 unfolding wait_at wait_for_at past is_reserved where_true
 event_waited n p q {b = b} d l =
     decided_not _ _ refl ∙ decided_is _ _ refl ∙ decided_not _ _ (no_weak_reserved reserved.Dependent b (omega arith) (expression_strong d)) ∙ made_equals _ (expression_end_is n d l)
 
 -- this happens to an event, and a semicolon follows
 pub data Acting (p : Place) (c : EventAction) : Basic → Words → Words → Type 0 where
-  acting : {q r : Place} {m : List ℕ} {a : Words} → Acting p c (Acts (eventful p c (naming q m))) (name_then m q (symbol_then symbol.Semicolon r a)) a
+  acting : {q r : Place} {m : List ℕ} {a : Words} → Acting p c (Event (eventful p c (naming q m))) (name_then m q (symbol_then symbol.Semicolon r a)) a
 
-acting_so : {p : Place} {c : EventAction} {x : Naming} {b a : Words} → Ended symbol.Semicolon SpellsName x b a → Acting p c (Acts (eventful p c x)) b a
+acting_so : {p : Place} {c : EventAction} {x : Naming} {b a : Words} → Ended symbol.Semicolon SpellsName x b a → Acting p c (Event (eventful p c x)) b a
 acting_so (ended a_name) = acting
 
 pub acts_gives : (p : Place) (c : EventAction) (words : Words) → Holds (λ x rest. Acting p c x words rest) (acts_at p c words)
@@ -272,7 +272,7 @@ name_to_gives : (words : Words) → Holds (λ x rest. NameTo x words rest) (befo
 name_to_gives words = gives_before reserved.To (name_or_gives words) (λ x r rest d. name_to (option_spelled d))
 
 prioritizes_spelled : {n : ℕ} {x : Option Naming} {t : Expression} {p q : Place} {b m a : Words} → NameTo x b m → Ended symbol.Semicolon (ExpressionOf n) t m a →
-    BasicOf n (Prioritizes p x t) (reserved_then reserved.Update p (reserved_then reserved.Priority q b)) a
+    BasicOf n (UpdatePriority p x t) (reserved_then reserved.Update p (reserved_then reserved.Priority q b)) a
 prioritizes_spelled (name_to d) (ended e) = (prioritizes d e.0, e.1)
 
 pub prioritizes_gives : (n : ℕ) (p q : Place) (words : Words) →
@@ -286,12 +286,12 @@ name_to_is no_name = before_is (decided_not _ _ refl)
 name_to_is one_name = before_is (decided_is _ _ refl)
 
 pub prioritizes_is : (n : ℕ) (p : Place) {x : Option Naming} {t : Expression} {b : Words} {r : Place} {m : Words} {s : Place} {a : Words} →
-    SpellsNameOption x b (reserved_then reserved.To r m) → SpellsExpression t m (symbol_then symbol.Semicolon s a) → nesting t ≤ n → prioritizes_at n p b ≡ Some (Prioritizes p x t, a)
+    SpellsNameOption x b (reserved_then reserved.To r m) → SpellsExpression t m (symbol_then symbol.Semicolon s a) → nesting t ≤ n → prioritizes_at n p b ≡ Some (UpdatePriority p x t, a)
 unfolding prioritizes_at
 prioritizes_is n p d e l = followed_is _ (name_to_is d) ∙ made_equals _ (expression_end_is n e l)
 
 forgets_spelled : {n : ℕ} {x : Selector} {p q : Place} {b a : Words} → Ended symbol.Semicolon SpellsSelector x b a →
-    BasicOf n (Forgets p x) (reserved_then reserved.Off p (reserved_then reserved.Error q b)) a
+    BasicOf n (OffError p x) (reserved_then reserved.Off p (reserved_then reserved.Error q b)) a
 forgets_spelled (ended d) = (forgets d, omega arith)
 
 pub forgets_gives : (n : ℕ) (p : Place) (words : Words) → Holds (λ x rest. BasicOf n x (reserved_then reserved.Off p words) rest) (forgets_at p words)
@@ -300,7 +300,7 @@ forgets_gives n p words =
     followed_holds (past_gives reserved.Error words) (λ q rest e. made_holds _ (gives_ended symbol.Semicolon rest (selector_gives rest)) (λ x after d. rw e (forgets_spelled d)))
 
 pub forgets_is : (p q : Place) {x : Selector} {b : Words} {r : Place} {a : Words} → SpellsSelector x b (symbol_then symbol.Semicolon r a) →
-    forgets_at p (reserved_then reserved.Error q b) ≡ Some (Forgets p x, a)
+    forgets_at p (reserved_then reserved.Error q b) ≡ Some (OffError p x, a)
 unfolding forgets_at
 forgets_is p q {b = b} d = past_is reserved.Error q b _ ∙ made_equals _ (before_symbol_is (selector_is d))
 
@@ -313,9 +313,9 @@ integer_given words = weaker_holds (integer_gives words) (λ f rest e. rw e is_i
 
 -- the number of an error in a group
 data NumberIn (p : Place) (group : ℕ) : Basic → Words → Words → Type 0 where
-  number_in : {m : Place} {number : ℕ} {a : Words} → NumberIn p group (Sends p group number) (integer_then number m a) a
+  number_in : {m : Place} {number : ℕ} {a : Words} → NumberIn p group (SendError p group number) (integer_then number m a) a
 
-number_gives : (p : Place) (group : ℕ) (words : Words) → Holds (λ x rest. NumberIn p group x words rest) (made_of (λ number. Sends p group number.1) (integer_at words))
+number_gives : (p : Place) (group : ℕ) (words : Words) → Holds (λ x rest. NumberIn p group x words rest) (made_of (λ number. SendError p group number.1) (integer_at words))
 number_gives p group words = made_holds _ (integer_gives words) (λ f rest e. rw e number_in)
 
 sends_spelled : {n : ℕ} {f : Place × ℕ} {x : Basic} {p q r s : Place} {b m a : Words} → Ended symbol.Colon OneInteger f b m →
@@ -338,7 +338,7 @@ sends_gives n p words =
 
 pub sends_is : (p q d l g c m r s : Place) (group number : ℕ) (words : Words) →
     sends_at p (reserved_then reserved.Error q (symbol_then symbol.Dollar d (symbol_then symbol.LeftParenthesis l (integer_then group g (symbol_then symbol.Colon c
-    (integer_then number m (symbol_then symbol.RightParenthesis r (symbol_then symbol.Semicolon s words)))))))) ≡ Some (Sends p group number, words)
+    (integer_then number m (symbol_then symbol.RightParenthesis r (symbol_then symbol.Semicolon s words)))))))) ≡ Some (SendError p group number, words)
 unfolding sends_at error_sent past is_reserved past_symbol is_symbol where_true integer_at
 sends_is p q d l g c m r s group number words =
     followed_is _ refl ∙ followed_is _ refl ∙ followed_is _ refl ∙ followed_is _ (before_symbol_is refl) ∙ before_symbol_is (before_symbol_is (made_equals _ refl))

@@ -8,7 +8,7 @@ use Rattle.hal_words.specs.declared.word.Word.TheVariants as word
 use Rattle.hal_grammar.specs.Leaves.{Naming, naming}
 use Rattle.hal_grammar.specs.Expressions.{Expression, nesting}
 use Rattle.hal_grammar.specs.SpellsExpressions.{SpellsExpression}
-use Rattle.hal_grammar.specs.Statements.{Pulses, Raises, Lowers, Eventful, Statement, Labelled, Basic, Cancelled, Terminated, Acts, Prioritizes, nesting_of_statement, nesting_of_basic}
+use Rattle.hal_grammar.specs.Statements.{Signal, Set, Reset, Eventful, Statement, Labelled, Basic, Cancel, Terminate, Event, UpdatePriority, nesting_of_statement, nesting_of_basic}
 use Rattle.hal_grammar.specs.Words.{Words, token, reserved_then, symbol_then}
 use Rattle.hal_grammar.specs.SpellsStatements.{SpellsNameOption, SpellsEvent, pulses, raises, lowers, BeginsLabel, begins_label, SpellsLabels, no_labels, more_labels, SpellsStatement, labelled, SpellsBasic, empty, assigned, chosen, grouped, selected, looped_while, looped_until, ranged, left, repeated, returned, returned_value, calls, inputs, outputs_nothing, outputs, updates, scheduled, cancelled_itself, cancelled, terminated_itself, terminated, waits, waits_until, waits_for_dependents, waits_for, acts, prioritizes, handles, answers, forgets, sends}
 use Rattle.hal_grammar.proofs.LeftOut.{basic_no_label}
@@ -29,21 +29,21 @@ use Rattle.hal_parse_statements.proofs.SchedulesRead.{schedule_gives, schedule_i
 use Rattle.hal_parse_statements.proofs.SimpleRead.{BasicOf, NamesEnd, no_names, some_names, names_end_gives, names_end_is, assigned_gives, assigned_is, returned_gives, nothing_returned, value_returned, call_gives, call_is, read_gives, read_is, write_gives, nothing_written, items_written, wait_gives, time_waited, waited_until, dependents_waited, event_waited, Acting, acting, acts_gives, acts_is, prioritizes_is, forgets_gives, forgets_is, sends_gives, sends_is}
 use Rattle.hal_parse_statements.proofs.GroupsRead.{Inside, if_gives, if_is, do_gives, group_done, case_done, while_done, until_done, for_done, update_gives, update_is, on_gives, statement_handled, response_handled}
 
-cancels : {n : ℕ} {ns : List Naming} {p : Place} {b a : Words} → NamesEnd ns b a → BasicOf n (Cancelled p ns) (reserved_then reserved.Cancel p b) a
+cancels : {n : ℕ} {ns : List Naming} {p : Place} {b a : Words} → NamesEnd ns b a → BasicOf n (Cancel p ns) (reserved_then reserved.Cancel p b) a
 cancels no_names = (cancelled_itself, omega arith)
 cancels (some_names d) = (cancelled d, omega arith)
 
-terminates : {n : ℕ} {ns : List Naming} {p : Place} {b a : Words} → NamesEnd ns b a → BasicOf n (Terminated p ns) (reserved_then reserved.Terminate p b) a
+terminates : {n : ℕ} {ns : List Naming} {p : Place} {b a : Words} → NamesEnd ns b a → BasicOf n (Terminate p ns) (reserved_then reserved.Terminate p b) a
 terminates no_names = (terminated_itself, omega arith)
 terminates (some_names d) = (terminated d, omega arith)
 
-signals : {n : ℕ} {x : Basic} {p : Place} {b a : Words} → Acting p Pulses x b a → BasicOf n x (reserved_then reserved.Signal p b) a
+signals : {n : ℕ} {x : Basic} {p : Place} {b a : Words} → Acting p Signal x b a → BasicOf n x (reserved_then reserved.Signal p b) a
 signals acting = (acts pulses, omega arith)
 
-sets : {n : ℕ} {x : Basic} {p : Place} {b a : Words} → Acting p Raises x b a → BasicOf n x (reserved_then reserved.Set p b) a
+sets : {n : ℕ} {x : Basic} {p : Place} {b a : Words} → Acting p Set x b a → BasicOf n x (reserved_then reserved.Set p b) a
 sets acting = (acts raises, omega arith)
 
-resets : {n : ℕ} {x : Basic} {p : Place} {b a : Words} → Acting p Lowers x b a → BasicOf n x (reserved_then reserved.Reset p b) a
+resets : {n : ℕ} {x : Basic} {p : Place} {b a : Words} → Acting p Reset x b a → BasicOf n x (reserved_then reserved.Reset p b) a
 resets acting = (acts lowers, omega arith)
 
 reserved_gives : {n : ℕ} {inner : Option (Reader Statement)} → Inside n inner → (p : Place) (w : Word) (words : Words) →
@@ -62,9 +62,9 @@ reserved_gives {n = n} ins p (word.Reserved reserved.Schedule) words = made_hold
 reserved_gives ins p (word.Reserved reserved.Cancel) words = made_holds _ (names_end_gives words) (λ ns rest d. cancels d)
 reserved_gives ins p (word.Reserved reserved.Terminate) words = made_holds _ (names_end_gives words) (λ ns rest d. terminates d)
 reserved_gives {n = n} ins p (word.Reserved reserved.Wait) words = wait_gives n p words
-reserved_gives ins p (word.Reserved reserved.Signal) words = weaker_holds (acts_gives p Pulses words) (λ x rest d. signals d)
-reserved_gives ins p (word.Reserved reserved.Set) words = weaker_holds (acts_gives p Raises words) (λ x rest d. sets d)
-reserved_gives ins p (word.Reserved reserved.Reset) words = weaker_holds (acts_gives p Lowers words) (λ x rest d. resets d)
+reserved_gives ins p (word.Reserved reserved.Signal) words = weaker_holds (acts_gives p Signal words) (λ x rest d. signals d)
+reserved_gives ins p (word.Reserved reserved.Set) words = weaker_holds (acts_gives p Set words) (λ x rest d. sets d)
+reserved_gives ins p (word.Reserved reserved.Reset) words = weaker_holds (acts_gives p Reset words) (λ x rest d. resets d)
 reserved_gives ins p (word.Reserved reserved.On) words = on_gives ins p words
 reserved_gives {n = n} ins p (word.Reserved reserved.Off) words = forgets_gives n p words
 reserved_gives {n = n} ins p (word.Reserved reserved.Send) words = sends_gives n p words
@@ -82,7 +82,7 @@ unfolding basic_of
 basic_gives ins [] = holds_none
 basic_gives ins (first ∷ rest) = behind_gives ins first.place first.word rest
 
-event_acts : (n : ℕ) (inner : Option (Reader Statement)) {e : Eventful} {b : Words} {q : Place} {a : Words} → SpellsEvent e b (symbol_then symbol.Semicolon q a) → basic_of n inner b ≡ Some (Acts e, a)
+event_acts : (n : ℕ) (inner : Option (Reader Statement)) {e : Eventful} {b : Words} {q : Place} {a : Words} → SpellsEvent e b (symbol_then symbol.Semicolon q a) → basic_of n inner b ≡ Some (Event e, a)
 unfolding basic_of basic_behind reserved_behind
 event_acts n inner pulses = acts_is acting
 event_acts n inner raises = acts_is acting
@@ -90,7 +90,7 @@ event_acts n inner lowers = acts_is acting
 
 priority_done : (n : ℕ) (inner : Option (Reader Statement)) (p q : Place) {x : Option Naming} {t : Expression} {b : Words} {r : Place} {m : Words} {s : Place} {a : Words} →
     SpellsNameOption x b (reserved_then reserved.To r m) → SpellsExpression t m (symbol_then symbol.Semicolon s a) → nesting t ≤ n →
-    update_of n inner p (reserved_then reserved.Priority q b) ≡ Some (Prioritizes p x t, a)
+    update_of n inner p (reserved_then reserved.Priority q b) ≡ Some (UpdatePriority p x t, a)
 unfolding update_of past is_reserved past_symbol is_symbol where_true
 priority_done n inner p q d e h = decided_not _ _ refl ∙ followed_is _ refl ∙ prioritizes_is n p d e h
 

@@ -5,7 +5,7 @@ use Rattle.hal_words.specs.declared.reserved.Reserved.TheVariants as reserved
 use Rattle.hal_words.specs.declared.word.Symbol.TheVariants as symbol
 use Rattle.hal_words.specs.declared.word.Word.{Word}
 use Rattle.hal_words.specs.declared.word.Word.TheVariants as word
-use Rattle.hal_grammar.specs.Statements.{AsLong, Unless, Statement, Basic, Empty, Grouped, Left, Repeated, Scheduled, Cancelled, Terminated}
+use Rattle.hal_grammar.specs.Statements.{While, Until, Statement, Basic, Null, Do, Exit, Repeat, Scheduled, Cancel, Terminate}
 use Rattle.hal_grammar.specs.Words.{Words}
 use Rattle.hal_tree.specs.declared.statement.EventAction.TheVariants as action
 use Rattle.hal_tree.specs.SeenStatements.{seen_action}
@@ -45,20 +45,20 @@ begins other = None
 
 -- the statement that it begins; `words` are all words from the first one on
 unfoldable pub begun_at : ℕ → Option (Reader Statement) → Words → Place → Beginning → Reader Basic
-begun_at n inner words p beginning.Null rest = Some (Empty p, rest)
+begun_at n inner words p beginning.Null rest = Some (Null p, rest)
 begun_at n inner words p beginning.Name rest = assigned_at n p words
 begun_at n inner words p beginning.If rest = if_of n inner p rest
 begun_at n inner words p beginning.Do rest = do_of n inner p rest
-begun_at n inner words p beginning.Exit rest = made_of (λ x. Left p x) (name_end_at rest)
-begun_at n inner words p beginning.Repeat rest = made_of (λ x. Repeated p x) (name_end_at rest)
+begun_at n inner words p beginning.Exit rest = made_of (λ x. Exit p x) (name_end_at rest)
+begun_at n inner words p beginning.Repeat rest = made_of (λ x. Repeat p x) (name_end_at rest)
 begun_at n inner words p beginning.Return rest = returned_at n p rest
 begun_at n inner words p beginning.Call rest = call_at n p rest
 begun_at n inner words p beginning.Read rest = read_at n p rest
 begun_at n inner words p beginning.Write rest = write_at n p rest
 begun_at n inner words p beginning.Update rest = update_of n inner p rest
 begun_at n inner words p beginning.Schedule rest = made_of (λ s. Scheduled p s) (schedule_at n rest)
-begun_at n inner words p beginning.Cancel rest = made_of (λ xs. Cancelled p xs) (names_end_at rest)
-begun_at n inner words p beginning.Terminate rest = made_of (λ xs. Terminated p xs) (names_end_at rest)
+begun_at n inner words p beginning.Cancel rest = made_of (λ xs. Cancel p xs) (names_end_at rest)
+begun_at n inner words p beginning.Terminate rest = made_of (λ xs. Terminate p xs) (names_end_at rest)
 begun_at n inner words p beginning.Wait rest = wait_at n p rest
 begun_at n inner words p (beginning.Event a) rest = acts_at p (seen_action a) rest
 begun_at n inner words p beginning.On rest = on_of inner p rest
@@ -76,8 +76,8 @@ groups other = None
 
 -- the group; `q` is the place of the word behind DO
 unfoldable pub grouped_at : ℕ → Option (Reader Statement) → Place → Place → Grouping → Reader Basic
-grouped_at n inner p q grouping.Plain rest = made_of (λ g. Grouped p g) (group_of inner rest)
+grouped_at n inner p q grouping.Plain rest = made_of (λ g. Do p g) (group_of inner rest)
 grouped_at n inner p q grouping.Case rest = case_of n inner p rest
-grouped_at n inner p q grouping.While rest = loop_of n inner p (λ t. AsLong q t) rest
-grouped_at n inner p q grouping.Until rest = loop_of n inner p (λ t. Unless q t) rest
+grouped_at n inner p q grouping.While rest = loop_of n inner p (λ t. While q t) rest
+grouped_at n inner p q grouping.Until rest = loop_of n inner p (λ t. Until q t) rest
 grouped_at n inner p q grouping.For rest = for_of n inner p rest

@@ -8,7 +8,7 @@ use Rattle.hal_words.specs.declared.word.Word.{Word}
 use Rattle.hal_words.specs.declared.word.Word.TheVariants as word
 use Rattle.hal_grammar.specs.Leaves.{Naming}
 use Rattle.hal_grammar.specs.Expressions.{Expression, Expressions, NoExpressions, MoreExpressions, Reference}
-use Rattle.hal_grammar.specs.Statements.{Guard, AsLong, Unless, Span, Stepped, Listed, Selector, EveryError, GroupErrors, OneError, EventAction, Pulses, Raises, Lowers, Eventful, eventful, Response, BySystem, Ignored, Start, StartAt, StartIn, StartOn, Cycle, Cyclic, CyclicEvery, CyclicAfter, Schedule, scheduling, Statement, Labelled, Basic, Empty, Assigned, Chosen, Grouped, Selected, Looped, Ranged, Left, Repeated, Returned, CallsBlock, Inputs, Outputs, Updates, Scheduled, Cancelled, Terminated, Waits, WaitsUntil, WaitsForDependents, WaitsFor, Acts, Prioritizes, Handles, Answers, Forgets, Sends, Alternative, NoAlternative, Otherwise, Group, Groups}
+use Rattle.hal_grammar.specs.Statements.{Guard, While, Until, Span, Stepped, Listed, Selector, EveryError, GroupErrors, OneError, EventAction, Signal, Set, Reset, Eventful, eventful, Response, System, Ignore, Start, StartAt, StartIn, StartOn, Cycle, Cyclic, CyclicEvery, CyclicAfter, Schedule, scheduling, Statement, Labelled, Basic, Null, Assignment, If, Do, DoCase, DoLoop, DoFor, Exit, Repeat, Return, Call, Read, Write, Update, Scheduled, Cancel, Terminate, Wait, WaitUntil, WaitForDependent, WaitFor, Event, UpdatePriority, OnErrorStatement, OnErrorResponse, OffError, SendError, Alternative, NoAlternative, Otherwise, Group, Groups}
 use Rattle.hal_grammar.specs.Words.{Words}
 unfoldable pub use Rattle.hal_tree.specs.Rows.{statements}
 use Rattle.hal_parse_expr.specs.Reading.{Reader, followed, made_of, decided, past, past_symbol, name_at, integer_at, before_symbol, before, all, after_comma, parted}
@@ -41,11 +41,11 @@ receivers_at n words =
 
 -- UNTIL and a condition, or none
 unfoldable pub until_at : ℕ → Reader (Option Guard)
-until_at n words = decided (past reserved.Until words) (λ p rest. made_of (λ t. Some (Unless p t)) (expression_at n rest)) (Some (None, words))
+until_at n words = decided (past reserved.Until words) (λ p rest. made_of (λ t. Some (Until p t)) (expression_at n rest)) (Some (None, words))
 
 -- WHILE or UNTIL and a condition, or none
 unfoldable pub guard_at : ℕ → Reader (Option Guard)
-guard_at n words = decided (past reserved.While words) (λ p rest. made_of (λ t. Some (AsLong p t)) (expression_at n rest)) (until_at n words)
+guard_at n words = decided (past reserved.While words) (λ p rest. made_of (λ t. Some (While p t)) (expression_at n rest)) (until_at n words)
 
 -- BY and an expression, or none
 unfoldable pub step_at : ℕ → Reader (Option Expression)
@@ -85,9 +85,9 @@ selector_at words = decided (past_symbol symbol.Dollar words) (λ p rest. select
 
 -- what a word does to an event
 unfoldable pub action_of : Word → Option EventAction
-action_of (word.Reserved reserved.Signal) = Some Pulses
-action_of (word.Reserved reserved.Set) = Some Raises
-action_of (word.Reserved reserved.Reset) = Some Lowers
+action_of (word.Reserved reserved.Signal) = Some Signal
+action_of (word.Reserved reserved.Set) = Some Set
+action_of (word.Reserved reserved.Reset) = Some Reset
 action_of other = None
 
 -- SIGNAL, SET or RESET and a name, where the first word is this one
@@ -106,7 +106,7 @@ event_end_at words =
 
 -- SYSTEM or IGNORE
 unfoldable pub response_at : Reader Response
-response_at words = decided (past reserved.System words) (λ p rest. Some (BySystem, rest)) (made_of (λ p. Ignored) (past reserved.Ignore words))
+response_at words = decided (past reserved.System words) (λ p rest. Some (System, rest)) (made_of (λ p. Ignore) (past reserved.Ignore words))
 
 -- ON and an expression, or none
 unfoldable pub start_on_at : ℕ → Reader (Option Start)
@@ -172,16 +172,16 @@ temporary_at words = decided (past reserved.Temporary words) (λ p rest. Some (t
 -- receivers, `=`, an expression and a semicolon; the place is that of the first word
 unfoldable pub assigned_at : ℕ → Place → Reader Basic
 assigned_at n p words =
-    followed (before_symbol symbol.Equals (references_at n words)) (λ xs rest. made_of (λ t. Assigned p xs t) (expression_end n rest))
+    followed (before_symbol symbol.Equals (references_at n words)) (λ xs rest. made_of (λ t. Assignment p xs t) (expression_end n rest))
 
 -- behind RETURN
 unfoldable pub returned_at : ℕ → Place → Reader Basic
 returned_at n p words =
-    decided (past_symbol symbol.Semicolon words) (λ q rest. Some (Returned p None, rest)) (made_of (λ t. Returned p (Some t)) (expression_end n words))
+    decided (past_symbol symbol.Semicolon words) (λ q rest. Some (Return p None, rest)) (made_of (λ t. Return p (Some t)) (expression_end n words))
 
 -- behind CALL and a name
 unfoldable pub call_behind : ℕ → Place → Naming → Reader Basic
-call_behind n p x words = followed (arguments_at n words) (λ ts rest. made_of (λ xs. CallsBlock p x ts xs) (before_symbol symbol.Semicolon (receivers_at n rest)))
+call_behind n p x words = followed (arguments_at n words) (λ ts rest. made_of (λ xs. Call p x ts xs) (before_symbol symbol.Semicolon (receivers_at n rest)))
 
 -- behind CALL
 unfoldable pub call_at : ℕ → Place → Reader Basic
@@ -190,7 +190,7 @@ call_at n p words = followed (name_at words) (λ x rest. call_behind n p x rest)
 -- behind READ
 unfoldable pub read_at : ℕ → Place → Reader Basic
 read_at n p words =
-    followed (in_parentheses (expression_at n) words) (λ t rest. made_of (λ xs. Inputs p t xs) (before_symbol symbol.Semicolon (references_at n rest)))
+    followed (in_parentheses (expression_at n) words) (λ t rest. made_of (λ xs. Read p t xs) (before_symbol symbol.Semicolon (references_at n rest)))
 
 -- expressions and a semicolon, or a semicolon alone
 unfoldable pub items_end_at : ℕ → Reader Expressions
@@ -199,37 +199,37 @@ items_end_at n words =
 
 -- behind WRITE
 unfoldable pub write_at : ℕ → Place → Reader Basic
-write_at n p words = followed (in_parentheses (expression_at n) words) (λ t rest. made_of (λ ts. Outputs p t ts) (items_end_at n rest))
+write_at n p words = followed (in_parentheses (expression_at n) words) (λ t rest. made_of (λ ts. Write p t ts) (items_end_at n rest))
 
 -- behind WAIT and FOR
 unfoldable pub wait_for_at : ℕ → Place → Reader Basic
 wait_for_at n p words =
-    decided (past reserved.Dependent words) (λ q rest. made_of (λ r. WaitsForDependents p) (past_symbol symbol.Semicolon rest)) (made_of (λ t. WaitsFor p t) (expression_end n words))
+    decided (past reserved.Dependent words) (λ q rest. made_of (λ r. WaitForDependent p) (past_symbol symbol.Semicolon rest)) (made_of (λ t. WaitFor p t) (expression_end n words))
 
 -- behind WAIT
 unfoldable pub wait_at : ℕ → Place → Reader Basic
 wait_at n p words =
-    decided (past reserved.Until words) (λ q rest. made_of (λ t. WaitsUntil p t) (expression_end n rest))
-    (decided (past reserved.For words) (λ q rest. wait_for_at n p rest) (made_of (λ t. Waits p t) (expression_end n words)))
+    decided (past reserved.Until words) (λ q rest. made_of (λ t. WaitUntil p t) (expression_end n rest))
+    (decided (past reserved.For words) (λ q rest. wait_for_at n p rest) (made_of (λ t. Wait p t) (expression_end n words)))
 
 -- behind SIGNAL, SET or RESET, which does this to the event
 unfoldable pub acts_at : Place → EventAction → Reader Basic
-acts_at p a words = made_of (λ x. Acts (eventful p a x)) (before_symbol symbol.Semicolon (name_at words))
+acts_at p a words = made_of (λ x. Event (eventful p a x)) (before_symbol symbol.Semicolon (name_at words))
 
 -- behind UPDATE and PRIORITY
 unfoldable pub prioritizes_at : ℕ → Place → Reader Basic
 prioritizes_at n p words =
-    followed (before reserved.To (name_option_at words)) (λ x rest. made_of (λ t. Prioritizes p x t) (expression_end n rest))
+    followed (before reserved.To (name_option_at words)) (λ x rest. made_of (λ t. UpdatePriority p x t) (expression_end n rest))
 
 -- behind OFF
 unfoldable pub forgets_at : Place → Reader Basic
-forgets_at p words = followed (past reserved.Error words) (λ q rest. made_of (λ x. Forgets p x) (before_symbol symbol.Semicolon (selector_at rest)))
+forgets_at p words = followed (past reserved.Error words) (λ q rest. made_of (λ x. OffError p x) (before_symbol symbol.Semicolon (selector_at rest)))
 
 -- a group of errors, a colon and a number in parentheses, and a semicolon
 unfoldable pub error_sent : Place → Reader Basic
 error_sent p words =
     followed (before_symbol symbol.Colon (integer_at words)) (λ group rest.
-    before_symbol symbol.Semicolon (before_symbol symbol.RightParenthesis (made_of (λ number. Sends p group.1 number.1) (integer_at rest))))
+    before_symbol symbol.Semicolon (before_symbol symbol.RightParenthesis (made_of (λ number. SendError p group.1 number.1) (integer_at rest))))
 
 -- behind SEND
 unfoldable pub sends_at : Place → Reader Basic
@@ -252,7 +252,7 @@ group_of inner words =
 
 -- behind IF and its condition and THEN
 unfoldable pub chosen_of : Option (Reader Statement) → Place → Expression → Reader Basic
-chosen_of inner p t words = followed (where_left inner words) (λ s rest. made_of (λ a. Chosen p t s a) (alternative_of inner rest))
+chosen_of inner p t words = followed (where_left inner words) (λ s rest. made_of (λ a. If p t s a) (alternative_of inner rest))
 
 -- behind IF
 unfoldable pub if_of : ℕ → Option (Reader Statement) → Place → Reader Basic
@@ -261,16 +261,16 @@ if_of n inner p words = followed (before reserved.Then (expression_at n words)) 
 -- behind DO and CASE
 unfoldable pub case_of : ℕ → Option (Reader Statement) → Place → Reader Basic
 case_of n inner p words =
-    followed (expression_end n words) (λ t rest. followed (alternative_of inner rest) (λ a after. made_of (λ g. Selected p t a g) (group_of inner after)))
+    followed (expression_end n words) (λ t rest. followed (alternative_of inner rest) (λ a after. made_of (λ g. DoCase p t a g) (group_of inner after)))
 
 -- behind DO and WHILE or UNTIL, which makes this of the condition
 unfoldable pub loop_of : ℕ → Option (Reader Statement) → Place → (Expression → Guard) → Reader Basic
-loop_of n inner p make words = followed (expression_end n words) (λ t rest. made_of (λ g. Looped p (make t) g) (group_of inner rest))
+loop_of n inner p make words = followed (expression_end n words) (λ t rest. made_of (λ g. DoLoop p (make t) g) (group_of inner rest))
 
 -- behind the variable and `=` of DO FOR
 unfoldable pub range_of : ℕ → Option (Reader Statement) → Place → Bool → Naming → Reader Basic
 range_of n inner p b x words =
-    followed (span_at n words) (λ s rest. followed (before_symbol symbol.Semicolon (guard_at n rest)) (λ c after. made_of (λ g. Ranged p b x s c g) (group_of inner after)))
+    followed (span_at n words) (λ s rest. followed (before_symbol symbol.Semicolon (guard_at n rest)) (λ c after. made_of (λ g. DoFor p b x s c g) (group_of inner after)))
 
 -- behind DO and FOR
 unfoldable pub for_of : ℕ → Option (Reader Statement) → Place → Reader Basic
@@ -279,10 +279,10 @@ for_of n inner p words =
 
 -- behind DO, what the next word begins
 unfoldable pub do_behind : ℕ → Option (Reader Statement) → Place → Place → Word → Reader Basic
-do_behind n inner p q (word.Symbol symbol.Semicolon) rest = made_of (λ g. Grouped p g) (group_of inner rest)
+do_behind n inner p q (word.Symbol symbol.Semicolon) rest = made_of (λ g. Do p g) (group_of inner rest)
 do_behind n inner p q (word.Reserved reserved.Case) rest = case_of n inner p rest
-do_behind n inner p q (word.Reserved reserved.While) rest = loop_of n inner p (λ t. AsLong q t) rest
-do_behind n inner p q (word.Reserved reserved.Until) rest = loop_of n inner p (λ t. Unless q t) rest
+do_behind n inner p q (word.Reserved reserved.While) rest = loop_of n inner p (λ t. While q t) rest
+do_behind n inner p q (word.Reserved reserved.Until) rest = loop_of n inner p (λ t. Until q t) rest
 do_behind n inner p q (word.Reserved reserved.For) rest = for_of n inner p rest
 do_behind n inner p q other rest = None
 
@@ -294,7 +294,7 @@ do_of n inner p (first ∷ rest) = do_behind n inner p first.place first.word re
 -- statements inside, CLOSE, a name or none, and a semicolon
 unfoldable pub body_of : Reader Statement → Place → Reader Basic
 body_of read p words =
-    followed (past reserved.Close (all read words).1) (λ q rest. made_of (λ x. Updates p (statements (all read words).0) x) (name_end_at rest))
+    followed (past reserved.Close (all read words).1) (λ q rest. made_of (λ x. Update p (statements (all read words).0) x) (name_end_at rest))
 
 -- behind UPDATE and its semicolon, where one level more is left
 unfoldable pub updates_of : Option (Reader Statement) → Place → Reader Basic
@@ -309,7 +309,7 @@ update_of n inner p words =
 -- behind ON, ERROR and which errors
 unfoldable pub handled_of : Option (Reader Statement) → Place → Selector → Reader Basic
 handled_of inner p x words =
-    decided (response_at words) (λ r rest. made_of (λ e. Answers p x r e) (event_end_at rest)) (made_of (λ s. Handles p x s) (where_left inner words))
+    decided (response_at words) (λ r rest. made_of (λ e. OnErrorResponse p x r e) (event_end_at rest)) (made_of (λ s. OnErrorStatement p x s) (where_left inner words))
 
 -- behind ON
 unfoldable pub on_of : Option (Reader Statement) → Place → Reader Basic
@@ -319,20 +319,20 @@ on_of inner p words = followed (past reserved.Error words) (λ q rest. followed 
 unfoldable pub reserved_behind : ℕ → Option (Reader Statement) → Place → Word → Reader Basic
 reserved_behind n inner p (word.Reserved reserved.If) rest = if_of n inner p rest
 reserved_behind n inner p (word.Reserved reserved.Do) rest = do_of n inner p rest
-reserved_behind n inner p (word.Reserved reserved.Exit) rest = made_of (λ x. Left p x) (name_end_at rest)
-reserved_behind n inner p (word.Reserved reserved.Repeat) rest = made_of (λ x. Repeated p x) (name_end_at rest)
+reserved_behind n inner p (word.Reserved reserved.Exit) rest = made_of (λ x. Exit p x) (name_end_at rest)
+reserved_behind n inner p (word.Reserved reserved.Repeat) rest = made_of (λ x. Repeat p x) (name_end_at rest)
 reserved_behind n inner p (word.Reserved reserved.Return) rest = returned_at n p rest
 reserved_behind n inner p (word.Reserved reserved.Call) rest = call_at n p rest
 reserved_behind n inner p (word.Reserved reserved.Read) rest = read_at n p rest
 reserved_behind n inner p (word.Reserved reserved.Write) rest = write_at n p rest
 reserved_behind n inner p (word.Reserved reserved.Update) rest = update_of n inner p rest
 reserved_behind n inner p (word.Reserved reserved.Schedule) rest = made_of (λ s. Scheduled p s) (schedule_at n rest)
-reserved_behind n inner p (word.Reserved reserved.Cancel) rest = made_of (λ xs. Cancelled p xs) (names_end_at rest)
-reserved_behind n inner p (word.Reserved reserved.Terminate) rest = made_of (λ xs. Terminated p xs) (names_end_at rest)
+reserved_behind n inner p (word.Reserved reserved.Cancel) rest = made_of (λ xs. Cancel p xs) (names_end_at rest)
+reserved_behind n inner p (word.Reserved reserved.Terminate) rest = made_of (λ xs. Terminate p xs) (names_end_at rest)
 reserved_behind n inner p (word.Reserved reserved.Wait) rest = wait_at n p rest
-reserved_behind n inner p (word.Reserved reserved.Signal) rest = acts_at p Pulses rest
-reserved_behind n inner p (word.Reserved reserved.Set) rest = acts_at p Raises rest
-reserved_behind n inner p (word.Reserved reserved.Reset) rest = acts_at p Lowers rest
+reserved_behind n inner p (word.Reserved reserved.Signal) rest = acts_at p Signal rest
+reserved_behind n inner p (word.Reserved reserved.Set) rest = acts_at p Set rest
+reserved_behind n inner p (word.Reserved reserved.Reset) rest = acts_at p Reset rest
 reserved_behind n inner p (word.Reserved reserved.On) rest = on_of inner p rest
 reserved_behind n inner p (word.Reserved reserved.Off) rest = forgets_at p rest
 reserved_behind n inner p (word.Reserved reserved.Send) rest = sends_at p rest
@@ -340,7 +340,7 @@ reserved_behind n inner p other rest = None
 
 -- the statement that the first word begins; `words` are all words from it on
 unfoldable pub basic_behind : ℕ → Option (Reader Statement) → Words → Place → Word → Reader Basic
-basic_behind n inner words p (word.Symbol symbol.Semicolon) rest = Some (Empty p, rest)
+basic_behind n inner words p (word.Symbol symbol.Semicolon) rest = Some (Null p, rest)
 basic_behind n inner words p (word.Name m) rest = assigned_at n p words
 basic_behind n inner words p other rest = reserved_behind n inner p other rest
 

@@ -1,7 +1,7 @@
 //! DO: groups of statements, and loops.
 
 ghost use Rattle.std.specs.Prelude.{◌≡◌, IfOk};
-ghost use Rattle.hal_grammar.specs.Statements.{AsLong, Grouped, Unless};
+ghost use Rattle.hal_grammar.specs.Statements.{While, Do, Until};
 ghost use Rattle.hal_tree.specs.SeenLeaves.{seen_name};
 ghost use Rattle.hal_tree.specs.SeenStatements.{seen_basic};
 ghost use Rattle.hal_parse_expr.specs.Reading.{made_of};
@@ -71,7 +71,7 @@ fn plain_group(
     words: &[Token],
     depth: u32,
 ) -> Result<Option<(Basic, &[Token])>, AllocError>
-    ensures { IfOk result (λ found. seen_as seen_basic found ≡ made_of (λ g. Grouped place g) (group_of (statement_below depth) words.now)) }
+    ensures { IfOk result (λ found. seen_as seen_basic found ≡ made_of (λ g. Do place g) (group_of (statement_below depth) words.now)) }
 {
     let Some((group, rest)) = group(alloc, words, depth)? else {
         return Ok(None);
@@ -89,7 +89,7 @@ fn while_loop(
     words: &[Token],
     depth: u32,
 ) -> Result<Option<(Basic, &[Token])>, AllocError>
-    ensures { IfOk result (λ found. seen_as seen_basic found ≡ loop_of depth (statement_below depth) place (λ t. AsLong at t) words.now) }
+    ensures { IfOk result (λ found. seen_as seen_basic found ≡ loop_of depth (statement_below depth) place (λ t. While at t) words.now) }
 {
     let Some((condition, behind)) = expression_end(alloc, words, depth)? else {
         return Ok(None);
@@ -119,7 +119,7 @@ fn until_loop(
     words: &[Token],
     depth: u32,
 ) -> Result<Option<(Basic, &[Token])>, AllocError>
-    ensures { IfOk result (λ found. seen_as seen_basic found ≡ loop_of depth (statement_below depth) place (λ t. Unless at t) words.now) }
+    ensures { IfOk result (λ found. seen_as seen_basic found ≡ loop_of depth (statement_below depth) place (λ t. Until at t) words.now) }
 {
     let Some((condition, behind)) = expression_end(alloc, words, depth)? else {
         return Ok(None);

@@ -1,7 +1,7 @@
 //! ON ERROR: what answers an error.
 
 ghost use Rattle.std.specs.Prelude.{◌≡◌, IfOk};
-ghost use Rattle.hal_grammar.specs.Statements.{Answers};
+ghost use Rattle.hal_grammar.specs.Statements.{OnErrorResponse};
 ghost use Rattle.hal_tree.specs.SeenStatements.{seen_basic, seen_response, seen_selector};
 ghost use Rattle.hal_parse_expr.specs.Reading.{made_of};
 ghost use Rattle.hal_parse_expr.specs.Seen.{seen_as};
@@ -71,7 +71,7 @@ fn answered(
     response: Response,
     words: &[Token],
 ) -> Option<(Basic, &[Token])>
-    ensures { seen_as seen_basic result ≡ made_of (λ e. Answers place (seen_selector selector) (seen_response response) e) (event_end_at words.now) }
+    ensures { seen_as seen_basic result ≡ made_of (λ e. OnErrorResponse place (seen_selector selector) (seen_response response) e) (event_end_at words.now) }
 {
     let Some((event, rest)) = event_end(words) else {
         return None;

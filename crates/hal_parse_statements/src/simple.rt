@@ -1,7 +1,7 @@
 //! Statements in which no other statement stands, behind the word that begins them.
 
 ghost use Rattle.std.specs.Prelude.{◌≡◌, IfOk};
-ghost use Rattle.hal_grammar.specs.Statements.{Cancelled, Left, Repeated, Scheduled, Terminated};
+ghost use Rattle.hal_grammar.specs.Statements.{Cancel, Exit, Repeat, Scheduled, Terminate};
 ghost use Rattle.hal_tree.specs.SeenLeaves.{seen_name};
 ghost use Rattle.hal_tree.specs.SeenStatements.{seen_action, seen_basic};
 ghost use Rattle.hal_parse_expr.specs.Reading.{made_of};
@@ -50,7 +50,7 @@ pub(crate) fn assignment(
 /// Behind EXIT.
 #[tactic(auto, using(hal_tree::proofs::MadeStatements::made_exit), unfolding(hal_parse_expr::specs::Reading::made_of, hal_parse_expr::specs::Seen::seen_as))]
 pub(crate) fn exit(place: Place, words: &[Token]) -> Option<(Basic, &[Token])>
-    ensures { seen_as seen_basic result ≡ made_of (λ x. Left place x) (name_end_at words.now) }
+    ensures { seen_as seen_basic result ≡ made_of (λ x. Exit place x) (name_end_at words.now) }
 {
     let Some((label, rest)) = name_end(words) else {
         return None;
@@ -61,7 +61,7 @@ pub(crate) fn exit(place: Place, words: &[Token]) -> Option<(Basic, &[Token])>
 /// Behind REPEAT.
 #[tactic(auto, using(hal_tree::proofs::MadeStatements::made_repeat), unfolding(hal_parse_expr::specs::Reading::made_of, hal_parse_expr::specs::Seen::seen_as))]
 pub(crate) fn repeat(place: Place, words: &[Token]) -> Option<(Basic, &[Token])>
-    ensures { seen_as seen_basic result ≡ made_of (λ x. Repeated place x) (name_end_at words.now) }
+    ensures { seen_as seen_basic result ≡ made_of (λ x. Repeat place x) (name_end_at words.now) }
 {
     let Some((label, rest)) = name_end(words) else {
         return None;
@@ -208,7 +208,7 @@ pub(crate) fn cancel(
     place: Place,
     words: &[Token],
 ) -> Result<Option<(Basic, &[Token])>, AllocError>
-    ensures { IfOk result (λ found. seen_as seen_basic found ≡ made_of (λ xs. Cancelled place xs) (names_end_at words.now)) }
+    ensures { IfOk result (λ found. seen_as seen_basic found ≡ made_of (λ xs. Cancel place xs) (names_end_at words.now)) }
 {
     let Some((names, rest)) = names_end(alloc, words)? else {
         return Ok(None);
@@ -223,7 +223,7 @@ pub(crate) fn terminate(
     place: Place,
     words: &[Token],
 ) -> Result<Option<(Basic, &[Token])>, AllocError>
-    ensures { IfOk result (λ found. seen_as seen_basic found ≡ made_of (λ xs. Terminated place xs) (names_end_at words.now)) }
+    ensures { IfOk result (λ found. seen_as seen_basic found ≡ made_of (λ xs. Terminate place xs) (names_end_at words.now)) }
 {
     let Some((names, rest)) = names_end(alloc, words)? else {
         return Ok(None);

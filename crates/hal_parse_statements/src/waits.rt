@@ -1,7 +1,7 @@
 //! WAIT and what it waits for.
 
 ghost use Rattle.std.specs.Prelude.{◌≡◌, IfOk};
-ghost use Rattle.hal_grammar.specs.Statements.{Waits, WaitsFor, WaitsUntil};
+ghost use Rattle.hal_grammar.specs.Statements.{Wait, WaitFor, WaitUntil};
 ghost use Rattle.hal_tree.specs.SeenStatements.{seen_basic};
 ghost use Rattle.hal_parse_expr.specs.Reading.{made_of};
 ghost use Rattle.hal_parse_expr.specs.Seen.{seen_as};
@@ -41,7 +41,7 @@ fn wait_until(
     words: &[Token],
     depth: u32,
 ) -> Result<Option<(Basic, &[Token])>, AllocError>
-    ensures { IfOk result (λ found. seen_as seen_basic found ≡ made_of (λ t. WaitsUntil place t) (expression_end depth words.now)) }
+    ensures { IfOk result (λ found. seen_as seen_basic found ≡ made_of (λ t. WaitUntil place t) (expression_end depth words.now)) }
 {
     let Some((time, rest)) = expression_end(alloc, words, depth)? else {
         return Ok(None);
@@ -76,7 +76,7 @@ fn wait_event(
     words: &[Token],
     depth: u32,
 ) -> Result<Option<(Basic, &[Token])>, AllocError>
-    ensures { IfOk result (λ found. seen_as seen_basic found ≡ made_of (λ t. WaitsFor place t) (expression_end depth words.now)) }
+    ensures { IfOk result (λ found. seen_as seen_basic found ≡ made_of (λ t. WaitFor place t) (expression_end depth words.now)) }
 {
     let Some((event, rest)) = expression_end(alloc, words, depth)? else {
         return Ok(None);
@@ -92,7 +92,7 @@ fn wait_time(
     words: &[Token],
     depth: u32,
 ) -> Result<Option<(Basic, &[Token])>, AllocError>
-    ensures { IfOk result (λ found. seen_as seen_basic found ≡ made_of (λ t. Waits place t) (expression_end depth words.now)) }
+    ensures { IfOk result (λ found. seen_as seen_basic found ≡ made_of (λ t. Wait place t) (expression_end depth words.now)) }
 {
     let Some((time, rest)) = expression_end(alloc, words, depth)? else {
         return Ok(None);

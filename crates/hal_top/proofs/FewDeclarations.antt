@@ -4,7 +4,7 @@ use Rattle.std.proofs.lemmas.Option.{none-some, same_Some}
 use Rattle.hal_words.specs.declared.word.Token.{Token}
 use Rattle.hal_grammar.specs.Leaves.{Naming}
 use Rattle.hal_grammar.specs.Declarations.{Declaration}
-use Rattle.hal_grammar.specs.Units.{ProgramHead, CompoolHead, TaskHead, ProcedureHead, FunctionHead, Block, BlockOf, Preface, File}
+use Rattle.hal_grammar.specs.Units.{Program, Compool, Task, Procedure, Function, Block, BlockOf, Preface, File}
 use Rattle.hal_grammar.specs.Words.{Words}
 use Rattle.hal_grammar.specs.SpellsDeclarations.{SpellsDeclarations, no_declarations, more_declarations}
 use Rattle.hal_grammar.specs.SpellsFiles.{SpellsBlock, block, SpellsFile, block_alone, preface_first}
@@ -59,11 +59,11 @@ closed_count true name ds body tree is =
 
 block_count : (u : Block) (tree : UnitTree) → block_of u ≡ Some tree → length tree.declarations ≡ length (declared_in u)
 unfolding block_of
-block_count (BlockOf name (ProgramHead p) ds es close) tree is = closed_count (closes name.name close) name ds (elements_of es) tree is
-block_count (BlockOf name (CompoolHead p) ds es close) tree is = absurd (none-some tree is)
-block_count (BlockOf name (TaskHead p) ds es close) tree is = absurd (none-some tree is)
-block_count (BlockOf name (ProcedureHead p i o m) ds es close) tree is = absurd (none-some tree is)
-block_count (BlockOf name (FunctionHead p i r m) ds es close) tree is = absurd (none-some tree is)
+block_count (BlockOf name (Program p) ds es close) tree is = closed_count (closes name.name close) name ds (elements_of es) tree is
+block_count (BlockOf name (Compool p) ds es close) tree is = absurd (none-some tree is)
+block_count (BlockOf name (Task p) ds es close) tree is = absurd (none-some tree is)
+block_count (BlockOf name (Procedure p i o m) ds es close) tree is = absurd (none-some tree is)
+block_count (BlockOf name (Function p i r m) ds es close) tree is = absurd (none-some tree is)
 
 parts_count : (prefaces : List Preface) (u : Block) (tree : UnitTree) → (elim prefaces [ [] ↦ block_of u | x ∷ xs ↦ None ]) ≡ Some tree → length tree.declarations ≡ length (declared_in u)
 parts_count [] u tree is = block_count u tree is

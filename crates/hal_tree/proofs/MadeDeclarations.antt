@@ -47,7 +47,7 @@ pub made_structure_type : (place : Place) (template : List ℕ) (copies : Option
 unfolding seen_type
 made_structure_type place template copies = refl
 
-pub made_value : (value : Expr) → seen_initial (initial.Value value) ≡ plain.Valued (seen_expression value)
+pub made_value : (value : Expr) → seen_initial (initial.Value value) ≡ plain.Value (seen_expression value)
 unfolding seen_initial
 made_value value = search (rules, the_lemmas)
 
@@ -99,10 +99,10 @@ pub made_part : (item : Part) → seen_part item ≡ plain.part_of item.place it
 unfolding seen_part
 made_part item = refl
 
-pub made_declare : (place : Place) (common : Vec Attribute Global) (items : Vec Declared Global) → seen_declaration (declaration.Declare place common items) ≡ plain.Declares place (map seen_attribute common.items) (map seen_declared items.items)
+pub made_declare : (place : Place) (common : Vec Attribute Global) (items : Vec Declared Global) → seen_declaration (declaration.Declare place common items) ≡ plain.Declare place (map seen_attribute common.items) (map seen_declared items.items)
 unfolding seen_declaration
 made_declare place common items = refl
 
-pub made_structure : (place : Place) (name : Identifier) (parts : Vec Part Global) → seen_declaration (declaration.Structure place name parts) ≡ plain.Structures place (seen_name name) (map seen_part parts.items)
+pub made_structure : (place : Place) (name : Identifier) (parts : Vec Part Global) → seen_declaration (declaration.Structure place name parts) ≡ plain.Structure place (seen_name name) (map seen_part parts.items)
 unfolding seen_declaration
 made_structure place name parts = refl

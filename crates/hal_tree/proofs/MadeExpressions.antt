@@ -22,43 +22,43 @@ use Rattle.hal_tree.specs.Rows.{expressions, terms, subscripts}
 use Rattle.hal_tree.specs.SeenLeaves.{seen_name, seen_sign, seen_relation, seen_conversion, seen_literal}
 use Rattle.hal_tree.specs.SeenExpressions.{seen_expression, seen_position, seen_sub, seen_subscript, seen_reference, seen_signed}
 
-pub made_or : (place : Place) (first : Box Expr Global) (others : Vec Expr Global) → seen_expression (expr.Or place first others) ≡ plain.Ors place (seen_expression first.value) (expressions (map seen_expression others.items))
+pub made_or : (place : Place) (first : Box Expr Global) (others : Vec Expr Global) → seen_expression (expr.Or place first others) ≡ plain.Or place (seen_expression first.value) (expressions (map seen_expression others.items))
 unfolding seen_expression seen_position seen_sub seen_subscript seen_reference seen_signed
 made_or place first others = search (rules, the_lemmas)
 
-pub made_and : (place : Place) (first : Box Expr Global) (others : Vec Expr Global) → seen_expression (expr.And place first others) ≡ plain.Ands place (seen_expression first.value) (expressions (map seen_expression others.items))
+pub made_and : (place : Place) (first : Box Expr Global) (others : Vec Expr Global) → seen_expression (expr.And place first others) ≡ plain.And place (seen_expression first.value) (expressions (map seen_expression others.items))
 unfolding seen_expression seen_position seen_sub seen_subscript seen_reference seen_signed
 made_and place first others = search (rules, the_lemmas)
 
-pub made_cat : (place : Place) (first : Box Expr Global) (others : Vec Expr Global) → seen_expression (expr.Cat place first others) ≡ plain.Joined place (seen_expression first.value) (expressions (map seen_expression others.items))
+pub made_cat : (place : Place) (first : Box Expr Global) (others : Vec Expr Global) → seen_expression (expr.Cat place first others) ≡ plain.Cat place (seen_expression first.value) (expressions (map seen_expression others.items))
 unfolding seen_expression seen_position seen_sub seen_subscript seen_reference seen_signed
 made_cat place first others = search (rules, the_lemmas)
 
-pub made_product : (place : Place) (first : Box Expr Global) (others : Vec Expr Global) → seen_expression (expr.Product place first others) ≡ plain.Multiplied place (seen_expression first.value) (expressions (map seen_expression others.items))
+pub made_product : (place : Place) (first : Box Expr Global) (others : Vec Expr Global) → seen_expression (expr.Product place first others) ≡ plain.Product place (seen_expression first.value) (expressions (map seen_expression others.items))
 unfolding seen_expression seen_position seen_sub seen_subscript seen_reference seen_signed
 made_product place first others = search (rules, the_lemmas)
 
-pub made_compare : (place : Place) (left : Box Expr Global) (relation : Relation) (right : Box Expr Global) → seen_expression (expr.Compare place left relation right) ≡ plain.Compared place (seen_expression left.value) (seen_relation relation) (seen_expression right.value)
+pub made_compare : (place : Place) (left : Box Expr Global) (relation : Relation) (right : Box Expr Global) → seen_expression (expr.Compare place left relation right) ≡ plain.Compare place (seen_expression left.value) (seen_relation relation) (seen_expression right.value)
 unfolding seen_expression seen_position seen_sub seen_subscript seen_reference seen_signed
 made_compare place left relation right = search (rules, the_lemmas)
 
-pub made_sum : (place : Place) (opening : Option Sign) (first : Box Expr Global) (others : Vec SignedTerm Global) → seen_expression (expr.Sum place opening first others) ≡ plain.Summed place (option_map seen_sign opening) (seen_expression first.value) (terms (map seen_signed others.items))
+pub made_sum : (place : Place) (opening : Option Sign) (first : Box Expr Global) (others : Vec SignedTerm Global) → seen_expression (expr.Sum place opening first others) ≡ plain.Sum place (option_map seen_sign opening) (seen_expression first.value) (terms (map seen_signed others.items))
 unfolding seen_expression seen_position seen_sub seen_subscript seen_reference seen_signed
 made_sum place opening first others = search (rules, the_lemmas)
 
-pub made_power : (place : Place) (base exponent : Box Expr Global) → seen_expression (expr.Power place base exponent) ≡ plain.Powered place (seen_expression base.value) (seen_expression exponent.value)
+pub made_power : (place : Place) (base exponent : Box Expr Global) → seen_expression (expr.Power place base exponent) ≡ plain.Power place (seen_expression base.value) (seen_expression exponent.value)
 unfolding seen_expression seen_position seen_sub seen_subscript seen_reference seen_signed
 made_power place base exponent = search (rules, the_lemmas)
 
-pub made_not : (place : Place) (operand : Box Expr Global) → seen_expression (expr.Not place operand) ≡ plain.Negated place (seen_expression operand.value)
+pub made_not : (place : Place) (operand : Box Expr Global) → seen_expression (expr.Not place operand) ≡ plain.Not place (seen_expression operand.value)
 unfolding seen_expression seen_position seen_sub seen_subscript seen_reference seen_signed
 made_not place operand = search (rules, the_lemmas)
 
-pub made_literal : (place : Place) (literal : LiteralValue) → seen_expression (expr.Literal place literal) ≡ plain.Literally place (seen_literal literal)
+pub made_literal : (place : Place) (literal : LiteralValue) → seen_expression (expr.Literal place literal) ≡ plain.Literal place (seen_literal literal)
 unfolding seen_expression seen_position seen_sub seen_subscript seen_reference seen_signed
 made_literal place literal = search (rules, the_lemmas)
 
-pub made_decimal : (place : Place) (thousandths : ℕ) → seen_expression (expr.Decimal place thousandths) ≡ plain.Thousandths place thousandths
+pub made_decimal : (place : Place) (thousandths : ℕ) → seen_expression (expr.Decimal place thousandths) ≡ plain.Decimal place thousandths
 unfolding seen_expression seen_position seen_sub seen_subscript seen_reference seen_signed
 made_decimal place thousandths = search (rules, the_lemmas)
 
@@ -70,11 +70,11 @@ pub made_call : (place : Place) (name : List ℕ) (arguments : Vec Expr Global) 
 unfolding seen_expression seen_position seen_sub seen_subscript seen_reference seen_signed
 made_call place name arguments = search (rules, the_lemmas)
 
-pub made_convert : (place : Place) (conversion : Conversion) (operand : Box Expr Global) → seen_expression (expr.Convert place conversion operand) ≡ plain.Converted place (seen_conversion conversion) (seen_expression operand.value)
+pub made_convert : (place : Place) (conversion : Conversion) (operand : Box Expr Global) → seen_expression (expr.Convert place conversion operand) ≡ plain.Convert place (seen_conversion conversion) (seen_expression operand.value)
 unfolding seen_expression seen_position seen_sub seen_subscript seen_reference seen_signed
 made_convert place conversion operand = search (rules, the_lemmas)
 
-pub made_parenthesis : (place : Place) (inner : Box Expr Global) → seen_expression (expr.Parenthesis place inner) ≡ plain.Enclosed place (seen_expression inner.value)
+pub made_parenthesis : (place : Place) (inner : Box Expr Global) → seen_expression (expr.Parenthesis place inner) ≡ plain.Parenthesis place (seen_expression inner.value)
 unfolding seen_expression seen_position seen_sub seen_subscript seen_reference seen_signed
 made_parenthesis place inner = search (rules, the_lemmas)
 
@@ -86,11 +86,11 @@ pub made_from_end : (place : Place) (list : Vec SignedTerm Global) → seen_posi
 unfolding seen_expression seen_position seen_sub seen_subscript seen_reference seen_signed
 made_from_end place list = search (rules, the_lemmas)
 
-pub made_every : (place : Place) → seen_sub (sub.Every place) ≡ plain.EveryPlace place
+pub made_every : (place : Place) → seen_sub (sub.Every place) ≡ plain.Every place
 unfolding seen_expression seen_position seen_sub seen_subscript seen_reference seen_signed
 made_every place = search (rules, the_lemmas)
 
-pub made_one : (x : Position) → seen_sub (sub.One x) ≡ plain.OnePlace (seen_position x)
+pub made_one : (x : Position) → seen_sub (sub.One x) ≡ plain.One (seen_position x)
 unfolding seen_expression seen_position seen_sub seen_subscript seen_reference seen_signed
 made_one x = search (rules, the_lemmas)
 

@@ -25,11 +25,11 @@ use Rattle.hal_tree.specs.SeenLeaves.{seen_name}
 use Rattle.hal_tree.specs.SeenExpressions.{seen_expression, seen_reference}
 use Rattle.hal_tree.specs.SeenStatements.{seen_guard, seen_span, seen_selector, seen_event, seen_response, seen_start, seen_cycle, seen_schedule, seen_statement, seen_basic, seen_group, seen_alternative}
 
-pub made_while : (place : Place) (condition : Expr) → seen_guard (guard.While place condition) ≡ plain.AsLong place (seen_expression condition)
+pub made_while : (place : Place) (condition : Expr) → seen_guard (guard.While place condition) ≡ plain.While place (seen_expression condition)
 unfolding seen_guard
 made_while place condition = refl
 
-pub made_until : (place : Place) (condition : Expr) → seen_guard (guard.Until place condition) ≡ plain.Unless place (seen_expression condition)
+pub made_until : (place : Place) (condition : Expr) → seen_guard (guard.Until place condition) ≡ plain.Until place (seen_expression condition)
 unfolding seen_guard
 made_until place condition = refl
 
@@ -81,59 +81,59 @@ pub parts_of_group : (g : Group) → seen_group g ≡ plain.Groups (statements (
 unfolding seen_statement seen_basic seen_group
 parts_of_group g = search (rules, the_lemmas)
 
-pub made_null : (place : Place) → seen_basic (basic.Null place) ≡ plain.Empty place
+pub made_null : (place : Place) → seen_basic (basic.Null place) ≡ plain.Null place
 unfolding seen_statement seen_basic seen_group
 made_null place = search (rules, the_lemmas)
 
-pub made_assignment : (place : Place) (receivers : Vec Reference Global) (value : Expr) → seen_basic (basic.Assignment place receivers value) ≡ plain.Assigned place (map seen_reference receivers.items) (seen_expression value)
+pub made_assignment : (place : Place) (receivers : Vec Reference Global) (value : Expr) → seen_basic (basic.Assignment place receivers value) ≡ plain.Assignment place (map seen_reference receivers.items) (seen_expression value)
 unfolding seen_statement seen_basic seen_group
 made_assignment place receivers value = search (rules, the_lemmas)
 
-pub made_if : (place : Place) (condition : Expr) (consequence : Box Statement Global) (other : Option (Box Statement Global)) → seen_basic (basic.If place condition consequence other) ≡ plain.Chosen place (seen_expression condition) (seen_statement consequence.value) (seen_alternative other)
+pub made_if : (place : Place) (condition : Expr) (consequence : Box Statement Global) (other : Option (Box Statement Global)) → seen_basic (basic.If place condition consequence other) ≡ plain.If place (seen_expression condition) (seen_statement consequence.value) (seen_alternative other)
 unfolding seen_statement seen_basic seen_group
 made_if place condition consequence other = search (rules, the_lemmas)
 
-pub made_do : (place : Place) (group : Group) → seen_basic (basic.Do place group) ≡ plain.Grouped place (seen_group group)
+pub made_do : (place : Place) (group : Group) → seen_basic (basic.Do place group) ≡ plain.Do place (seen_group group)
 unfolding seen_statement seen_basic seen_group
 made_do place group = search (rules, the_lemmas)
 
-pub made_do_case : (place : Place) (selector : Expr) (other : Option (Box Statement Global)) (group : Group) → seen_basic (basic.DoCase place selector other group) ≡ plain.Selected place (seen_expression selector) (seen_alternative other) (seen_group group)
+pub made_do_case : (place : Place) (selector : Expr) (other : Option (Box Statement Global)) (group : Group) → seen_basic (basic.DoCase place selector other group) ≡ plain.DoCase place (seen_expression selector) (seen_alternative other) (seen_group group)
 unfolding seen_statement seen_basic seen_group
 made_do_case place selector other group = search (rules, the_lemmas)
 
-pub made_do_loop : (place : Place) (guard : Guard) (group : Group) → seen_basic (basic.DoLoop place guard group) ≡ plain.Looped place (seen_guard guard) (seen_group group)
+pub made_do_loop : (place : Place) (guard : Guard) (group : Group) → seen_basic (basic.DoLoop place guard group) ≡ plain.DoLoop place (seen_guard guard) (seen_group group)
 unfolding seen_statement seen_basic seen_group
 made_do_loop place guard group = search (rules, the_lemmas)
 
-pub made_do_for : (place : Place) (temporary : Bool) (variable : Identifier) (span : Span) (guard : Option Guard) (group : Group) → seen_basic (basic.DoFor place temporary variable span guard group) ≡ plain.Ranged place temporary (seen_name variable) (seen_span span) (option_map seen_guard guard) (seen_group group)
+pub made_do_for : (place : Place) (temporary : Bool) (variable : Identifier) (span : Span) (guard : Option Guard) (group : Group) → seen_basic (basic.DoFor place temporary variable span guard group) ≡ plain.DoFor place temporary (seen_name variable) (seen_span span) (option_map seen_guard guard) (seen_group group)
 unfolding seen_statement seen_basic seen_group
 made_do_for place temporary variable span guard group = search (rules, the_lemmas)
 
-pub made_exit : (place : Place) (label : Option Identifier) → seen_basic (basic.Exit place label) ≡ plain.Left place (option_map seen_name label)
+pub made_exit : (place : Place) (label : Option Identifier) → seen_basic (basic.Exit place label) ≡ plain.Exit place (option_map seen_name label)
 unfolding seen_statement seen_basic seen_group
 made_exit place label = search (rules, the_lemmas)
 
-pub made_repeat : (place : Place) (label : Option Identifier) → seen_basic (basic.Repeat place label) ≡ plain.Repeated place (option_map seen_name label)
+pub made_repeat : (place : Place) (label : Option Identifier) → seen_basic (basic.Repeat place label) ≡ plain.Repeat place (option_map seen_name label)
 unfolding seen_statement seen_basic seen_group
 made_repeat place label = search (rules, the_lemmas)
 
-pub made_return : (place : Place) (value : Option Expr) → seen_basic (basic.Return place value) ≡ plain.Returned place (option_map seen_expression value)
+pub made_return : (place : Place) (value : Option Expr) → seen_basic (basic.Return place value) ≡ plain.Return place (option_map seen_expression value)
 unfolding seen_statement seen_basic seen_group
 made_return place value = search (rules, the_lemmas)
 
-pub made_call_statement : (place : Place) (name : Identifier) (arguments : Vec Expr Global) (receivers : Vec Reference Global) → seen_basic (basic.Call place name arguments receivers) ≡ plain.CallsBlock place (seen_name name) (expressions (map seen_expression arguments.items)) (map seen_reference receivers.items)
+pub made_call_statement : (place : Place) (name : Identifier) (arguments : Vec Expr Global) (receivers : Vec Reference Global) → seen_basic (basic.Call place name arguments receivers) ≡ plain.Call place (seen_name name) (expressions (map seen_expression arguments.items)) (map seen_reference receivers.items)
 unfolding seen_statement seen_basic seen_group
 made_call_statement place name arguments receivers = search (rules, the_lemmas)
 
-pub made_read : (place : Place) (channel : Expr) (receivers : Vec Reference Global) → seen_basic (basic.Read place channel receivers) ≡ plain.Inputs place (seen_expression channel) (map seen_reference receivers.items)
+pub made_read : (place : Place) (channel : Expr) (receivers : Vec Reference Global) → seen_basic (basic.Read place channel receivers) ≡ plain.Read place (seen_expression channel) (map seen_reference receivers.items)
 unfolding seen_statement seen_basic seen_group
 made_read place channel receivers = search (rules, the_lemmas)
 
-pub made_write : (place : Place) (channel : Expr) (items : Vec Expr Global) → seen_basic (basic.Write place channel items) ≡ plain.Outputs place (seen_expression channel) (expressions (map seen_expression items.items))
+pub made_write : (place : Place) (channel : Expr) (items : Vec Expr Global) → seen_basic (basic.Write place channel items) ≡ plain.Write place (seen_expression channel) (expressions (map seen_expression items.items))
 unfolding seen_statement seen_basic seen_group
 made_write place channel items = search (rules, the_lemmas)
 
-pub made_update : (place : Place) (body : Vec Statement Global) (close : Option Identifier) → seen_basic (basic.Update place body close) ≡ plain.Updates place (statements (map seen_statement body.items)) (option_map seen_name close)
+pub made_update : (place : Place) (body : Vec Statement Global) (close : Option Identifier) → seen_basic (basic.Update place body close) ≡ plain.Update place (statements (map seen_statement body.items)) (option_map seen_name close)
 unfolding seen_statement seen_basic seen_group
 made_update place body close = search (rules, the_lemmas)
 
@@ -141,50 +141,50 @@ pub made_schedule_statement : (place : Place) (schedule : Schedule) → seen_bas
 unfolding seen_statement seen_basic seen_group
 made_schedule_statement place schedule = search (rules, the_lemmas)
 
-pub made_cancel : (place : Place) (names : Vec Identifier Global) → seen_basic (basic.Cancel place names) ≡ plain.Cancelled place (map seen_name names.items)
+pub made_cancel : (place : Place) (names : Vec Identifier Global) → seen_basic (basic.Cancel place names) ≡ plain.Cancel place (map seen_name names.items)
 unfolding seen_statement seen_basic seen_group
 made_cancel place names = search (rules, the_lemmas)
 
-pub made_terminate : (place : Place) (names : Vec Identifier Global) → seen_basic (basic.Terminate place names) ≡ plain.Terminated place (map seen_name names.items)
+pub made_terminate : (place : Place) (names : Vec Identifier Global) → seen_basic (basic.Terminate place names) ≡ plain.Terminate place (map seen_name names.items)
 unfolding seen_statement seen_basic seen_group
 made_terminate place names = search (rules, the_lemmas)
 
-pub made_wait : (place : Place) (time : Expr) → seen_basic (basic.Wait place time) ≡ plain.Waits place (seen_expression time)
+pub made_wait : (place : Place) (time : Expr) → seen_basic (basic.Wait place time) ≡ plain.Wait place (seen_expression time)
 unfolding seen_statement seen_basic seen_group
 made_wait place time = search (rules, the_lemmas)
 
-pub made_wait_until : (place : Place) (time : Expr) → seen_basic (basic.WaitUntil place time) ≡ plain.WaitsUntil place (seen_expression time)
+pub made_wait_until : (place : Place) (time : Expr) → seen_basic (basic.WaitUntil place time) ≡ plain.WaitUntil place (seen_expression time)
 unfolding seen_statement seen_basic seen_group
 made_wait_until place time = search (rules, the_lemmas)
 
-pub made_wait_for_dependent : (place : Place) → seen_basic (basic.WaitForDependent place) ≡ plain.WaitsForDependents place
+pub made_wait_for_dependent : (place : Place) → seen_basic (basic.WaitForDependent place) ≡ plain.WaitForDependent place
 unfolding seen_statement seen_basic seen_group
 made_wait_for_dependent place = search (rules, the_lemmas)
 
-pub made_wait_for : (place : Place) (event : Expr) → seen_basic (basic.WaitFor place event) ≡ plain.WaitsFor place (seen_expression event)
+pub made_wait_for : (place : Place) (event : Expr) → seen_basic (basic.WaitFor place event) ≡ plain.WaitFor place (seen_expression event)
 unfolding seen_statement seen_basic seen_group
 made_wait_for place event = search (rules, the_lemmas)
 
-pub made_event : (event : EventChange) → seen_basic (basic.Event event) ≡ plain.Acts (seen_event event)
+pub made_event : (event : EventChange) → seen_basic (basic.Event event) ≡ plain.Event (seen_event event)
 unfolding seen_statement seen_basic seen_group
 made_event event = search (rules, the_lemmas)
 
-pub made_update_priority : (place : Place) (name : Option Identifier) (priority : Expr) → seen_basic (basic.UpdatePriority place name priority) ≡ plain.Prioritizes place (option_map seen_name name) (seen_expression priority)
+pub made_update_priority : (place : Place) (name : Option Identifier) (priority : Expr) → seen_basic (basic.UpdatePriority place name priority) ≡ plain.UpdatePriority place (option_map seen_name name) (seen_expression priority)
 unfolding seen_statement seen_basic seen_group
 made_update_priority place name priority = search (rules, the_lemmas)
 
-pub made_on_error_statement : (place : Place) (selector : Selector) (handler : Box Statement Global) → seen_basic (basic.OnErrorStatement place selector handler) ≡ plain.Handles place (seen_selector selector) (seen_statement handler.value)
+pub made_on_error_statement : (place : Place) (selector : Selector) (handler : Box Statement Global) → seen_basic (basic.OnErrorStatement place selector handler) ≡ plain.OnErrorStatement place (seen_selector selector) (seen_statement handler.value)
 unfolding seen_statement seen_basic seen_group
 made_on_error_statement place selector handler = search (rules, the_lemmas)
 
-pub made_on_error_response : (place : Place) (selector : Selector) (response : Response) (event : Option EventChange) → seen_basic (basic.OnErrorResponse place selector response event) ≡ plain.Answers place (seen_selector selector) (seen_response response) (option_map seen_event event)
+pub made_on_error_response : (place : Place) (selector : Selector) (response : Response) (event : Option EventChange) → seen_basic (basic.OnErrorResponse place selector response event) ≡ plain.OnErrorResponse place (seen_selector selector) (seen_response response) (option_map seen_event event)
 unfolding seen_statement seen_basic seen_group
 made_on_error_response place selector response event = search (rules, the_lemmas)
 
-pub made_off_error : (place : Place) (selector : Selector) → seen_basic (basic.OffError place selector) ≡ plain.Forgets place (seen_selector selector)
+pub made_off_error : (place : Place) (selector : Selector) → seen_basic (basic.OffError place selector) ≡ plain.OffError place (seen_selector selector)
 unfolding seen_statement seen_basic seen_group
 made_off_error place selector = search (rules, the_lemmas)
 
-pub made_send_error : (place : Place) (group number : ℕ) → seen_basic (basic.SendError place group number) ≡ plain.Sends place group number
+pub made_send_error : (place : Place) (group number : ℕ) → seen_basic (basic.SendError place group number) ≡ plain.SendError place group number
 unfolding seen_statement seen_basic seen_group
 made_send_error place group number = search (rules, the_lemmas)

@@ -34,23 +34,23 @@ pub made_typed_returns : (kind : rust-type.Type) (precision : Option Precision) 
 unfolding seen_returns
 made_typed_returns kind precision = refl
 
-pub made_program : (place : Place) → seen_head (head.Program place) ≡ plain.ProgramHead place
+pub made_program : (place : Place) → seen_head (head.Program place) ≡ plain.Program place
 unfolding seen_head
 made_program place = refl
 
-pub made_compool : (place : Place) → seen_head (head.Compool place) ≡ plain.CompoolHead place
+pub made_compool : (place : Place) → seen_head (head.Compool place) ≡ plain.Compool place
 unfolding seen_head
 made_compool place = refl
 
-pub made_task : (place : Place) → seen_head (head.Task place) ≡ plain.TaskHead place
+pub made_task : (place : Place) → seen_head (head.Task place) ≡ plain.Task place
 unfolding seen_head
 made_task place = refl
 
-pub made_procedure : (place : Place) (inputs outputs : Vec Identifier Global) (mode : Option Mode) → seen_head (head.Procedure place inputs outputs mode) ≡ plain.ProcedureHead place (map seen_name inputs.items) (map seen_name outputs.items) (option_map seen_mode mode)
+pub made_procedure : (place : Place) (inputs outputs : Vec Identifier Global) (mode : Option Mode) → seen_head (head.Procedure place inputs outputs mode) ≡ plain.Procedure place (map seen_name inputs.items) (map seen_name outputs.items) (option_map seen_mode mode)
 unfolding seen_head
 made_procedure place inputs outputs mode = refl
 
-pub made_function : (place : Place) (inputs : Vec Identifier Global) (kind : Returns) (mode : Option Mode) → seen_head (head.Function place inputs kind mode) ≡ plain.FunctionHead place (map seen_name inputs.items) (seen_returns kind) (option_map seen_mode mode)
+pub made_function : (place : Place) (inputs : Vec Identifier Global) (kind : Returns) (mode : Option Mode) → seen_head (head.Function place inputs kind mode) ≡ plain.Function place (map seen_name inputs.items) (seen_returns kind) (option_map seen_mode mode)
 unfolding seen_head
 made_function place inputs kind mode = refl
 
@@ -74,7 +74,7 @@ pub made_template : (t : Template) → seen_template t ≡ plain.template_of (se
 unfolding seen_template
 made_template t = refl
 
-pub made_include : (place : Place) (name : Identifier) → seen_preface (preface.Include place name) ≡ plain.Includes place (seen_name name)
+pub made_include : (place : Place) (name : Identifier) → seen_preface (preface.Include place name) ≡ plain.Include place (seen_name name)
 unfolding seen_preface
 made_include place name = refl
 

@@ -14,20 +14,20 @@ use Rattle.hal_tree.specs.declared.declaration.Declared as rust-declared
 use Rattle.hal_tree.specs.declared.declaration.Part as rust-part
 use Rattle.hal_tree.specs.declared.declaration.Declaration as rust-declaration
 use Rattle.hal_tree.specs.declared.declaration.Declaration.TheVariants as declaration
-use Rattle.hal_grammar.specs.Declarations.{Mark, SingleMark, DoubleMark, LatchedMark, StaticMark, AutomaticMark, DenseMark, AlignedMark, Kind, IntegerKind, BooleanKind, EventKind, BitKind, CharacterKind, StructureKind, Initial, Valued, LiteralTimes, NameTimes, ListTimes, Attribute, Dimensions, Typed, Marked, LockGroup, LockAny, InitialValues, ConstantValues, Declared, declared_of, Part, part_of, Declaration, Declares, Structures}
+use Rattle.hal_grammar.specs.Declarations.{Mark, Single, Double, Latched, Static, Automatic, Dense, Aligned, Kind, IntegerKind, BooleanKind, EventKind, BitKind, CharacterKind, StructureKind, Initial, Value, LiteralTimes, NameTimes, ListTimes, Attribute, Dimensions, Typed, Marked, LockGroup, LockAny, InitialValues, ConstantValues, Declared, declared_of, Part, part_of, Declaration, Declare, Structure}
 use Rattle.hal_tree.specs.Rows.{expressions, initials}
 use Rattle.hal_tree.specs.SeenLeaves.{seen_name, seen_sign, seen_literal}
 use Rattle.hal_tree.specs.SeenExpressions.{seen_expression}
 
 -- an attribute of one word
 abbrev pub seen_mark : rust-mark.Mark → Mark
-seen_mark mark.Single = SingleMark
-seen_mark mark.Double = DoubleMark
-seen_mark mark.Latched = LatchedMark
-seen_mark mark.Static = StaticMark
-seen_mark mark.Automatic = AutomaticMark
-seen_mark mark.Dense = DenseMark
-seen_mark mark.Aligned = AlignedMark
+seen_mark mark.Single = Single
+seen_mark mark.Double = Double
+seen_mark mark.Latched = Latched
+seen_mark mark.Static = Static
+seen_mark mark.Automatic = Automatic
+seen_mark mark.Dense = Dense
+seen_mark mark.Aligned = Aligned
 
 -- a type
 unfoldable pub seen_type : rust-type.Type → Kind
@@ -40,7 +40,7 @@ seen_type (type.Structure place template copies) = StructureKind place template 
 
 -- an initial value, where those in its list are seen already
 abbrev pub initial_step : Initial-F Initial → Initial
-initial_step (Initial-F.Value value) = Valued (seen_expression value)
+initial_step (Initial-F.Value value) = Value (seen_expression value)
 initial_step (Initial-F.LiteralTimes place count sign at literal) = LiteralTimes place count (option_map seen_sign sign) at (seen_literal literal)
 initial_step (Initial-F.NameTimes place count sign name) = NameTimes place count (option_map seen_sign sign) (seen_name name)
 initial_step (Initial-F.ListTimes place count values) = ListTimes place count (initials values.items)
@@ -69,5 +69,5 @@ seen_part part = part_of part.place part.level (seen_name part.name) (map seen_a
 
 -- a declaration
 unfoldable pub seen_declaration : rust-declaration.Declaration → Declaration
-seen_declaration (declaration.Declare place common items) = Declares place (map seen_attribute common.items) (map seen_declared items.items)
-seen_declaration (declaration.Structure place name parts) = Structures place (seen_name name) (map seen_part parts.items)
+seen_declaration (declaration.Declare place common items) = Declare place (map seen_attribute common.items) (map seen_declared items.items)
+seen_declaration (declaration.Structure place name parts) = Structure place (seen_name name) (map seen_part parts.items)

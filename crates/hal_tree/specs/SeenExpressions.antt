@@ -13,26 +13,26 @@ use Rattle.hal_tree.specs.declared.expression.Reference as rust-reference
 use Rattle.hal_tree.specs.declared.expression.SignedTerm.{fold-SignedTerm}
 use Rattle.hal_tree.specs.declared.expression.SignedTerm as rust-term
 use Rattle.hal_tree.specs.declared.expression.Expr.TheOpen.{Expr-F, Position-F, Sub-F, Subscript-F, Reference-F, SignedTerm-F}
-use Rattle.hal_grammar.specs.Expressions.{Expression, Ors, Ands, Compared, Joined, Summed, Multiplied, Powered, Negated, Literally, Thousandths, Referred, Called, Converted, Enclosed, Reference, Refers, Subscript, Unsubscripted, ByName, ByInteger, ByParts, Sub, EveryPlace, OnePlace, Range, Portion, Position, FromBeginning, FromEnd}
+use Rattle.hal_grammar.specs.Expressions.{Expression, Or, And, Compare, Cat, Sum, Product, Power, Not, Literal, Decimal, Referred, Called, Convert, Parenthesis, Reference, Refers, Subscript, Unsubscripted, ByName, ByInteger, ByParts, Sub, Every, One, Range, Portion, Position, FromBeginning, FromEnd}
 use Rattle.hal_tree.specs.Rows.{expressions, SignedTerm, terms, subscripts}
 use Rattle.hal_tree.specs.SeenLeaves.{seen_name, seen_sign, seen_relation, seen_conversion, seen_literal}
 
 -- an expression
 abbrev pub expression_step : Expr-F Expression Position Sub Subscript Reference SignedTerm → Expression
-expression_step (Expr-F.Or place first others) = Ors place first.value (expressions others.items)
-expression_step (Expr-F.And place first others) = Ands place first.value (expressions others.items)
-expression_step (Expr-F.Compare place left relation right) = Compared place left.value (seen_relation relation) right.value
-expression_step (Expr-F.Cat place first others) = Joined place first.value (expressions others.items)
-expression_step (Expr-F.Sum place opening first others) = Summed place (option_map seen_sign opening) first.value (terms others.items)
-expression_step (Expr-F.Product place first others) = Multiplied place first.value (expressions others.items)
-expression_step (Expr-F.Power place base exponent) = Powered place base.value exponent.value
-expression_step (Expr-F.Not place operand) = Negated place operand.value
-expression_step (Expr-F.Literal place literal) = Literally place (seen_literal literal)
-expression_step (Expr-F.Decimal place thousandths) = Thousandths place thousandths
+expression_step (Expr-F.Or place first others) = Or place first.value (expressions others.items)
+expression_step (Expr-F.And place first others) = And place first.value (expressions others.items)
+expression_step (Expr-F.Compare place left relation right) = Compare place left.value (seen_relation relation) right.value
+expression_step (Expr-F.Cat place first others) = Cat place first.value (expressions others.items)
+expression_step (Expr-F.Sum place opening first others) = Sum place (option_map seen_sign opening) first.value (terms others.items)
+expression_step (Expr-F.Product place first others) = Product place first.value (expressions others.items)
+expression_step (Expr-F.Power place base exponent) = Power place base.value exponent.value
+expression_step (Expr-F.Not place operand) = Not place operand.value
+expression_step (Expr-F.Literal place literal) = Literal place (seen_literal literal)
+expression_step (Expr-F.Decimal place thousandths) = Decimal place thousandths
 expression_step (Expr-F.Reference reference) = Referred reference
 expression_step (Expr-F.Call place name arguments) = Called place name (expressions arguments.items)
-expression_step (Expr-F.Convert place conversion operand) = Converted place (seen_conversion conversion) operand.value
-expression_step (Expr-F.Parenthesis place inner) = Enclosed place inner.value
+expression_step (Expr-F.Convert place conversion operand) = Convert place (seen_conversion conversion) operand.value
+expression_step (Expr-F.Parenthesis place inner) = Parenthesis place inner.value
 
 -- a place
 abbrev pub position_step : Position-F Expression Position Sub Subscript Reference SignedTerm → Position
@@ -41,8 +41,8 @@ position_step (Position-F.FromEnd place list) = FromEnd place (terms list.items)
 
 -- one subscript
 abbrev pub sub_step : Sub-F Expression Position Sub Subscript Reference SignedTerm → Sub
-sub_step (Sub-F.Every place) = EveryPlace place
-sub_step (Sub-F.One position) = OnePlace position
+sub_step (Sub-F.Every place) = Every place
+sub_step (Sub-F.One position) = One position
 sub_step (Sub-F.Range first last) = Range first last
 sub_step (Sub-F.Portion count first) = Portion count first
 

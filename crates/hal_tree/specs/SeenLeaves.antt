@@ -16,19 +16,19 @@ seen_name x = plain.naming x.place x.name
 
 -- a sign
 abbrev pub seen_sign : Sign → plain.Sign
-seen_sign sign.Plus = plain.Added
-seen_sign sign.Minus = plain.Subtracted
+seen_sign sign.Plus = plain.Plus
+seen_sign sign.Minus = plain.Minus
 
 -- a relation
 abbrev pub seen_relation : Relation → plain.Relation
-seen_relation relation.Equal = plain.IsEqual
-seen_relation relation.Less = plain.IsLess
-seen_relation relation.Greater = plain.IsGreater
-seen_relation relation.AtMost = plain.IsAtMost
-seen_relation relation.AtLeast = plain.IsAtLeast
-seen_relation relation.NotEqual = plain.IsNotEqual
-seen_relation relation.NotLess = plain.IsNotLess
-seen_relation relation.NotGreater = plain.IsNotGreater
+seen_relation relation.Equal = plain.Equal
+seen_relation relation.Less = plain.Less
+seen_relation relation.Greater = plain.Greater
+seen_relation relation.AtMost = plain.AtMost
+seen_relation relation.AtLeast = plain.AtLeast
+seen_relation relation.NotEqual = plain.NotEqual
+seen_relation relation.NotLess = plain.NotLess
+seen_relation relation.NotGreater = plain.NotGreater
 
 -- a conversion
 abbrev pub seen_conversion : Conversion → plain.Conversion
@@ -37,11 +37,11 @@ seen_conversion conversion.Bit = plain.ToBits
 seen_conversion conversion.Character = plain.ToText
 
 -- a literal
-abbrev pub seen_literal : LiteralValue → plain.Literal
-seen_literal (literal.Integer n) = plain.WholeNumber n
-seen_literal (literal.Text text) = plain.QuotedText text
-seen_literal (literal.Bits len word) = plain.BitPattern len word
-seen_literal literal.True = plain.TrueBit
-seen_literal literal.False = plain.FalseBit
-seen_literal literal.On = plain.OnBit
-seen_literal literal.Off = plain.OffBit
+abbrev pub seen_literal : LiteralValue → plain.LiteralValue
+seen_literal (literal.Integer n) = plain.Integer n
+seen_literal (literal.Text text) = plain.Text text
+seen_literal (literal.Bits len word) = plain.Bits len word
+seen_literal literal.True = plain.True
+seen_literal literal.False = plain.False
+seen_literal literal.On = plain.On
+seen_literal literal.Off = plain.Off

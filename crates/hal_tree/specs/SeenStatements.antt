@@ -25,15 +25,15 @@ use Rattle.hal_tree.specs.declared.statement.Basic as rust-basic
 use Rattle.hal_tree.specs.declared.statement.Group.{fold-Group}
 use Rattle.hal_tree.specs.declared.statement.Group as rust-group
 use Rattle.hal_tree.specs.declared.statement.Basic.TheOpen.{Basic-F, Group-F, Statement-F}
-use Rattle.hal_grammar.specs.Statements.{Guard, AsLong, Unless, Span, Stepped, Listed, Selector, EveryError, GroupErrors, OneError, EventAction, Pulses, Raises, Lowers, Eventful, eventful, Response, BySystem, Ignored, Start, StartAt, StartIn, StartOn, Cycle, Cyclic, CyclicEvery, CyclicAfter, Schedule, scheduling, Statement, Labelled, Basic, Empty, Assigned, Chosen, Grouped, Selected, Looped, Ranged, Left, Repeated, Returned, CallsBlock, Inputs, Outputs, Updates, Scheduled, Cancelled, Terminated, Waits, WaitsUntil, WaitsForDependents, WaitsFor, Acts, Prioritizes, Handles, Answers, Forgets, Sends, Alternative, Group, Groups}
+use Rattle.hal_grammar.specs.Statements.{Guard, While, Until, Span, Stepped, Listed, Selector, EveryError, GroupErrors, OneError, EventAction, Signal, Set, Reset, Eventful, eventful, Response, System, Ignore, Start, StartAt, StartIn, StartOn, Cycle, Cyclic, CyclicEvery, CyclicAfter, Schedule, scheduling, Statement, Labelled, Basic, Null, Assignment, If, Do, DoCase, DoLoop, DoFor, Exit, Repeat, Return, Call, Read, Write, Update, Scheduled, Cancel, Terminate, Wait, WaitUntil, WaitForDependent, WaitFor, Event, UpdatePriority, OnErrorStatement, OnErrorResponse, OffError, SendError, Alternative, Group, Groups}
 use Rattle.hal_tree.specs.Rows.{expressions, statements, alternative}
 use Rattle.hal_tree.specs.SeenLeaves.{seen_name}
 use Rattle.hal_tree.specs.SeenExpressions.{seen_expression, seen_reference}
 
 -- WHILE or UNTIL, and a condition
 unfoldable pub seen_guard : rust-guard.Guard → Guard
-seen_guard (guard.While place condition) = AsLong place (seen_expression condition)
-seen_guard (guard.Until place condition) = Unless place (seen_expression condition)
+seen_guard (guard.While place condition) = While place (seen_expression condition)
+seen_guard (guard.Until place condition) = Until place (seen_expression condition)
 
 -- the values of a loop's variable
 unfoldable pub seen_span : rust-span.Span → Span
@@ -48,9 +48,9 @@ seen_selector (selector.One place group number) = OneError place group number
 
 -- SIGNAL, SET, RESET
 abbrev pub seen_action : rust-action.EventAction → EventAction
-seen_action action.Signal = Pulses
-seen_action action.Set = Raises
-seen_action action.Reset = Lowers
+seen_action action.Signal = Signal
+seen_action action.Set = Set
+seen_action action.Reset = Reset
 
 -- an event and what happens to it
 abbrev pub seen_event : EventChange → Eventful
@@ -58,8 +58,8 @@ seen_event event = eventful event.place (seen_action event.action) (seen_name ev
 
 -- SYSTEM or IGNORE
 abbrev pub seen_response : rust-response.Response → Response
-seen_response response.System = BySystem
-seen_response response.Ignore = Ignored
+seen_response response.System = System
+seen_response response.Ignore = Ignore
 
 -- when a process starts
 unfoldable pub seen_start : rust-start.Start → Start
@@ -84,34 +84,34 @@ held box = box.value
 
 -- a statement without labels, where what stands below is seen already
 abbrev pub basic_step : Basic-F Basic Group Statement → Basic
-basic_step (Basic-F.Null place) = Empty place
-basic_step (Basic-F.Assignment place receivers value) = Assigned place (map seen_reference receivers.items) (seen_expression value)
-basic_step (Basic-F.If place condition consequence other) = Chosen place (seen_expression condition) consequence.value (alternative (option_map held other))
-basic_step (Basic-F.Do place group) = Grouped place group
-basic_step (Basic-F.DoCase place selector other group) = Selected place (seen_expression selector) (alternative (option_map held other)) group
-basic_step (Basic-F.DoLoop place guard group) = Looped place (seen_guard guard) group
-basic_step (Basic-F.DoFor place temporary variable span guard group) = Ranged place temporary (seen_name variable) (seen_span span) (option_map seen_guard guard) group
-basic_step (Basic-F.Exit place label) = Left place (option_map seen_name label)
-basic_step (Basic-F.Repeat place label) = Repeated place (option_map seen_name label)
-basic_step (Basic-F.Return place value) = Returned place (option_map seen_expression value)
+basic_step (Basic-F.Null place) = Null place
+basic_step (Basic-F.Assignment place receivers value) = Assignment place (map seen_reference receivers.items) (seen_expression value)
+basic_step (Basic-F.If place condition consequence other) = If place (seen_expression condition) consequence.value (alternative (option_map held other))
+basic_step (Basic-F.Do place group) = Do place group
+basic_step (Basic-F.DoCase place selector other group) = DoCase place (seen_expression selector) (alternative (option_map held other)) group
+basic_step (Basic-F.DoLoop place guard group) = DoLoop place (seen_guard guard) group
+basic_step (Basic-F.DoFor place temporary variable span guard group) = DoFor place temporary (seen_name variable) (seen_span span) (option_map seen_guard guard) group
+basic_step (Basic-F.Exit place label) = Exit place (option_map seen_name label)
+basic_step (Basic-F.Repeat place label) = Repeat place (option_map seen_name label)
+basic_step (Basic-F.Return place value) = Return place (option_map seen_expression value)
 basic_step (Basic-F.Call place name arguments receivers) =
-    CallsBlock place (seen_name name) (expressions (map seen_expression arguments.items)) (map seen_reference receivers.items)
-basic_step (Basic-F.Read place channel receivers) = Inputs place (seen_expression channel) (map seen_reference receivers.items)
-basic_step (Basic-F.Write place channel items) = Outputs place (seen_expression channel) (expressions (map seen_expression items.items))
-basic_step (Basic-F.Update place body close) = Updates place (statements body.items) (option_map seen_name close)
+    Call place (seen_name name) (expressions (map seen_expression arguments.items)) (map seen_reference receivers.items)
+basic_step (Basic-F.Read place channel receivers) = Read place (seen_expression channel) (map seen_reference receivers.items)
+basic_step (Basic-F.Write place channel items) = Write place (seen_expression channel) (expressions (map seen_expression items.items))
+basic_step (Basic-F.Update place body close) = Update place (statements body.items) (option_map seen_name close)
 basic_step (Basic-F.Schedule place schedule) = Scheduled place (seen_schedule schedule)
-basic_step (Basic-F.Cancel place names) = Cancelled place (map seen_name names.items)
-basic_step (Basic-F.Terminate place names) = Terminated place (map seen_name names.items)
-basic_step (Basic-F.Wait place time) = Waits place (seen_expression time)
-basic_step (Basic-F.WaitUntil place time) = WaitsUntil place (seen_expression time)
-basic_step (Basic-F.WaitForDependent place) = WaitsForDependents place
-basic_step (Basic-F.WaitFor place event) = WaitsFor place (seen_expression event)
-basic_step (Basic-F.Event event) = Acts (seen_event event)
-basic_step (Basic-F.UpdatePriority place name priority) = Prioritizes place (option_map seen_name name) (seen_expression priority)
-basic_step (Basic-F.OnErrorStatement place selector handler) = Handles place (seen_selector selector) handler.value
-basic_step (Basic-F.OnErrorResponse place selector response event) = Answers place (seen_selector selector) (seen_response response) (option_map seen_event event)
-basic_step (Basic-F.OffError place selector) = Forgets place (seen_selector selector)
-basic_step (Basic-F.SendError place group number) = Sends place group number
+basic_step (Basic-F.Cancel place names) = Cancel place (map seen_name names.items)
+basic_step (Basic-F.Terminate place names) = Terminate place (map seen_name names.items)
+basic_step (Basic-F.Wait place time) = Wait place (seen_expression time)
+basic_step (Basic-F.WaitUntil place time) = WaitUntil place (seen_expression time)
+basic_step (Basic-F.WaitForDependent place) = WaitForDependent place
+basic_step (Basic-F.WaitFor place event) = WaitFor place (seen_expression event)
+basic_step (Basic-F.Event event) = Event (seen_event event)
+basic_step (Basic-F.UpdatePriority place name priority) = UpdatePriority place (option_map seen_name name) (seen_expression priority)
+basic_step (Basic-F.OnErrorStatement place selector handler) = OnErrorStatement place (seen_selector selector) handler.value
+basic_step (Basic-F.OnErrorResponse place selector response event) = OnErrorResponse place (seen_selector selector) (seen_response response) (option_map seen_event event)
+basic_step (Basic-F.OffError place selector) = OffError place (seen_selector selector)
+basic_step (Basic-F.SendError place group number) = SendError place group number
 
 -- a group
 abbrev pub group_step : Group-F Basic Group Statement → Group

@@ -16,7 +16,7 @@ use Rattle.hal_tree.specs.declared.unit.Template as rust-template
 use Rattle.hal_tree.specs.declared.unit.Preface as rust-preface
 use Rattle.hal_tree.specs.declared.unit.Preface.TheVariants as preface
 use Rattle.hal_tree.specs.declared.unit.File as rust-file
-use Rattle.hal_grammar.specs.Units.{Mode, Reenters, Excludes, Precision, SinglePrecision, DoublePrecision, Returns, NoKind, HasKind, Head, ProgramHead, CompoolHead, TaskHead, ProcedureHead, FunctionHead, Block, BlockOf, Template, template_of, Preface, Includes, Templates, File, file_of}
+use Rattle.hal_grammar.specs.Units.{Mode, Reentrant, Exclusive, Precision, SinglePrecision, DoublePrecision, Returns, NoKind, HasKind, Head, Program, Compool, Task, Procedure, Function, Block, BlockOf, Template, template_of, Preface, Include, Templates, File, file_of}
 use Rattle.hal_tree.specs.Rows.{Member, OfStatement, OfBlock, elements}
 use Rattle.hal_tree.specs.SeenLeaves.{seen_name}
 use Rattle.hal_tree.specs.SeenDeclarations.{seen_type, seen_declaration}
@@ -24,8 +24,8 @@ use Rattle.hal_tree.specs.SeenStatements.{seen_statement}
 
 -- REENTRANT or EXCLUSIVE
 abbrev pub seen_mode : rust-mode.Mode → Mode
-seen_mode (mode.Reentrant place) = Reenters place
-seen_mode (mode.Exclusive place) = Excludes place
+seen_mode (mode.Reentrant place) = Reentrant place
+seen_mode (mode.Exclusive place) = Exclusive place
 
 -- SINGLE or DOUBLE
 abbrev pub seen_precision : rust-precision.Precision → Precision
@@ -39,12 +39,12 @@ seen_returns (returns.Typed kind precision) = HasKind (seen_type kind) (option_m
 
 -- the head of a unit
 unfoldable pub seen_head : rust-head.Head → Head
-seen_head (head.Program place) = ProgramHead place
-seen_head (head.Compool place) = CompoolHead place
-seen_head (head.Task place) = TaskHead place
-seen_head (head.Procedure place inputs outputs mode) = ProcedureHead place (map seen_name inputs.items) (map seen_name outputs.items) (option_map seen_mode mode)
+seen_head (head.Program place) = Program place
+seen_head (head.Compool place) = Compool place
+seen_head (head.Task place) = Task place
+seen_head (head.Procedure place inputs outputs mode) = Procedure place (map seen_name inputs.items) (map seen_name outputs.items) (option_map seen_mode mode)
 seen_head (head.Function place inputs returns mode) =
-    FunctionHead place (map seen_name inputs.items) (seen_returns returns) (option_map seen_mode mode)
+    Function place (map seen_name inputs.items) (seen_returns returns) (option_map seen_mode mode)
 
 -- a statement or a unit, where the unit is seen already
 abbrev pub element_step : Element-F Member Block → Member
@@ -69,7 +69,7 @@ seen_template t = template_of (seen_name t.name) (seen_head t.head) (map seen_de
 
 -- what stands before a file's unit
 unfoldable pub seen_preface : rust-preface.Preface → Preface
-seen_preface (preface.Include place name) = Includes place (seen_name name)
+seen_preface (preface.Include place name) = Include place (seen_name name)
 seen_preface (preface.Template template) = Templates (seen_template template)
 
 -- a file

@@ -2,8 +2,8 @@
 
 ghost use Rattle.std.specs.Prelude.{◌≡◌, map, pos, ◌-ℤ◌, nat_le, if◌then◌else◌, Some, None, IfOk};
 ghost use Rattle.std.specs.Option.{option_map};
-ghost use Rattle.hal_grammar.specs.Expressions.{Literally, Summed};
-ghost use Rattle.hal_grammar.specs.Declarations.{Declares, InitialValues, Typed};
+ghost use Rattle.hal_grammar.specs.Expressions.{Literal, Sum};
+ghost use Rattle.hal_grammar.specs.Declarations.{Declare, InitialValues, Typed};
 ghost use Rattle.hal_tree.specs.Rows.{initials, terms};
 ghost use Rattle.hal_tree.specs.SeenLeaves.{seen_literal, seen_name, seen_sign};
 ghost use Rattle.hal_tree.specs.SeenExpressions.{seen_expression, seen_signed};
@@ -21,7 +21,7 @@ use std::alloc::{AllocError, Global};
 /// The value of a literal up to 32767.
 #[tactic(auto, using(crate::proofs::Parts::no_positive, crate::proofs::Parts::positive))]
 fn positive(place: Place, literal: LiteralValue) -> Option<Initial>
-    ensures { result ≡ initial_of (Literally place (seen_literal literal)) }
+    ensures { result ≡ initial_of (Literal place (seen_literal literal)) }
 {
     let Some(number) = number_in(literal) else {
         return None;
@@ -63,7 +63,7 @@ fn summed(
     first: &Expr,
     others: &[SignedTerm],
 ) -> Option<Initial>
-    ensures { result ≡ initial_of (Summed place (option_map seen_sign opening.now) (seen_expression first.now) (terms (map seen_signed others.now))) }
+    ensures { result ≡ initial_of (Sum place (option_map seen_sign opening.now) (seen_expression first.now) (terms (map seen_signed others.now))) }
 {
     let Some(Sign::Minus) = opening else {
         return None;
@@ -220,7 +220,7 @@ fn declaration_of(declaration: &hal_tree::Declaration) -> Option<Declaration>
 /// DECLARE, at this place.
 #[tactic(auto, using(hal_tree::proofs::MadeDeclarations::made_declared), unfolding(crate::specs::SecondForm::declaration_of))]
 fn one_declared(place: Place, common: &[Attribute], items: &[Declared]) -> Option<Declaration>
-    ensures { result ≡ declaration_of (Declares place (map seen_attribute common.now) (map seen_declared items.now)) }
+    ensures { result ≡ declaration_of (Declare place (map seen_attribute common.now) (map seen_declared items.now)) }
 {
     if let Some(_) = common.split_first() {
         return None;

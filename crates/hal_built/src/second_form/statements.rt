@@ -2,7 +2,7 @@
 
 ghost use Rattle.std.specs.Prelude.{◌≡◌, map, IfOk};
 ghost use Rattle.std.specs.Option.{option_and_then, option_map};
-ghost use Rattle.hal_grammar.specs.Statements.{Assigned, Looped, Outputs};
+ghost use Rattle.hal_grammar.specs.Statements.{Assignment, DoLoop, Write};
 ghost use Rattle.hal_tree.specs.Rows.{expressions};
 ghost use Rattle.hal_tree.specs.SeenExpressions.{seen_expression, seen_reference};
 ghost use Rattle.hal_tree.specs.SeenStatements.{seen_alternative, seen_basic, seen_group, seen_guard, seen_statement};
@@ -98,7 +98,7 @@ fn assigned(
     receivers: &[Reference],
     value: &Expr,
 ) -> Result<Option<Statement>, AllocError>
-    ensures { IfOk result (λ found. option_map statement_tree found ≡ basic_of (Assigned place (map seen_reference receivers.now) (seen_expression value.now))) }
+    ensures { IfOk result (λ found. option_map statement_tree found ≡ basic_of (Assignment place (map seen_reference receivers.now) (seen_expression value.now))) }
 {
     let Some(target) = target_of(receivers) else {
         return Ok(None);
@@ -120,7 +120,7 @@ fn written(
     channel: &Expr,
     items: &[Expr],
 ) -> Result<Option<Statement>, AllocError>
-    ensures { IfOk result (λ found. option_map statement_tree found ≡ basic_of (Outputs place (seen_expression channel.now) (expressions (map seen_expression items.now)))) }
+    ensures { IfOk result (λ found. option_map statement_tree found ≡ basic_of (Write place (seen_expression channel.now) (expressions (map seen_expression items.now)))) }
 {
     let Some(channel) = channel_of(channel) else {
         return Ok(None);
@@ -193,7 +193,7 @@ fn looped(
     guard: &Guard,
     group: &Group,
 ) -> Result<Option<Statement>, AllocError>
-    ensures { IfOk result (λ found. option_map statement_tree found ≡ basic_of (Looped place (seen_guard guard.now) (seen_group group.now))) }
+    ensures { IfOk result (λ found. option_map statement_tree found ≡ basic_of (DoLoop place (seen_guard guard.now) (seen_group group.now))) }
 {
     let Guard::While { condition, .. } = guard else {
         return Ok(None);

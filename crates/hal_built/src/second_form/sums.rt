@@ -3,7 +3,7 @@
 ghost use Rattle.std.specs.Prelude.{◌≡◌, [], ◌∷◌, map, nat_lt, if◌then◌else◌, Some, None, IfOk};
 ghost use Rattle.std.specs.Option.{option_map};
 ghost use Rattle.hal_base.specs.declared.limits.TheConstants.{CHANNEL_COUNT};
-ghost use Rattle.hal_grammar.specs.Expressions.{Compared, Literally, Referred, Summed};
+ghost use Rattle.hal_grammar.specs.Expressions.{Compare, Literal, Referred, Sum};
 ghost use Rattle.hal_tree.specs.Rows.{terms};
 ghost use Rattle.hal_tree.specs.SeenLeaves.{seen_literal, seen_relation, seen_sign};
 ghost use Rattle.hal_tree.specs.SeenExpressions.{seen_expression, seen_reference, seen_signed};
@@ -83,7 +83,7 @@ pub(crate) fn operand_of(expression: &Expr) -> Option<Operand>
 /// An integer, as an operand.
 #[tactic(auto, using(crate::proofs::Parts::no_numbered, crate::proofs::Parts::numbered))]
 fn numbered(place: Place, literal: LiteralValue) -> Option<Operand>
-    ensures { result ≡ operand_of (Literally place (seen_literal literal)) }
+    ensures { result ≡ operand_of (Literal place (seen_literal literal)) }
 {
     match number_in(literal) {
         Some(number) => Some(Operand {
@@ -228,7 +228,7 @@ fn summed(
     first: &Expr,
     others: &[SignedTerm],
 ) -> Result<Option<Sum>, AllocError>
-    ensures { IfOk result (λ found. option_map sum_tree found ≡ sum_of (Summed place (option_map seen_sign opening.now) (seen_expression first.now) (terms (map seen_signed others.now)))) }
+    ensures { IfOk result (λ found. option_map sum_tree found ≡ sum_of (Sum place (option_map seen_sign opening.now) (seen_expression first.now) (terms (map seen_signed others.now)))) }
 {
     if let Some(_) = opening {
         return Ok(None);
@@ -309,7 +309,7 @@ fn compared(
     relation: hal_tree::Relation,
     right: &Expr,
 ) -> Result<Option<Comparison>, AllocError>
-    ensures { IfOk result (λ found. option_map comparison_tree found ≡ comparison_of (Compared place (seen_expression left.now) (seen_relation relation) (seen_expression right.now))) }
+    ensures { IfOk result (λ found. option_map comparison_tree found ≡ comparison_of (Compare place (seen_expression left.now) (seen_relation relation) (seen_expression right.now))) }
 {
     let Some(relation) = relation_of(relation) else {
         return Ok(None);

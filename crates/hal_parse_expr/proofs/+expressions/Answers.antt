@@ -1,6 +1,6 @@
 use Rattle.std.proofs.Common.{◌≡◌, sym, subst, IfOk}
 use Rattle.hal_words.specs.declared.reserved.Reserved.TheVariants as reserved
-use Rattle.hal_grammar.specs.Expressions.{Ors, Ands, Joined, Multiplied}
+use Rattle.hal_grammar.specs.Expressions.{Or, And, Cat, Product}
 use Rattle.hal_tree.specs.SeenExpressions.{seen_expression, seen_signed, seen_sub}
 use Rattle.hal_parse_expr.specs.Reading.{after_comma}
 use Rattle.hal_parse_expr.specs.ReadingExpressions.{behind, both_of, cat_of, comparison_of, expression_of, factor_of, further_factor, primary_at, signed_term, sub_of, sum_of, term_of}
@@ -17,19 +17,19 @@ use Rattle.hal_parse_expr.proofs.+expressions.Goals as goal
 
 pub levels::expression-returns : goal.levels::expression-returns
 unfolding seen_as seen_list expression_of more_of make_of
-levels::expression-returns t c = row_read Ors (both_of (primary_at c.args.depth)) (behind reserved.Or (both_of (primary_at c.args.depth))) (rw c.in-Some.is at c.in_ok-first.ensures) c.in_ok-others.ensures c.in_ok-whole.ensures
+levels::expression-returns t c = row_read Or (both_of (primary_at c.args.depth)) (behind reserved.Or (both_of (primary_at c.args.depth))) (rw c.in-Some.is at c.in_ok-first.ensures) c.in_ok-others.ensures c.in_ok-whole.ensures
 
 pub levels::conjunction-returns : goal.levels::conjunction-returns
 unfolding seen_as seen_list both_of more_of make_of
-levels::conjunction-returns t c = row_read Ands (comparison_of (primary_at c.args.depth)) (behind reserved.And (comparison_of (primary_at c.args.depth))) (rw c.in-Some.is at c.in_ok-first.ensures) c.in_ok-others.ensures c.in_ok-whole.ensures
+levels::conjunction-returns t c = row_read And (comparison_of (primary_at c.args.depth)) (behind reserved.And (comparison_of (primary_at c.args.depth))) (rw c.in-Some.is at c.in_ok-first.ensures) c.in_ok-others.ensures c.in_ok-whole.ensures
 
 pub levels::chain-returns : goal.levels::chain-returns
 unfolding seen_as seen_list cat_of more_of make_of
-levels::chain-returns t c = row_read Joined (sum_of (primary_at c.args.depth)) (behind reserved.Cat (sum_of (primary_at c.args.depth))) (rw c.in-Some.is at c.in_ok-first.ensures) c.in_ok-others.ensures c.in_ok-whole.ensures
+levels::chain-returns t c = row_read Cat (sum_of (primary_at c.args.depth)) (behind reserved.Cat (sum_of (primary_at c.args.depth))) (rw c.in-Some.is at c.in_ok-first.ensures) c.in_ok-others.ensures c.in_ok-whole.ensures
 
 pub levels::term-returns : goal.levels::term-returns
 unfolding seen_as seen_list term_of more_of make_of
-levels::term-returns t c = row_read Multiplied (factor_of (primary_at c.args.depth)) (further_factor (primary_at c.args.depth)) (rw c.in-Some.is at c.in_ok-first.ensures) c.in_ok-others.ensures c.in_ok-whole.ensures
+levels::term-returns t c = row_read Product (factor_of (primary_at c.args.depth)) (further_factor (primary_at c.args.depth)) (rw c.in-Some.is at c.in_ok-first.ensures) c.in_ok-others.ensures c.in_ok-whole.ensures
 
 pub levels::further-others-smaller : goal.levels::further-others-smaller
 unfolding seen_as

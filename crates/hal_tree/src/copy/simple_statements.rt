@@ -1,7 +1,7 @@
 //! Copies of statements that hold several parts and no statement.
 
 ghost use Rattle.std.specs.Prelude.{◌≡◌, map, IfOk};
-ghost use Rattle.hal_grammar.specs.Statements.{Assigned, CallsBlock, Inputs, Outputs};
+ghost use Rattle.hal_grammar.specs.Statements.{Assignment, Call, Read, Write};
 ghost use Rattle.hal_tree.specs.Rows.{expressions};
 ghost use Rattle.hal_tree.specs.SeenLeaves.{seen_name};
 ghost use Rattle.hal_tree.specs.SeenExpressions.{seen_expression, seen_reference};
@@ -23,7 +23,7 @@ pub(crate) fn copy_assignment(
     receivers: &[Reference],
     value: &Expr,
 ) -> Result<Basic, AllocError>
-    ensures { IfOk result (λ copied. seen_basic copied ≡ Assigned place (map seen_reference receivers.now) (seen_expression value.now)) }
+    ensures { IfOk result (λ copied. seen_basic copied ≡ Assignment place (map seen_reference receivers.now) (seen_expression value.now)) }
 {
     let receivers = copy_references(alloc, receivers)?;
     let (receivers, value) = both(receivers, copy_expression(alloc, value))?;
@@ -43,7 +43,7 @@ pub(crate) fn copy_call(
     arguments: &[Expr],
     receivers: &[Reference],
 ) -> Result<Basic, AllocError>
-    ensures { IfOk result (λ copied. seen_basic copied ≡ CallsBlock place (seen_name name) (expressions (map seen_expression arguments.now)) (map seen_reference receivers.now)) }
+    ensures { IfOk result (λ copied. seen_basic copied ≡ Call place (seen_name name) (expressions (map seen_expression arguments.now)) (map seen_reference receivers.now)) }
 {
     let arguments = copy_expressions(alloc, arguments)?;
     let (arguments, receivers) = both(arguments, copy_references(alloc, receivers))?;
@@ -63,7 +63,7 @@ pub(crate) fn copy_read(
     channel: &Expr,
     receivers: &[Reference],
 ) -> Result<Basic, AllocError>
-    ensures { IfOk result (λ copied. seen_basic copied ≡ Inputs place (seen_expression channel.now) (map seen_reference receivers.now)) }
+    ensures { IfOk result (λ copied. seen_basic copied ≡ Read place (seen_expression channel.now) (map seen_reference receivers.now)) }
 {
     let channel = copy_expression(alloc, channel)?;
     let (channel, receivers) = both(channel, copy_references(alloc, receivers))?;
@@ -82,7 +82,7 @@ pub(crate) fn copy_write(
     channel: &Expr,
     items: &[Expr],
 ) -> Result<Basic, AllocError>
-    ensures { IfOk result (λ copied. seen_basic copied ≡ Outputs place (seen_expression channel.now) (expressions (map seen_expression items.now))) }
+    ensures { IfOk result (λ copied. seen_basic copied ≡ Write place (seen_expression channel.now) (expressions (map seen_expression items.now))) }
 {
     let channel = copy_expression(alloc, channel)?;
     let (channel, items) = both(channel, copy_expressions(alloc, items))?;

@@ -2,7 +2,7 @@
 
 ghost use Rattle.std.specs.Prelude.{◌≡◌, map, IfOk};
 ghost use Rattle.std.specs.Option.{option_map};
-ghost use Rattle.hal_grammar.specs.Statements.{Ranged};
+ghost use Rattle.hal_grammar.specs.Statements.{DoFor};
 ghost use Rattle.hal_tree.specs.SeenLeaves.{seen_name};
 ghost use Rattle.hal_tree.specs.SeenStatements.{seen_alternative, seen_basic, seen_group, seen_guard, seen_span, seen_statement};
 
@@ -86,7 +86,7 @@ fn copy_loop(
     guard: &Option<Guard>,
     group: &Group,
 ) -> Result<Basic, AllocError>
-    ensures { IfOk result (λ copied. seen_basic copied ≡ Ranged place temporary (seen_name variable) (seen_span span.now) (option_map seen_guard guard.now) (seen_group group.now)) }
+    ensures { IfOk result (λ copied. seen_basic copied ≡ DoFor place temporary (seen_name variable) (seen_span span.now) (option_map seen_guard guard.now) (seen_group group.now)) }
 {
     let span = copy_span(alloc, span)?;
     let parts = both(span, copy_optional_guard(alloc, guard))?;
