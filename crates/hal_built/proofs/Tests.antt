@@ -9,7 +9,8 @@ use Rattle.hal_grammar.specs.Declarations.{Initial}
 use Rattle.hal_tree.specs.Rows.{SignedTerm, terms, initials, Member, OfStatement, OfBlock, elements}
 use Rattle.hal_built.specs.SecondForm.{channel_at, channel_of, initial_at, initial_of}
 use Rattle.hal_built.specs.Unbuilt.{first_of, is_empty, is_single, are_none, unbuilt_statement, unbuilt_block, unbuilt_elements, place_of_block}
-use Rattle.hal_built.specs.Looks.{whole, number_of, below, up_to, is_minus, is_negative, unbuilt_member}
+use Rattle.hal_built.specs.Looks.{below, up_to, is_minus, is_negative, unbuilt_member}
+use Rattle.hal_built.specs.Parts.{number_in, whole_number}
 
 pub empty_seen : {X Y : Type 0} (f : X → Y) (xs : List X) → (length xs == 0) ≡ is_empty (map f xs)
 unfolding is_empty
@@ -27,19 +28,19 @@ some_where : {X : Type 0} (b : Bool) (x : X) → is_some (if b then Some x else 
 some_where true x = refl
 some_where false x = refl
 
-pub channel_tested : (e : Expression) → is_some (channel_of e) ≡ below CHANNEL_COUNT (number_of e)
-unfolding channel_of number_of whole below
+pub channel_tested : (e : Expression) → is_some (channel_of e) ≡ below CHANNEL_COUNT (whole_number e)
+unfolding channel_of whole_number number_in below
 channel_tested (Literal p (Integer n)) = some_where (nat_lt n CHANNEL_COUNT) (channel_at p n)
 channel_tested (Literal p l) = refl
 channel_tested e = refl
 
-pub literal_tested : (p : Place) (l : LiteralValue) → is_some (initial_of (Literal p l)) ≡ up_to 32767 (whole l)
-unfolding initial_of whole up_to
+pub literal_tested : (p : Place) (l : LiteralValue) → is_some (initial_of (Literal p l)) ≡ up_to 32767 (number_in l)
+unfolding initial_of number_in up_to
 literal_tested p (Integer n) = some_where (nat_le n 32767) (initial_at p (pos n))
 literal_tested p l = refl
 
 pub negative_tested : (p : Place) (o : Option Sign) (e : Expression) (ts : List SignedTerm) → is_some (initial_of (Sum p o e (terms ts))) ≡ is_negative o e ts
-unfolding initial_of is_negative is_minus is_empty number_of whole up_to terms
+unfolding initial_of is_negative is_minus is_empty whole_number number_in up_to terms
 negative_tested p None e ts = refl
 negative_tested p (Some Plus) e ts = refl
 negative_tested p (Some Minus) (Literal q (Integer n)) [] = some_where (nat_le n 32768) (initial_at p (pos 0 -ℤ pos n))

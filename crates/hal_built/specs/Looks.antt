@@ -2,20 +2,11 @@
 use Rattle.std.specs.Prelude.{ℕ, List, Option, Some, None, Bool, true, false, nat_lt, nat_le, ◌&&◌}
 use Rattle.std.specs.Option.{option_or}
 use Rattle.hal_base.specs.declared.refusal.Place.{Place}
-use Rattle.hal_grammar.specs.Leaves.{Sign, Plus, Minus, LiteralValue, Integer}
-use Rattle.hal_grammar.specs.Expressions.{Expression, Literal}
+use Rattle.hal_grammar.specs.Leaves.{Sign, Plus, Minus}
+use Rattle.hal_grammar.specs.Expressions.{Expression}
 use Rattle.hal_tree.specs.Rows.{SignedTerm, Member, OfStatement, OfBlock}
+use Rattle.hal_built.specs.Parts.{whole_number}
 use Rattle.hal_built.specs.Unbuilt.{is_empty, unbuilt_statement, unbuilt_block, place_of_block}
-
--- the number of an integer
-unfoldable pub whole : LiteralValue → Option ℕ
-whole (Integer n) = Some n
-whole other = None
-
--- the number of an integer literal
-unfoldable pub number_of : Expression → Option ℕ
-number_of (Literal place literal) = whole literal
-number_of other = None
 
 -- a number below a limit
 unfoldable pub below : ℕ → Option ℕ → Bool
@@ -35,7 +26,7 @@ is_minus (Some Minus) = true
 
 -- a minus, and a literal up to 32768
 unfoldable pub is_negative : Option Sign → Expression → List SignedTerm → Bool
-is_negative opening first others = is_minus opening && (is_empty others && up_to 32768 (number_of first))
+is_negative opening first others = is_minus opening && (is_empty others && up_to 32768 (whole_number first))
 
 -- a statement, or a unit that stands inside another
 unfoldable pub unbuilt_member : Member → Option Place

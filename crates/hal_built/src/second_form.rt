@@ -2,7 +2,7 @@
 
 mod declarations;
 mod statements;
-mod sums;
+pub(crate) mod sums;
 mod units;
 
 pub(crate) use units::second_form;

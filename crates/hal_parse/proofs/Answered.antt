@@ -10,8 +10,8 @@ use Rattle.hal_grammar.specs.Units.{File}
 use Rattle.hal_grammar.specs.Words.{Words}
 use Rattle.hal_parse_expr.specs.Reading.{Read}
 use Rattle.hal_parse.specs.ReadingFiles.{file_at}
-use Rattle.hal_parse.specs.Parsed.{IsFileOf, IsParsed, StandsIn}
-use Rattle.hal_parse.specs.Stuck.{beginning_of, place_or, last_place, stuck_place}
+use Rattle.hal_parse.specs.Parsed.{IsFileOf, IsParsed, StandsIn, beginning_of}
+use Rattle.hal_parse.specs.Stuck.{place_or, last_place, stuck_place}
 use Rattle.hal_parse.proofs.ExactReadings.{file_sound, file_complete}
 
 -- what is read, or else this

@@ -1,18 +1,11 @@
--- The laws of the reading of units and files: what is read is spelled by the words and nested so deep at most, and what is so spelled and nested is what is read.
+-- The laws of the reading of files: what is read is spelled by the words and nested so deep at most, and what is so spelled and nested is what is read.
 use Rattle.std.proofs.Common.{◌≡◌, ℕ, ◌≤◌, [], Some}
-use Rattle.hal_grammar.specs.Units.{Block, File, nesting_of_block, nesting_of_file}
+use Rattle.hal_grammar.specs.Units.{File, nesting_of_file}
 use Rattle.hal_grammar.specs.Words.{Words}
-use Rattle.hal_grammar.specs.SpellsFiles.{SpellsBlock, SpellsFile}
-use Rattle.hal_parse.specs.ReadingFiles.{block_at, file_at}
+use Rattle.hal_grammar.specs.SpellsFiles.{SpellsFile}
+use Rattle.hal_parse.specs.ReadingFiles.{file_at}
 use Rattle.hal_parse_declarations.proofs.Decided.{given}
-use Rattle.hal_parse.proofs.BlocksRead.{blocks}
 use Rattle.hal_parse.proofs.FilesRead.{file_gives, file_is}
-
-pub block_sound : (n : ℕ) (words : Words) (u : Block) (after : Words) → block_at n words ≡ Some (u, after) → SpellsBlock u words after × (nesting_of_block u ≤ n)
-block_sound n words u after e = given ((blocks n).sound words) e
-
-pub block_complete : (n : ℕ) (words : Words) (u : Block) (after : Words) → SpellsBlock u words after → nesting_of_block u ≤ n → block_at n words ≡ Some (u, after)
-block_complete n words u after d l = (blocks n).full u words after (d, l)
 
 -- a file is all of the words
 pub file_sound : (n : ℕ) (words : Words) (f : File) → file_at n words ≡ Some (f, []) → SpellsFile f words [] × (nesting_of_file f ≤ n)

@@ -1,12 +1,16 @@
 -- Where the reading of words that are no file gets stuck: at the first word of the declaration, statement or unit that can't be read.
-use Rattle.std.specs.Prelude.{ℕ, zero, suc, ◌-◌, ◌||◌, length, Option, Some, None, Bool, true, false, slice_get, if◌then◌else◌}
+use Rattle.std.specs.Prelude.{◌≡◌, ℕ, zero, suc, ◌-◌, ◌||◌, length, Option, Some, None, Bool, true, false, slice_get, if◌then◌else◌, ⊤}
+use Rattle.hal_base.specs.declared.limits.TheConstants.{NESTING_LIMIT}
 use Rattle.hal_base.specs.declared.refusal.Place.{Place}
+use Rattle.hal_base.specs.declared.refusal.Fault.{Fault}
+use Rattle.hal_base.specs.declared.refusal.Fault.TheVariants as fault
 use Rattle.hal_words.specs.declared.reserved.Reserved.TheVariants as reserved
 use Rattle.hal_words.specs.declared.word.Token.{Token}
 use Rattle.hal_grammar.specs.Units.{Head, stands_inside, holds_elements}
 use Rattle.hal_grammar.specs.Words.{Words}
 use Rattle.hal_parse_expr.specs.Reading.{Read, past}
 use Rattle.hal_parse_declarations.specs.ReadingDeclarations.{name_end_at, label_at, declarations_at}
+use Rattle.hal_parse.specs.Parsed.{beginning_of}
 use Rattle.hal_parse.specs.ReadingFiles.{head_at, elements_of, block_at, prefaces_at}
 
 -- what comes of what is read, or else of nothing
@@ -41,10 +45,6 @@ block_stuck (suc n) outermost words = opened_stuck n outermost (block_stuck n fa
 unfoldable pub file_stuck : ℕ → Words → Words
 file_stuck n words = block_stuck n true (prefaces_at n words).1
 
--- line 1, column 1 of a unit
-abbrev pub beginning_of : ℕ → Place
-beginning_of unit = record { unit = unit; line = 1; column = 1 }
-
 -- the place of a word, if there is one
 abbrev pub place_or : Option Token → Place → Place
 place_or None place = place
@@ -57,3 +57,8 @@ last_place unit words = place_or (slice_get words (length words - 1)) (beginning
 -- the place of the word before so many last ones, or of the last word
 abbrev pub stuck_place : ℕ → Words → ℕ → Place
 stuck_place unit words left = place_or (slice_get words (length words - left)) (last_place unit words)
+
+-- the fault names the place where the reading gets stuck, or memory ended
+abbrev pub IsStuckAt : ℕ → Words → Fault → Type 0
+IsStuckAt unit words (fault.Broken refusal) = refusal.place ≡ stuck_place unit words (length (file_stuck NESTING_LIMIT words))
+IsStuckAt unit words (fault.Memory error) = ⊤

@@ -4,6 +4,7 @@ ghost use Rattle.std.specs.Prelude.{IfErr, IfNone, IfOk, IfSome};
 ghost use Rattle.hal_grammar.specs.Units as grammar;
 ghost use Rattle.hal_tree.specs.SeenUnits.{seen_file};
 ghost use Rattle.hal_parse.specs.Parsed.{IsFileOf, IsParsed, Refuses};
+ghost use Rattle.hal_parse.specs.Stuck.{IsStuckAt};
 
 use crate::files::read_file;
 use crate::stuck::{place_of, stuck_in_file};
@@ -18,6 +19,7 @@ use std::alloc::{AllocError, Global};
 pub fn parse(alloc: Global, words: &[Token], unit: u32) -> Result<File, Fault>
     ensures parsed { IfOk result (λ file. IsParsed words.now (seen_file file)) }
     ensures broken { IfErr result (Refuses unit words.now) }
+    ensures place { IfErr result (IsStuckAt unit words.now) }
 {
     match whole_file(alloc, words) {
         Ok(Some(file)) => Ok(file),
@@ -46,7 +48,8 @@ fn whole_file(alloc: Global, words: &[Token]) -> Result<Option<File>, AllocError
 #[tactic(auto, using(crate::proofs::Answered::stuck_stands))]
 fn unread(alloc: Global, words: &[Token], unit: u32) -> Fault
     requires { (file : grammar.File) → IsFileOf words.now file → ⊥ }
-    ensures { Refuses unit words.now result }
+    ensures broken { Refuses unit words.now result }
+    ensures place { IsStuckAt unit words.now result }
 {
     match stuck_in_file(alloc, words, NESTING_LIMIT) {
         Ok(rest) => Fault::Broken(Refusal {

@@ -11,7 +11,6 @@ pub mod InitialsRead
 pub mod AttributesRead
 pub mod ItemsRead
 pub mod DeclarationsRead
-pub mod ExactReadings
 pub mod ReadersShorten
 pub mod CodeLists
 pub mod CodeDeclarations

@@ -4,7 +4,6 @@ pub mod SchedulesRead
 pub mod SimpleRead
 pub mod GroupsRead
 pub mod StatementsRead
-pub mod ExactReadings
 pub mod ReadersShorten
 pub mod CodeLists
 pub mod CodeStatements

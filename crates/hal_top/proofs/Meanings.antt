@@ -79,6 +79,6 @@ has_no_place file tree place built named (inr (other, also, wrong)) =
 pub meaning_breaks_nothing : (number : ℕ) (text : List ℕ) (tree : UnitTree) (refusal : Refusal) → HasMeaning number text tree → Breaks number text refusal → ⊥
 meaning_breaks_nothing number text tree refusal has (inl breach) = no_breach number text has.read.tokens refusal.rule.0 refusal.place has.read.cut breach
 meaning_breaks_nothing number text tree refusal has (inr (inl unread)) =
-    unread.stuck.unread.none has.file (subst (λ (tokens : List Token). IsFileOf tokens has.file) (one_cut number text has.read.tokens unread.tokens has.read.cut unread.cut) has.read.parsed)
+    unread.unread.none has.file (subst (λ (tokens : List Token). IsFileOf tokens has.file) (one_cut number text has.read.tokens unread.tokens has.read.cut unread.cut) has.read.parsed)
 meaning_breaks_nothing number text tree refusal has (inr (inr unmeant)) =
     has_no_place unmeant.file tree refusal.place (ap second_form (one_read number text unmeant.file has.file unmeant.read has.read) ∙ has.built) has.named unmeant.place

@@ -22,8 +22,8 @@ wrong_words number text (fault.Memory error) breaks = tt
 
 -- the words are those of no file
 pub no_file : (number : ℕ) (text : List ℕ) (tokens : List Token) (why : Fault) → IsCut number text tokens → Refuses number tokens why → BreaksBy number text why
-no_file number text tokens (fault.Broken refusal) cut stuck = inr (inl (record { tokens = tokens; cut = cut; stuck = stuck }))
-no_file number text tokens (fault.Memory error) cut stuck = tt
+no_file number text tokens (fault.Broken refusal) cut unread = inr (inl (record { tokens = tokens; cut = cut; unread = unread }))
+no_file number text tokens (fault.Memory error) cut unread = tt
 
 read_as : (number : ℕ) (text : List ℕ) (tokens : List Token) (file : File) → IsCut number text tokens → IsParsed tokens file → IsRead number text file
 read_as number text tokens file cut parsed = record { tokens = tokens; cut = cut; parsed = parsed.is }

@@ -7,7 +7,7 @@ use Rattle.hal_base.specs.declared.refusal.Fault.TheVariants as fault
 use Rattle.hal_words.specs.declared.word.Token.{Token}
 use Rattle.hal_words.specs.Words as words
 use Rattle.hal_grammar.specs.Units.{File}
-use Rattle.hal_parse.specs.Parsed.{IsFileOf, IsStuck}
+use Rattle.hal_parse.specs.Parsed.{IsFileOf, IsUnread}
 use Rattle.hal_core.specs.Tree.{UnitTree}
 use Rattle.hal_core.specs.Naming.{IsNamed}
 use Rattle.hal_core.specs.Uses.{misnamed}
@@ -32,13 +32,13 @@ abbrev pub HasNoMeaningAt : File → Place → Type 0
 HasNoMeaningAt file place = (unbuilt_file file ≡ Some place) ⊎ ((tree : UnitTree) × (second_form file ≡ Some tree) × (misnamed tree ≡ Some place))
 
 -- rule 401 is broken: the text has words, and they are those of no file
-pub record IsUnread (number : ℕ) (text : List ℕ) (refusal : Refusal) : Type 0 where
+pub record BreaksGrammar (number : ℕ) (text : List ℕ) (refusal : Refusal) : Type 0 where
   pub tokens : List Token
   pub cut : words.IsCut number text tokens
-  pub stuck : IsStuck number tokens refusal
+  pub unread : IsUnread number tokens refusal.rule.0 refusal.place
 
 -- rule 410 is broken: the text is that of a file, and a phrase or a name of it has no meaning
-pub record IsUnmeant (number : ℕ) (text : List ℕ) (refusal : Refusal) : Type 0 where
+pub record HasNoMeaning (number : ℕ) (text : List ℕ) (refusal : Refusal) : Type 0 where
   pub file : File
   pub read : IsRead number text file
   pub rule : refusal.rule.0 ≡ 410
@@ -46,7 +46,7 @@ pub record IsUnmeant (number : ℕ) (text : List ℕ) (refusal : Refusal) : Type
 
 -- a rule of words, 401 or 410
 abbrev pub Breaks : ℕ → List ℕ → Refusal → Type 0
-Breaks number text refusal = words.Breaks number text refusal.rule.0 refusal.place ⊎ IsUnread number text refusal ⊎ IsUnmeant number text refusal
+Breaks number text refusal = words.Breaks number text refusal.rule.0 refusal.place ⊎ BreaksGrammar number text refusal ⊎ HasNoMeaning number text refusal
 
 -- the text breaks the rule of the fault, or memory ended
 abbrev pub BreaksBy : ℕ → List ℕ → Fault → Type 0

@@ -73,7 +73,6 @@ impl Drop for Type {
 }
 
 /// An initial value, or a count and what it repeats. The place is that of the count.
-#[derive(Drop)]
 #[cycle(initials)]
 pub enum Initial {
     Value {
@@ -100,6 +99,33 @@ pub enum Initial {
         count: u32,
         values: Vec<Initial>,
     },
+}
+
+impl Drop for Initial {
+    #[cycle(initials)]
+    fn drop(self) {
+        match self {
+            Initial::Value { value: _value } => {}
+            Initial::LiteralTimes {
+                place: _,
+                count: _,
+                sign: _,
+                at: _,
+                literal: _,
+            } => {}
+            Initial::NameTimes {
+                place: _,
+                count: _,
+                sign: _,
+                name: _,
+            } => {}
+            Initial::ListTimes {
+                place: _,
+                count: _,
+                values: _values,
+            } => {}
+        }
+    }
 }
 
 /// An attribute of what is declared.
@@ -146,14 +172,21 @@ impl Drop for Attribute {
 }
 
 /// A name that is declared, and its attributes: the `A INTEGER` of `DECLARE A INTEGER;`.
-#[derive(Drop)]
 pub struct Declared {
     pub name: Identifier,
     pub attributes: Vec<Attribute>,
 }
 
+impl Drop for Declared {
+    fn drop(self) {
+        let Declared {
+            name: _,
+            attributes: _attributes,
+        } = self;
+    }
+}
+
 /// A part of a structure: the `1 A INTEGER` of `STRUCTURE S: 1 A INTEGER;`. The place is that of its level.
-#[derive(Drop)]
 pub struct Part {
     pub place: Place,
     pub level: u32,
@@ -161,8 +194,18 @@ pub struct Part {
     pub attributes: Vec<Attribute>,
 }
 
+impl Drop for Part {
+    fn drop(self) {
+        let Part {
+            place: _,
+            level: _,
+            name: _,
+            attributes: _attributes,
+        } = self;
+    }
+}
+
 /// A declaration.
-#[derive(Drop)]
 pub enum Declaration {
     /// `DECLARE INTEGER, A, B DOUBLE;`; `common` are the attributes before the first comma.
     Declare {
@@ -176,4 +219,21 @@ pub enum Declaration {
         name: Identifier,
         parts: Vec<Part>,
     },
+}
+
+impl Drop for Declaration {
+    fn drop(self) {
+        match self {
+            Declaration::Declare {
+                place: _,
+                common: _common,
+                items: _items,
+            } => {}
+            Declaration::Structure {
+                place: _,
+                name: _,
+                parts: _parts,
+            } => {}
+        }
+    }
 }

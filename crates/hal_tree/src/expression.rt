@@ -5,7 +5,6 @@ use hal_base::Place;
 use hal_words::Name;
 
 /// An expression. Of the nodes with `others` a node has one at least, a sum with an opening sign excepted.
-#[derive(Drop)]
 #[cycle(tree)]
 pub enum Expr {
     /// `first OR other OR other`
@@ -87,6 +86,78 @@ pub enum Expr {
     },
 }
 
+impl Drop for Expr {
+    #[cycle(tree)]
+    fn drop(self) {
+        match self {
+            Expr::Or {
+                place: _,
+                first: _first,
+                others: _others,
+            } => {}
+            Expr::And {
+                place: _,
+                first: _first,
+                others: _others,
+            } => {}
+            Expr::Compare {
+                place: _,
+                left: _left,
+                relation: _,
+                right: _right,
+            } => {}
+            Expr::Cat {
+                place: _,
+                first: _first,
+                others: _others,
+            } => {}
+            Expr::Sum {
+                place: _,
+                opening: _,
+                first: _first,
+                others: _others,
+            } => {}
+            Expr::Product {
+                place: _,
+                first: _first,
+                others: _others,
+            } => {}
+            Expr::Power {
+                place: _,
+                base: _base,
+                exponent: _exponent,
+            } => {}
+            Expr::Not {
+                place: _,
+                operand: _operand,
+            } => {}
+            Expr::Literal {
+                place: _,
+                literal: _,
+            } => {}
+            Expr::Decimal {
+                place: _,
+                thousandths: _,
+            } => {}
+            Expr::Reference(_reference) => {}
+            Expr::Call {
+                place: _,
+                name: _,
+                arguments: _arguments,
+            } => {}
+            Expr::Convert {
+                place: _,
+                conversion: _,
+                operand: _operand,
+            } => {}
+            Expr::Parenthesis {
+                place: _,
+                inner: _inner,
+            } => {}
+        }
+    }
+}
+
 /// A term of a sum with the sign before it.
 #[derive(Drop)]
 #[cycle(tree)]
@@ -98,7 +169,6 @@ pub struct SignedTerm {
 }
 
 /// `name.further.further$subscript`
-#[derive(Drop)]
 #[cycle(tree)]
 pub struct Reference {
     pub place: Place,
@@ -107,8 +177,19 @@ pub struct Reference {
     pub subscript: Subscript,
 }
 
+impl Drop for Reference {
+    #[cycle(tree)]
+    fn drop(self) {
+        let Reference {
+            place: _,
+            name: _,
+            further: _further,
+            subscript: _subscript,
+        } = self;
+    }
+}
+
 /// A subscript. Its place is that of `$`.
-#[derive(Drop)]
 #[cycle(tree)]
 pub enum Subscript {
     None,
@@ -132,8 +213,28 @@ pub enum Subscript {
     },
 }
 
+impl Drop for Subscript {
+    #[cycle(tree)]
+    fn drop(self) {
+        match self {
+            Subscript::None => {}
+            Subscript::Name { place: _, name: _ } => {}
+            Subscript::Integer {
+                place: _,
+                at: _,
+                number: _,
+            } => {}
+            Subscript::Parts {
+                place: _,
+                copies: _copies,
+                arrays: _arrays,
+                components: _components,
+            } => {}
+        }
+    }
+}
+
 /// One subscript of a part.
-#[derive(Drop)]
 #[cycle(tree)]
 pub enum Sub {
     /// `*`
@@ -143,6 +244,26 @@ pub enum Sub {
     Range { first: Position, last: Position },
     /// `count AT first`
     Portion { count: Expr, first: Position },
+}
+
+impl Drop for Sub {
+    #[cycle(tree)]
+    fn drop(self) {
+        match self {
+            Sub::Every { place: _ } => {}
+            Sub::One {
+                position: _position,
+            } => {}
+            Sub::Range {
+                first: _first,
+                last: _last,
+            } => {}
+            Sub::Portion {
+                count: _count,
+                first: _first,
+            } => {}
+        }
+    }
 }
 
 /// A place in an array, a structure's copies or a component.

@@ -1,7 +1,6 @@
 //! The trees of HAL/S source as the program holds them. `specs/` says which tree of the grammar each of them is.
 #![tactic(auto)]
 
-pub mod copy;
 mod declaration;
 mod expression;
 mod leaf;

@@ -174,11 +174,20 @@ impl Drop for Schedule {
 }
 
 /// Labels, and what they stand before: `L: M: A = 1;`.
-#[derive(Drop)]
 #[cycle(statements)]
 pub struct Statement {
     pub labels: Vec<Identifier>,
     pub basic: Basic,
+}
+
+impl Drop for Statement {
+    #[cycle(statements)]
+    fn drop(self) {
+        let Statement {
+            labels: _labels,
+            basic: _basic,
+        } = self;
+    }
 }
 
 /// A statement without its labels.
@@ -458,9 +467,18 @@ impl Drop for Basic {
 }
 
 /// The statements of a group, and the name after END: `A = 1; END end;`.
-#[derive(Drop)]
 #[cycle(statements)]
 pub struct Group {
     pub statements: Vec<Statement>,
     pub end: Option<Identifier>,
+}
+
+impl Drop for Group {
+    #[cycle(statements)]
+    fn drop(self) {
+        let Group {
+            statements: _statements,
+            end: _,
+        } = self;
+    }
 }

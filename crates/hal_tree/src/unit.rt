@@ -20,7 +20,6 @@ pub enum Precision {
 }
 
 /// The type of a FUNCTION's result.
-#[derive(Drop)]
 pub enum Returns {
     /// Nothing is said.
     Untyped,
@@ -29,6 +28,18 @@ pub enum Returns {
         kind: Type,
         precision: Option<Precision>,
     },
+}
+
+impl Drop for Returns {
+    fn drop(self) {
+        match self {
+            Returns::Untyped => {}
+            Returns::Typed {
+                kind: _kind,
+                precision: _,
+            } => {}
+        }
+    }
 }
 
 /// The head of a unit. The place is that of its first word.
@@ -84,7 +95,6 @@ impl Drop for Head {
 }
 
 /// A unit: `name: PROGRAM; DECLARE A INTEGER; A = 1; CLOSE name;`.
-#[derive(Drop)]
 #[cycle(units)]
 pub struct Unit {
     pub name: Identifier,
@@ -94,12 +104,34 @@ pub struct Unit {
     pub close: Option<Identifier>,
 }
 
+impl Drop for Unit {
+    #[cycle(units)]
+    fn drop(self) {
+        let Unit {
+            name: _,
+            head: _head,
+            declarations: _declarations,
+            elements: _elements,
+            close: _,
+        } = self;
+    }
+}
+
 /// A statement or a unit, as they stand in a unit.
-#[derive(Drop)]
 #[cycle(units)]
 pub enum Element {
     Statement(Statement),
     Unit(Unit),
+}
+
+impl Drop for Element {
+    #[cycle(units)]
+    fn drop(self) {
+        match self {
+            Element::Statement(_statement) => {}
+            Element::Unit(_unit) => {}
+        }
+    }
 }
 
 /// The template of a unit that another file holds: `name: EXTERNAL PROCEDURE(A); DECLARE A INTEGER; CLOSE;`.
@@ -122,11 +154,19 @@ impl Drop for Template {
 }
 
 /// What stands before a file's unit.
-#[derive(Drop)]
 pub enum Preface {
     /// `INCLUDE name`
     Include { place: Place, name: Identifier },
     Template(Template),
+}
+
+impl Drop for Preface {
+    fn drop(self) {
+        match self {
+            Preface::Include { place: _, name: _ } => {}
+            Preface::Template(_template) => {}
+        }
+    }
 }
 
 /// A file.

@@ -8,7 +8,7 @@ use crate::show_units::{elements, file};
 use hal_base::Fault;
 use hal_lexer::tokens;
 use hal_parse::parse;
-use hal_tree::copy::copy_file;
+use hal_copies::copy_file;
 use hal_tree::{Basic, Element, Expr, File, Statement};
 use std::alloc::{AllocError, Global};
 

@@ -6,12 +6,14 @@ ghost use Rattle.hal_tree.specs.Rows.{initials};
 ghost use Rattle.hal_tree.specs.SeenLeaves.{seen_literal, seen_sign};
 ghost use Rattle.hal_tree.specs.SeenExpressions.{seen_expression, seen_signed};
 ghost use Rattle.hal_tree.specs.SeenDeclarations.{seen_attribute, seen_declaration, seen_declared, seen_initial, seen_part, seen_type};
-ghost use Rattle.hal_built.specs.Looks.{is_minus, is_negative, number_of, up_to, whole};
+ghost use Rattle.hal_built.specs.Looks.{is_minus, is_negative, up_to};
+ghost use Rattle.hal_built.specs.Parts.{number_in, whole_number};
 ghost use Rattle.hal_built.specs.SecondForm.{initial_of};
 ghost use Rattle.hal_built.specs.Unbuilt.{are_none, ends_well, first_of, is_arranged, is_empty, is_initial, is_integer, is_integer_kind, is_one_value, is_single, is_valued, unbuilt_attribute, unbuilt_declaration, unbuilt_declared, unbuilt_in_kind, unbuilt_initial, unbuilt_initials, unbuilt_kind, unbuilt_part};
 
+use crate::second_form::sums::{number_in, whole_number};
 use crate::unbuilt::expressions::{
-    number_of, unbuilt_but, unbuilt_optional, unbuilt_value, unbuilt_values, unless, whole,
+    unbuilt_but, unbuilt_optional, unbuilt_value, unbuilt_values, unless,
 };
 use hal_base::Place;
 use hal_tree::{
@@ -33,9 +35,9 @@ fn is_minus(opening: &Option<Sign>) -> bool
 /// A number up to 32767.
 #[tactic(auto, unfolding(crate::specs::Looks::up_to))]
 fn is_positive(literal: &LiteralValue) -> bool
-    ensures { result ≡ up_to 32767 (whole (seen_literal literal.now)) }
+    ensures { result ≡ up_to 32767 (number_in (seen_literal literal.now)) }
 {
-    match whole(literal) {
+    match number_in(*literal) {
         None => false,
         Some(number) => number <= 32767,
     }
@@ -44,9 +46,9 @@ fn is_positive(literal: &LiteralValue) -> bool
 /// A number up to 32768.
 #[tactic(auto, unfolding(crate::specs::Looks::up_to))]
 fn is_below(tree: &Expr) -> bool
-    ensures { result ≡ up_to 32768 (number_of (seen_expression tree.now)) }
+    ensures { result ≡ up_to 32768 (whole_number (seen_expression tree.now)) }
 {
-    match number_of(tree) {
+    match whole_number(tree) {
         None => false,
         Some(number) => number <= 32768,
     }

@@ -6,9 +6,9 @@ ghost use Rattle.hal_tree.specs.Rows.{expressions, terms, subscripts};
 ghost use Rattle.hal_tree.specs.SeenLeaves.{seen_literal, seen_name, seen_relation, seen_sign};
 ghost use Rattle.hal_tree.specs.SeenExpressions.{seen_expression, seen_position, seen_reference, seen_signed, seen_sub, seen_subscript};
 ghost use Rattle.hal_built.specs.SecondForm.{channel_of, relation_of};
-ghost use Rattle.hal_built.specs.Looks.{whole, number_of};
 ghost use Rattle.hal_built.specs.Unbuilt.{unless, first_of, if_there, is_whole, is_alone, is_bare, bare_sum, unbuilt_value, unbuilt_values, unbuilt_terms, unbuilt_reference, unbuilt_subscript, unbuilt_subscripts, unbuilt_sub, unbuilt_position, unbuilt_operand, unbuilt_condition, unbuilt_but, unbuilt_channel};
 
+use crate::second_form::sums::whole_number;
 use hal_base::{CHANNEL_COUNT, Place};
 use hal_tree::{
     Expr, Identifier, LiteralValue, Position, Reference, Relation, Sign, SignedTerm, Sub, Subscript,
@@ -359,46 +359,12 @@ pub(crate) fn unbuilt_but(holds: bool, tree: &Expr) -> Option<Place>
     unbuilt_value(tree).or(Some(tree.place()))
 }
 
-/// The number of an integer.
-#[tactic(auto, unfolding(crate::specs::Looks::whole))]
-pub(crate) fn whole(literal: &LiteralValue) -> Option<u32>
-    ensures { result ≡ whole (seen_literal literal.now) }
-{
-    match literal {
-        LiteralValue::Integer(number) => Some(*number),
-        _ => None,
-    }
-}
-
-/// The number of an integer literal.
-#[tactic(auto, using(hal_tree::proofs::MadeExpressions::made_or, hal_tree::proofs::MadeExpressions::made_and, hal_tree::proofs::MadeExpressions::made_compare, hal_tree::proofs::MadeExpressions::made_cat, hal_tree::proofs::MadeExpressions::made_sum, hal_tree::proofs::MadeExpressions::made_product, hal_tree::proofs::MadeExpressions::made_power, hal_tree::proofs::MadeExpressions::made_not, hal_tree::proofs::MadeExpressions::made_literal, hal_tree::proofs::MadeExpressions::made_decimal, hal_tree::proofs::MadeExpressions::made_referred, hal_tree::proofs::MadeExpressions::made_call, hal_tree::proofs::MadeExpressions::made_convert, hal_tree::proofs::MadeExpressions::made_parenthesis), unfolding(crate::specs::Looks::number_of))]
-pub(crate) fn number_of(tree: &Expr) -> Option<u32>
-    ensures { result ≡ number_of (seen_expression tree.now) }
-{
-    match tree {
-        Expr::Literal { literal, .. } => whole(literal),
-        Expr::Or { .. } => None,
-        Expr::And { .. } => None,
-        Expr::Compare { .. } => None,
-        Expr::Cat { .. } => None,
-        Expr::Sum { .. } => None,
-        Expr::Product { .. } => None,
-        Expr::Power { .. } => None,
-        Expr::Not { .. } => None,
-        Expr::Decimal { .. } => None,
-        Expr::Reference(_) => None,
-        Expr::Call { .. } => None,
-        Expr::Convert { .. } => None,
-        Expr::Parenthesis { .. } => None,
-    }
-}
-
 /// The number of a channel.
 #[tactic(auto, using(crate::proofs::Tests::channel_tested), unfolding(crate::specs::Looks::below))]
 fn is_channel(tree: &Expr) -> bool
     ensures { result ≡ is_some (channel_of (seen_expression tree.now)) }
 {
-    match number_of(tree) {
+    match whole_number(tree) {
         None => false,
         Some(number) => number < u32::from(CHANNEL_COUNT),
     }
