@@ -44,7 +44,7 @@ is_built() {
 
 # Notes that the program was built now, for the sources that had this sum before; or says that they changed meanwhile.
 note_built() {
-    if [ "$(sources_sum)" = "$1" ]; then
+    if [ -n "$1" ] && [ "$(sources_sum)" = "$1" ]; then
         right_note "$1" >"$program.note"
     else
         echo "the sources changed while they were proved, so the program isn't noted as built for them" >&2
