@@ -1,7 +1,8 @@
 #!/usr/bin/env python3
 """Runs each example through ./hal, and looks for what the documents name and for what they leave out.
 
-Run it from anywhere. It prints what is wrong, and ends with status 1 where something is.
+The examples are run by the proved program: where ./hal says anything besides, it isn't built. Run it from anywhere. It prints
+what is wrong, and ends with status 1 where something is.
 """
 import pathlib
 import re
@@ -16,6 +17,9 @@ NAMED = re.compile(r'(?<![\w./])(?:\./)?((?:crates|docs|examples|tools|bench|\.c
 LINK = re.compile(r'\]\((?!\w+:|#)([^)#\s]+)')
 # A folder that only this or that machine has.
 MACHINE = re.compile(r'(?<![\w.])/(?:work|opt|home|root|tmp|mnt|Users)/\w')
+# The part of docs/CLAIMS.md that lists the wrong bodies, and a row of its table: crate, edit, and whether the gate tries it.
+WRONG_BODIES = re.compile(r'^## Wrong bodies that are refused\n(.*?)^## ', re.MULTILINE | re.DOTALL)
+WRONG_BODY = re.compile(r'^\| `(\w+)` \| `(\w+)` \| .*?(\(tried by the gate\) )?\|$', re.MULTILINE)
 
 
 def own_files():
@@ -29,10 +33,21 @@ def own_files():
 def example_faults(folder):
     """What is wrong with the run of an example: `hal run 1 script.txt UNIT..` gives report.txt."""
     units = sorted(unit.name for unit in folder.glob('*.hal'))
-    run = subprocess.run([ROOT / 'hal', 'run', '1', 'script.txt', *units], cwd=folder, stdout=subprocess.PIPE)
+    run = subprocess.run([ROOT / 'hal', 'run', '1', 'script.txt', *units], cwd=folder, capture_output=True)
     want = (folder / 'report.txt').read_bytes()
     if run.returncode != 0 or run.stdout != want:
         yield f'status {run.returncode}, and the report was\n{run.stdout.decode(errors="replace")}'
+    if run.stderr:
+        yield f'standard error was\n{run.stderr.decode(errors="replace")}'
+
+
+def wrong_body_faults():
+    """Wrong bodies that docs/CLAIMS.md leaves out, lists though there are none, or gives to the other tier."""
+    table = WRONG_BODIES.search((ROOT / 'docs/CLAIMS.md').read_text())[1]
+    listed = {(crate, 'must-fail' if gate else 'wrong', edit) for crate, edit, gate in WRONG_BODY.findall(table)}
+    there = {(edit.parts[-3], edit.parts[-2], edit.stem) for edit in ROOT.glob('crates/*/*/*.edit')}
+    for crate, tier, edit in sorted(listed ^ there):
+        yield f'{tier}/{edit} of {crate} is {"not listed" if (crate, tier, edit) in there else "listed and not there"}'
 
 
 def document_faults(path, text):
@@ -49,10 +64,7 @@ def main():
     faults = []
     for folder in sorted((ROOT / 'examples').iterdir()):
         faults += [f'{folder.relative_to(ROOT)}: {fault}' for fault in example_faults(folder)]
-    claims = (ROOT / 'docs/CLAIMS.md').read_text()
-    for edit in sorted(ROOT.glob('crates/*/must-fail/*.edit')):
-        if f'`{edit.stem}`' not in claims:
-            faults.append(f'docs/CLAIMS.md: the wrong body {edit.stem} isn\'t listed')
+    faults += [f'docs/CLAIMS.md: {fault}' for fault in wrong_body_faults()]
     for path in own_files():
         text = path.read_text(errors='replace')
         name = path.relative_to(ROOT)
