@@ -6,9 +6,9 @@ use crate::show_declarations::declarations;
 use crate::show_expressions::expression;
 use crate::show_units::{elements, file};
 use hal_base::Fault;
+use hal_copies::copy_file;
 use hal_lexer::tokens;
 use hal_parse::parse;
-use hal_copies::copy_file;
 use hal_tree::{Basic, Element, Expr, File, Statement};
 use std::alloc::{AllocError, Global};
 
