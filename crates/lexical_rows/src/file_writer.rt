@@ -2,11 +2,12 @@
 //! where a name stands in capitals and a reserved word has small letters; of more than `MOST` words their number,
 //! the first and the last; `nothing` where there is no word; or the broken rule and its place, as `rule 101 3:1`.
 
-use crate::file_row::UNIT;
-use crate::writer;
+use crate::piece_writer;
+use crate::trial::UNIT;
 use hal_base::{Fault, Place};
 use hal_lexer::Tokens;
 use hal_words::{Symbol, Token, Word};
+use row_files::notation_of;
 use std::alloc::{AllocError, Global};
 
 /// So many words are written out.
@@ -39,10 +40,10 @@ fn sign(symbol: Symbol) -> &'static str {
 fn word(alloc: Global, word: &Word) -> Result<String, AllocError> {
     match word {
         Word::Reserved(reserved) => format!(in alloc; "{reserved:?}"),
-        Word::Name(name) => writer::bytes(alloc, name.bytes()),
+        Word::Name(name) => notation_of(alloc, name.bytes()),
         Word::Integer(number) => format!(in alloc; "{number}"),
         Word::Symbol(symbol) => String::from_str(alloc, sign(*symbol)),
-        Word::Decimal(_) | Word::Text(_) | Word::Bits { .. } => writer::word(alloc, word),
+        Word::Decimal(_) | Word::Text(_) | Word::Bits { .. } => piece_writer::word(alloc, word),
     }
 }
 

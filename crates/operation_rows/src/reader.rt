@@ -1,73 +1,50 @@
-//! How rows write values. An integer is decimal, as `-5`. A text stands in quotes, as `'AB'`: a character
-//! up to `ÿ` is the byte of its number. Bits stand in quotes after a `b`, as `b'0101'`. In quotes a number
-//! in braces says how often what stands before it comes, as `'A{254}B'`.
+//! How rows write values. An integer is decimal, as `-5`. A text stands in quotes, as `'AB'`, and bits stand in quotes after
+//! a `b`, as `b'0101'`. `row_files` says how bytes are written in the quotes.
 
 use hal_operations::Part;
 use hal_values::{Kind, Text, Value};
-
-/// The most bytes of a text.
-const TEXT_ROOM: usize = 255;
-
-/// Adds a byte, where the text has room for it.
-fn add(text: &mut Text, byte: u8) -> Option<()> {
-    if TEXT_ROOM <= text.bytes().len() {
-        return None;
-    }
-    text.push(byte);
-    Some(())
-}
-
-/// Adds the last byte as often as makes it `count` bytes.
-fn repeat(text: &mut Text, count: u32) -> Option<()> {
-    let last = *text.bytes().last()?;
-    for _ in 1..count {
-        add(text, last)?;
-    }
-    Some(())
-}
+use row_files::bytes_of;
+use std::alloc::{AllocError, Global};
 
 /// What stands in the quotes.
-fn text(quoted: &str) -> Option<Text> {
-    let mut text = Text::new();
-    let mut count = None;
-    for character in quoted.chars() {
-        match (count, character) {
-            (None, '{') => count = Some(0u32),
-            (None, _) => add(&mut text, u8::try_from(character).ok()?)?,
-            (Some(number), '}') => {
-                repeat(&mut text, number)?;
-                count = None;
-            }
-            (Some(number), _) => {
-                let digit = character.to_digit(10)?;
-                count = Some(number.checked_mul(10)?.checked_add(digit)?);
-            }
-        }
-    }
-    match count {
-        None => Some(text),
-        Some(_) => None,
+fn text(alloc: Global, quoted: &str) -> Result<Option<Text>, AllocError> {
+    match bytes_of(alloc, quoted)? {
+        None => Ok(None),
+        Some(bytes) => Ok(Text::of(bytes.as_slice())),
     }
 }
 
-/// The bits that stand in the quotes.
-fn bits(quoted: &str) -> Option<Value> {
-    let digits = text(quoted)?;
+/// The bits whose digits these are.
+fn bits(digits: &Text) -> Option<Value> {
     let len = u8::try_from(digits.bytes().len()).ok()?;
     let digits = str::from_utf8(digits.bytes()).ok()?;
     let word = u32::from_str_radix(digits, 2).ok()?;
     Some(Value::Bits { len, word })
 }
 
+/// What stands between quotes behind this beginning.
+fn quoted<'a>(notation: &'a str, beginning: &str) -> Option<&'a str> {
+    notation.strip_prefix(beginning)?.strip_suffix("'")
+}
+
 /// A value.
-pub(crate) fn value(notation: &str) -> Option<Value> {
-    if let Some(rest) = notation.strip_prefix("b'") {
-        return bits(rest.strip_suffix("'")?);
+pub(crate) fn value(alloc: Global, notation: &str) -> Result<Option<Value>, AllocError> {
+    if let Some(quoted) = quoted(notation, "b'") {
+        return match text(alloc, quoted)? {
+            None => Ok(None),
+            Some(digits) => Ok(bits(&digits)),
+        };
     }
-    if let Some(rest) = notation.strip_prefix("'") {
-        return Some(Value::Text(text(rest.strip_suffix("'")?)?));
+    if let Some(quoted) = quoted(notation, "'") {
+        return match text(alloc, quoted)? {
+            None => Ok(None),
+            Some(text) => Ok(Some(Value::Text(text))),
+        };
     }
-    Some(Value::Int(notation.parse::<i32>().ok()?))
+    match notation.parse::<i32>() {
+        Ok(number) => Ok(Some(Value::Int(number))),
+        Err(_) => Ok(None),
+    }
 }
 
 /// The kind of a cell, as a declaration writes it.
