@@ -1,5 +1,7 @@
 -- The same words spell one statement at most.
-use Rattle.std.proofs.Common.{◌≡◌, ℕ, List, [], ◌∷◌, refl, ap, ap₂, arith, Option, Some, Bool}
+use Rattle.std.proofs.Common.{◌≡◌, ℕ, List, [], ◌∷◌, refl, ap, ap₂, arith, Option, Some, Bool, false, ◌==◌}
+use Rattle.std.proofs.Math.Dec.{lit≤}
+use Rattle.std.proofs.lemmas.Bool.Decides.{nat_tests}
 use Rattle.hal_base.specs.declared.refusal.Place.{Place}
 use Rattle.hal_words.specs.declared.reserved.Reserved.{Reserved}
 use Rattle.hal_words.specs.declared.reserved.Reserved.TheVariants as reserved
@@ -73,13 +75,17 @@ pub response_starts : {r : Response} {b a : Words} → SpellsResponse r b a → 
 response_starts by_system = refl
 response_starts ignored = refl
 
+-- words that begin with one thing don't begin with another
+other_start : {m n : ℕ} → m ≡ n → (m == n) ≡ false → ⊥
+other_start e f = absurd (grind (arith, nat_tests))
+
 -- no statement begins a head, or with a word that ends statements
 abbrev pub IsStart : ℕ → Type 0
 IsStart n = (n ≡ 0 → ⊥) × (n ≡ 2 → ⊥)
 
 pub basic_starts : {x : Basic} {b a : Words} → SpellsBasic x b a → IsStart (starts b)
 basic_starts (acts e) = (λ h. absurd (omega (arith, event_starts e)), λ h. absurd (omega (arith, event_starts e)))
-basic_starts d = (omega arith, omega arith)
+basic_starts d = (λ h. other_start h refl, λ h. other_start h refl)
 
 pub statement_starts : {s : Statement} {b a : Words} → SpellsStatement s b a → IsStart (starts b)
 statement_starts (labelled (no_labels n) d) = basic_starts d
@@ -115,21 +121,21 @@ mutual
   one_basic empty empty = (refl, refl)
   one_basic (assigned {p = p} d f) (assigned e g) =
       let r = one_references d e (omega arith, omega arith) (omega arith, omega arith) in
-      let s = exact f (back SpellsExpression (tail_same r.1) g) (omega arith) (omega arith) in (ap₂ (λ x t. Assignment p x t) r.0 s.0, tail_same s.1)
+      let s = exact f (back SpellsExpression (tail_same r.1) g) (lit≤ tt) (lit≤ tt) in (ap₂ (λ x t. Assignment p x t) r.0 s.0, tail_same s.1)
   one_basic (chosen {p = p} d s x) (chosen e t y) =
-      let r = exact d e (omega arith) (omega arith) in
+      let r = exact d e (lit≤ tt) (lit≤ tt) in
       let v = one_statement s (back SpellsStatement (tail_same r.1) t) in
       let w = one_alternative x (back SpellsAlternative v.1 y) in (chosen_same r.0 v.0 w.0, w.1)
   one_basic (grouped {p = p} g) (grouped h) = let r = one_group g h in (ap (λ g. Do p g) r.0, r.1)
   one_basic (selected {p = p} d x g) (selected e y h) =
-      let r = exact d e (omega arith) (omega arith) in
+      let r = exact d e (lit≤ tt) (lit≤ tt) in
       let v = one_alternative x (back SpellsAlternative (tail_same r.1) y) in
       let w = one_group g (back SpellsGroup v.1 h) in (selected_same r.0 v.0 w.0, w.1)
   one_basic (looped_while {p = p} {q = q} d g) (looped_while e h) =
-      let r = exact d e (omega arith) (omega arith) in
+      let r = exact d e (lit≤ tt) (lit≤ tt) in
       let w = one_group g (back SpellsGroup (tail_same r.1) h) in (ap₂ (λ t g. DoLoop p (While q t) g) r.0 w.0, w.1)
   one_basic (looped_until {p = p} {q = q} d g) (looped_until e h) =
-      let r = exact d e (omega arith) (omega arith) in
+      let r = exact d e (lit≤ tt) (lit≤ tt) in
       let w = one_group g (back SpellsGroup (tail_same r.1) h) in (ap₂ (λ t g. DoLoop p (Until q t) g) r.0 w.0, w.1)
   one_basic (ranged {p = p} t x k g) (ranged u y l h) =
       let r = one_temporary t u in
@@ -142,21 +148,21 @@ mutual
   one_basic returned returned = (refl, refl)
   one_basic returned (returned_value e) = absurd (omega (arith, expression_strong e))
   one_basic (returned_value d) returned = absurd (omega (arith, expression_strong d))
-  one_basic (returned_value {p = p} d) (returned_value e) = let r = exact d e (omega arith) (omega arith) in (ap (λ t. Return p (Some t)) r.0, tail_same r.1)
+  one_basic (returned_value {p = p} d) (returned_value e) = let r = exact d e (lit≤ tt) (lit≤ tt) in (ap (λ t. Return p (Some t)) r.0, tail_same r.1)
   one_basic (calls {p = p} {q = q} {n = n} d f) (calls e g) =
       let r = one_arguments d e in
       let s = one_receivers f (back SpellsReceivers r.1 g) in (ap₂ (λ t x. Call p (naming q n) t x) r.0 s.0, tail_same s.1)
   one_basic (inputs {p = p} d f) (inputs e g) =
-      let r = exact d e (omega arith) (omega arith) in
+      let r = exact d e (lit≤ tt) (lit≤ tt) in
       let s = one_references f (back (Parted SpellsReference) (tail_same r.1) g) (omega arith, omega arith) (omega arith, omega arith) in
       (ap₂ (λ t x. Read p t x) r.0 s.0, tail_same s.1)
-  one_basic (outputs_nothing {p = p} d) (outputs_nothing e) = let r = exact d e (omega arith) (omega arith) in (ap (λ t. Write p t NoExpressions) r.0, tail_same (tail_same r.1))
+  one_basic (outputs_nothing {p = p} d) (outputs_nothing e) = let r = exact d e (lit≤ tt) (lit≤ tt) in (ap (λ t. Write p t NoExpressions) r.0, tail_same (tail_same r.1))
   one_basic (outputs_nothing d) (outputs e f) =
-      let r = exact d e (omega arith) (omega arith) in absurd (omega (arith, expressions_strong f, ap strength (tail_same r.1)))
+      let r = exact d e (lit≤ tt) (lit≤ tt) in absurd (omega (arith, expressions_strong f, ap strength (tail_same r.1)))
   one_basic (outputs d f) (outputs_nothing e) =
-      let r = exact d e (omega arith) (omega arith) in absurd (omega (arith, expressions_strong f, ap strength (tail_same r.1)))
+      let r = exact d e (lit≤ tt) (lit≤ tt) in absurd (omega (arith, expressions_strong f, ap strength (tail_same r.1)))
   one_basic (outputs {p = p} d f) (outputs e g) =
-      let r = exact d e (omega arith) (omega arith) in
+      let r = exact d e (lit≤ tt) (lit≤ tt) in
       let s = until (one_expressions f (back SpellsExpressions (tail_same r.1) g)) (omega arith) (omega arith) in (ap₂ (λ t x. Write p t x) r.0 s.0, tail_same s.1)
   one_basic (updates {p = p} b n) (updates c m) =
       let r = one_statements b c in
@@ -170,23 +176,23 @@ mutual
   one_basic terminated_itself (terminated e) = absurd (names_not e)
   one_basic (terminated d) terminated_itself = absurd (names_not d)
   one_basic (terminated {p = p} d) (terminated e) = let r = until (one_names d e) (omega arith) (omega arith) in (ap (λ n. Terminate p n) r.0, tail_same r.1)
-  one_basic (waits {p = p} d) (waits e) = let r = exact d e (omega arith) (omega arith) in (ap (λ t. Wait p t) r.0, tail_same r.1)
+  one_basic (waits {p = p} d) (waits e) = let r = exact d e (lit≤ tt) (lit≤ tt) in (ap (λ t. Wait p t) r.0, tail_same r.1)
   one_basic (waits d) (waits_until e) = absurd (omega (arith, expression_strong d))
   one_basic (waits d) waits_for_dependents = absurd (omega (arith, expression_strong d))
   one_basic (waits d) (waits_for e) = absurd (omega (arith, expression_strong d))
   one_basic (waits_until d) (waits e) = absurd (omega (arith, expression_strong e))
-  one_basic (waits_until {p = p} d) (waits_until e) = let r = exact d e (omega arith) (omega arith) in (ap (λ t. WaitUntil p t) r.0, tail_same r.1)
+  one_basic (waits_until {p = p} d) (waits_until e) = let r = exact d e (lit≤ tt) (lit≤ tt) in (ap (λ t. WaitUntil p t) r.0, tail_same r.1)
   one_basic waits_for_dependents (waits e) = absurd (omega (arith, expression_strong e))
   one_basic waits_for_dependents waits_for_dependents = (refl, refl)
   one_basic waits_for_dependents (waits_for e) = absurd (omega (arith, expression_strong e))
   one_basic (waits_for d) (waits e) = absurd (omega (arith, expression_strong e))
   one_basic (waits_for d) waits_for_dependents = absurd (omega (arith, expression_strong d))
-  one_basic (waits_for {p = p} d) (waits_for e) = let r = exact d e (omega arith) (omega arith) in (ap (λ t. WaitFor p t) r.0, tail_same r.1)
+  one_basic (waits_for {p = p} d) (waits_for e) = let r = exact d e (lit≤ tt) (lit≤ tt) in (ap (λ t. WaitFor p t) r.0, tail_same r.1)
   one_basic (acts d) (acts e) = let r = one_event d e in (ap Event r.0, tail_same r.1)
-  one_basic (acts d) e = absurd (omega (arith, event_starts d))
+  one_basic (acts d) e = absurd (other_start (event_starts d) refl)
   one_basic (prioritizes {p = p} n d) (prioritizes m e) =
       let r = one_name_option n m in
-      let s = exact d (back SpellsExpression (tail_same r.1) e) (omega arith) (omega arith) in (ap₂ (λ n t. UpdatePriority p n t) r.0 s.0, tail_same s.1)
+      let s = exact d (back SpellsExpression (tail_same r.1) e) (lit≤ tt) (lit≤ tt) in (ap₂ (λ n t. UpdatePriority p n t) r.0 s.0, tail_same s.1)
   one_basic (handles {p = p} x s) (handles y t) =
       let r = one_selector x y in
       let v = one_statement s (back SpellsStatement r.1 t) in (ap₂ (λ x s. OnErrorStatement p x s) r.0 v.0, v.1)
@@ -198,7 +204,7 @@ mutual
       let v = one_event_end d (back SpellsEventEnd s.1 e) in (answers_same r.0 s.0 v.0, v.1)
   one_basic (forgets {p = p} x) (forgets y) = let r = one_selector x y in (ap (λ x. OffError p x) r.0, tail_same r.1)
   one_basic sends sends = (refl, refl)
-  one_basic d (acts e) = absurd (omega (arith, event_starts e))
+  one_basic d (acts e) = absurd (other_start (event_starts e) refl)
 
   pub one_alternative : {x y : Alternative} {b a c : Words} → SpellsAlternative x b a → SpellsAlternative y b c → (x ≡ y) × (a ≡ c)
   one_alternative (no_alternative n) (no_alternative m) = (refl, refl)

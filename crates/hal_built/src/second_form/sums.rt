@@ -3,7 +3,8 @@
 ghost use Rattle.std.specs.Prelude.{◌≡◌, [], ◌∷◌, map, nat_lt, if◌then◌else◌, Some, None, IfOk};
 ghost use Rattle.std.specs.Option.{option_map};
 ghost use Rattle.hal_base.specs.declared.limits.TheConstants.{CHANNEL_COUNT};
-ghost use Rattle.hal_grammar.specs.Expressions.{Compare, Literal, Referred, Sum};
+ghost use Rattle.hal_grammar.specs.Expressions as grammar;
+ghost use Rattle.hal_grammar.specs.Expressions.{Compare, Literal, Referred};
 ghost use Rattle.hal_tree.specs.Rows.{terms};
 ghost use Rattle.hal_tree.specs.SeenLeaves.{seen_literal, seen_relation, seen_sign};
 ghost use Rattle.hal_tree.specs.SeenExpressions.{seen_expression, seen_reference, seen_signed};
@@ -228,7 +229,7 @@ fn summed(
     first: &Expr,
     others: &[SignedTerm],
 ) -> Result<Option<Sum>, AllocError>
-    ensures { IfOk result (λ found. option_map sum_tree found ≡ sum_of (Sum place (option_map seen_sign opening.now) (seen_expression first.now) (terms (map seen_signed others.now)))) }
+    ensures { IfOk result (λ found. option_map sum_tree found ≡ sum_of (grammar.Sum place (option_map seen_sign opening.now) (seen_expression first.now) (terms (map seen_signed others.now)))) }
 {
     if let Some(_) = opening {
         return Ok(None);
