@@ -31,7 +31,7 @@ impl<'a> Model for Definitions<'a> {
 }
 
 impl<'a> Definitions<'a> {
-    ghost use Rattle.std.specs.Prelude.{◌≡◌, ◌∷◌, [], OnOk, IfSome, length};
+    ghost use Rattle.std.specs.Prelude.{◌≡◌, ◌∷◌, [], Some, IsTrue, OnOk, IfSome, length};
     ghost use Rattle.std.specs.Option.{option_map};
     ghost use Rattle.hal_words.specs.Reserved.{look_up};
     ghost use Rattle.hal_lexer.specs.Texts.{IsText};
@@ -67,6 +67,16 @@ impl<'a> Definitions<'a> {
             return Err(AllocError);
         }
         Ok(())
+    }
+
+    /// Whether this text stands in place of this name.
+    pub(crate) fn has(&self, name: &Name, text: &[u8]) -> bool
+        ensures { IsTrue result → look_up self.now name.now ≡ Some text.now }
+    {
+        match self.text(name) {
+            Some(known) => known == text,
+            None => false,
+        }
     }
 
     /// The text that stands in place of this name.

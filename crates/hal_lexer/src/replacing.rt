@@ -1,14 +1,15 @@
 //! The definitions of a file, and the words that stand in place of a word of the file.
 
-ghost use Rattle.std.specs.Prelude.{◌≡◌, ◌<◌, ◌∷◌, [], ◌++◌, List, length, map, OnOk, IfErr};
+ghost use Rattle.std.specs.Prelude.{◌≡◌, ◌<◌, ◌∷◌, [], ◌++◌, ◌⊎◌, List, length, map, None, Some, OnOk, IfErr};
 ghost use Rattle.hal_words.specs.declared.word.Word.TheVariants as word;
 ghost use Rattle.hal_words.specs.Pieces.{Is};
 ghost use Rattle.hal_words.specs.Lines as lines;
 ghost use Rattle.hal_words.specs.Lines.{item};
 ghost use Rattle.hal_words.specs.Replacing.{replaced_word};
+ghost use Rattle.hal_words.specs.Reserved.{look_up};
 ghost use Rattle.hal_words.specs.Words.{word_item};
 ghost use Rattle.hal_pieces.specs.Faults.{IsMemory};
-ghost use Rattle.hal_lexer.specs.Compiled.{IsCompiled, IsOrdered, children_at, gives};
+ghost use Rattle.hal_lexer.specs.Compiled.{IsCompiled, IsOrdered, children_at, gives, number_of};
 ghost use Rattle.hal_lexer.specs.Faults.{Explains};
 ghost use Rattle.hal_lexer.specs.Texts.{IsText};
 ghost use Rattle.hal_lexer.specs.Walks.{kept, left_words, length_left};
@@ -45,7 +46,7 @@ impl<'a> Replacements<'a> {
     }
 
     /// Adds a definition. What is compiled rests on the definitions of its names, so where this name is
-    /// one of them, each name is compiled anew at its next use.
+    /// one of them and its text is another than before, each name is compiled anew at its next use.
     pub(crate) fn define(&mut self, name: Name, text: &'a [u8]) -> Result<(), Fault>
         requires text { IsText text.now }
         requires compiled { IsCompiled self.old.definitions self.old.compiled }
@@ -53,7 +54,7 @@ impl<'a> Replacements<'a> {
         ensures compiled { OnOk result (IsCompiled self.new.definitions self.new.compiled) }
         ensures memory { IfErr result IsMemory }
     {
-        self.compiled.forget(&name);
+        forget_changed(&mut self.compiled, &self.definitions, &name, text);
         if self.definitions.push(name, text).is_err() {
             return Err(Fault::Memory(AllocError));
         }
@@ -105,6 +106,17 @@ impl<'a> Replacements<'a> {
             Some(number) => write(alloc, &self.compiled, tokens, number, place),
             None => tokens.push(Word::Name(name), place),
         }
+    }
+}
+
+/// Forgets what is compiled, where it may rest on a text of this name that is another than this one.
+fn forget_changed(compiled: &mut Compiled, definitions: &Definitions, name: &Name, text: &[u8])
+    ensures { ((number_of compiled.old name.now ≡ None) × (compiled.new ≡ compiled.old))
+        ⊎ ((look_up definitions.now name.now ≡ Some text.now) × (compiled.new ≡ compiled.old))
+        ⊎ (compiled.new ≡ []) }
+{
+    if !definitions.has(name, text) {
+        compiled.forget(name);
     }
 }
 
