@@ -18,6 +18,8 @@ use crate::child::Child;
 use crate::compiled::Compiled;
 use crate::compiling::number;
 use crate::definitions::Definitions;
+use crate::order::Order;
+use crate::text::Text;
 use crate::text_words::is_replace;
 use crate::token_list::Tokens;
 use crate::walk::Walk;
@@ -26,11 +28,12 @@ use hal_pieces::broken;
 use hal_words::{Name, Word};
 use std::alloc::{AllocError, Global};
 
-/// The definitions so far, and what of them is compiled.
+/// The definitions so far, what of them is compiled, and in which order more is to be.
 #[derive(Drop)]
 pub(crate) struct Replacements<'a> {
     definitions: Definitions<'a>,
     compiled: Compiled,
+    order: Order,
 }
 
 impl<'a> Replacements<'a> {
@@ -42,22 +45,25 @@ impl<'a> Replacements<'a> {
         Replacements {
             definitions: Definitions::new(alloc),
             compiled: Compiled::new(alloc),
+            order: Order::new(alloc),
         }
     }
 
     /// Adds a definition. What is compiled rests on the definitions of its names, so where this name is
     /// one of them and its text is another than before, each name is compiled anew at its next use.
-    pub(crate) fn define(&mut self, name: Name, text: &'a [u8]) -> Result<(), Fault>
+    pub(crate) fn define(&mut self, alloc: Global, name: Name, text: &'a [u8]) -> Result<(), Fault>
         requires text { IsText text.now }
         requires compiled { IsCompiled self.old.definitions self.old.compiled }
         ensures added { OnOk result (self.new.definitions ≡ (name, text.now) ∷ self.old.definitions) }
         ensures compiled { OnOk result (IsCompiled self.new.definitions self.new.compiled) }
         ensures memory { IfErr result IsMemory }
     {
+        let slot = self.compiled.slot(name).map_err(Fault::Memory)?;
+        let cut = Text::cut(alloc, &mut self.compiled, text).map_err(Fault::Memory)?;
         forget_changed(&mut self.compiled, &self.definitions, &name, text);
-        if self.definitions.push(name, text).is_err() {
-            return Err(Fault::Memory(AllocError));
-        }
+        self.order.renew(self.compiled.is_empty());
+        let index = self.definitions.push(name, cut).map_err(Fault::Memory)?;
+        self.order.note(slot, index).map_err(Fault::Memory)?;
         Ok(())
     }
 
@@ -102,7 +108,15 @@ impl<'a> Replacements<'a> {
         ensures broken { IfErr result (λ fault. (rest : List lines.Item) →
             Explains (map word_item tokens.old ++ (replaced_word self.old.definitions (item (Is (word.Name name)) place) ++ rest)) fault) }
     {
-        match number(alloc, &self.definitions, &mut self.compiled, name, place)? {
+        let found = number(
+            alloc,
+            &self.definitions,
+            &mut self.compiled,
+            &mut self.order,
+            name,
+            place,
+        )?;
+        match found {
             Some(number) => write(alloc, &self.compiled, tokens, number, place),
             None => tokens.push(Word::Name(name), place),
         }
