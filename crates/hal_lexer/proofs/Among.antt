@@ -46,7 +46,7 @@ pub among_open : (entries : List Entry) (frames : List Opened) (name : List ℕ)
 among_open entries frames name is =
     among_lookup entries name ∙ sym (among_reverse (map opened_of entries) name) ∙ ap (λ (list : List Opened). is_among (names_of list) name) is
 
-none_of : {X : Type 0} (one : Option X) → is_some one ≡ false → one ≡ None
+pub none_of : {X : Type 0} (one : Option X) → is_some one ≡ false → one ≡ None
 none_of None is = refl
 none_of (Some value) is = let no : true ≡ false = is in absurd (cc)
 

@@ -14,6 +14,7 @@ use Rattle.hal_lexer.proofs.NameEquality.{eq-same, eq-flipped, lookup-same}
 use Rattle.hal_lexer.specs.declared.definitions.Definition.{Definition}
 use Rattle.hal_lexer.specs.Texts.{IsText}
 use Rattle.hal_lexer.specs.Defined.{pair_of, found, Names, IsIndex}
+use Rattle.hal_lexer.proofs.Tables.{same_name}
 
 pub lookup-found : (entries : List (List ℕ × ℕ)) (name : List ℕ) → lookup ((derived.eq-value).it name) entries ≡ found entries name
 lookup-found entries name = lookup-same _ _ (eq-flipped name) entries
@@ -60,7 +61,7 @@ pub names_of_index : (entries : List (List ℕ × ℕ)) (list definitions : Defi
 names_of_index entries list definitions name number index is found_is =
     rw (found_is, lookup-found entries name, ← is) (index.finds name)
 
-pub text_found : (items : List Definition) (i : ℕ) (one : Definition) (text : Option (List ℕ)) → Names (map pair_of items) (Some i) text → slice_get items i ≡ Some one → text ≡ Some one.text.now
+pub text_found : (items : List Definition) (i : ℕ) (one : Definition) (text : Option (List ℕ)) → Names (map pair_of items) (Some i) text → slice_get items i ≡ Some one → text ≡ Some one.text
 text_found items i one text is got =
     let here : slice_get (map pair_of items) i ≡ Some (pair_of one) = slice_get-map pair_of items i ∙ ap (option_map pair_of) got in
     let same : Some is.0 ≡ Some (pair_of one) = sym is.1 ∙ here in
@@ -73,15 +74,21 @@ no_text items i text is got =
     let no : Some is.0 ≡ None = sym is.1 ∙ here in
     absurd (cc)
 
-pub text_is_text : (items : List Definition) (i : ℕ) (one : Definition) → All (λ (pair : List ℕ × List ℕ). IsText pair.1) (map pair_of items) → slice_get items i ≡ Some one → IsText one.text.now
+pub text_is_text : (items : List Definition) (i : ℕ) (one : Definition) → All (λ (pair : List ℕ × List ℕ). IsText pair.1) (map pair_of items) → slice_get items i ≡ Some one → IsText one.text
 text_is_text items i one all got =
     let here : slice_get (map pair_of items) i ≡ Some (pair_of one) = slice_get-map pair_of items i ∙ ap (option_map pair_of) got in
     subst (λ (pair : List ℕ × List ℕ). IsText pair.1) (get_or_from_slice_get (map pair_of items) i (pair_of one) (pair_of one) here)
     (all i (pair_of one) (slice_get_within (map pair_of items) i (pair_of one) here))
 
-pub IsIndex-added : (old new : List (List ℕ × ℕ)) (items more : List Definition) (one : Definition) (number : ℕ) → more ≡ items ++ one ∷ [] → number ≡ length items → IsIndex old (map pair_of items) → IsText one.text.now
+pub IsIndex-added : (old new : List (List ℕ × ℕ)) (items more : List Definition) (one : Definition) (number : ℕ) → more ≡ items ++ one ∷ [] → number ≡ length items → IsIndex old (map pair_of items) → IsText one.text
     → ((q : List ℕ) → lookup ((derived.eq-value).it q) new ≡ cond ((derived.eq-value).it one.name q) (Some number) (lookup ((derived.eq-value).it q) old))
     → IsIndex new (map pair_of more)
 IsIndex-added old new items more one number added last index is updates =
     let count : number ≡ length (map pair_of items) = omega (arith, length-map items pair_of) in
-    rw (added, map-append pair_of items (one ∷ [])) (IsIndex-push old new (map pair_of items) one.name one.text.now number count index is updates)
+    rw (added, map-append pair_of items (one ∷ [])) (IsIndex-push old new (map pair_of items) one.name one.text number count index is updates)
+
+-- a name that is found by its index
+pub own_found : (entries : List (List ℕ × ℕ)) (own name : List ℕ) (number : ℕ) → lookup ((derived.eq-value).it own) entries ≡ Some number → (derived.eq-value).it own name ≡ true → Some number ≡ lookup ((derived.eq-value).it name) entries
+own_found entries own name number at same =
+    let here : own ≡ name = same_name own name (sym (eq-same own name) ∙ same) in
+    sym (ap (λ (n : List ℕ). lookup ((derived.eq-value).it n) entries) (sym here) ∙ at)

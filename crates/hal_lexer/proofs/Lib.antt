@@ -20,3 +20,5 @@ pub mod Steps
 pub mod BothOk
 pub mod Replaced
 pub mod ReadingOn
+pub mod Cutting
+pub mod Raised

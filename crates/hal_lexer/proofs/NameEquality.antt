@@ -2,6 +2,7 @@
 use Rattle.std.proofs.Common.{◌≡◌, ℕ, List, [], ◌∷◌, length, take, Bool, cond, Some, refl, sym, ◌∙◌, ap, Decides}
 use Rattle.std.specs.Prelude.{bytes_eq}
 use Rattle.std.specs.Map.{lookup}
+use Rattle.std.specs.Cmp.{IsEquivalence}
 use Rattle.std.specs.Cmp.Lexicographic.{bytes_decides}
 use Rattle.std.proofs.Math.Seq.{take-append_seam}
 use Rattle.std.proofs.lemmas.Bool.Decides.{same_from_decides, Decides-and, Decides-eqb, Decides-like}
@@ -29,3 +30,10 @@ pub lookup-same : {X : Type 0} (f g : List ℕ → Bool) → ((key : List ℕ) �
 lookup-same f g same [] = refl
 lookup-same f g same (entry ∷ entries) =
     ap (λ b. cond b (Some entry.1) (lookup f entries)) (same entry.0) ∙ ap (λ rest. cond (g entry.0) (Some entry.1) rest) (lookup-same f g same entries)
+
+pub names_equiv : IsEquivalence (λ a b. (derived.eq-value).it a b)
+names_equiv = record {
+  refl = λ a. (eq-Decides a a).1 refl;
+  symm = λ a b. eq-same a b ∙ sym (eq-flipped b a);
+  congr = λ a b other same. ap (λ (n : List ℕ). (derived.eq-value).it n other) ((eq-Decides a b).0 same);
+}

@@ -1,5 +1,5 @@
 -- The map of the numbers, and the list of the children.
-use Rattle.std.proofs.Common.{◌≡◌, ◌<◌, ◌≤◌, ℕ, inl, inr, true, false, Bool, cond, List, [], ◌∷◌, ◌++◌, length, get_or, map, reverse, Option, Some, refl, sym, ap, ◌∙◌, arith}
+use Rattle.std.proofs.Common.{◌≡◌, ◌<◌, ◌≤◌, ℕ, inl, inr, true, false, Bool, cond, List, [], ◌∷◌, ◌++◌, length, get_or, map, reverse, Option, Some, None, refl, sym, ap, ◌∙◌, arith}
 use Rattle.std.specs.Prelude.{bytes_eq, ◌==◌, if◌then◌else◌}
 use Rattle.std.specs.Map.{lookup}
 use Rattle.std.proofs.lemmas.Bool.{cases_Bool}
@@ -11,33 +11,89 @@ use Rattle.hal_lexer.specs.declared.child.Child.{Child}
 use Rattle.hal_lexer.specs.declared.compiled.Entry.{Entry}
 use Rattle.hal_lexer.specs.Compiled.{Table, entry_of, number_of, children_at}
 use Rattle.hal_lexer.specs.Defined.{found}
-use Rattle.hal_lexer.specs.Numbers.{Numbers}
+use Rattle.hal_lexer.specs.Numbers.{Numbers, has_at, still}
 use Rattle.hal_lexer.proofs.NameEquality.{eq-same}
 use Rattle.hal_lexer.proofs.Index.{lookup-found}
+use Rattle.hal_lexer.proofs.Tables.{same_name}
 
 abbrev table_of : List Entry → Table
 table_of items = reverse (map entry_of items)
 
 -- what the map finds
-pub number_found : (entries : List (List ℕ × ℕ)) (list table : Table) (name : List ℕ) → Numbers entries list → list ≡ table → lookup ((derived.eq-value).it name) entries ≡ number_of table name
-number_found entries list table name numbers is = lookup-found entries name ∙ numbers name ∙ ap (λ (t : Table). number_of t name) is
+pub still_number : (entries : List (List ℕ × ℕ)) (list table : Table) (name : List ℕ) (kept : Option ℕ) → Numbers entries list → list ≡ table → lookup ((derived.eq-value).it name) entries ≡ kept
+    → still table name kept ≡ number_of table name
+still_number entries list table name kept numbers is at = ap (still table name) (sym at ∙ lookup-found entries name) ∙ rw (← is) (numbers name)
+
+pub still_own : (entries : List (List ℕ × ℕ)) (list table : Table) (own name : List ℕ) (number : ℕ) → Numbers entries list → list ≡ table → lookup ((derived.eq-value).it own) entries ≡ Some number → (derived.eq-value).it own name ≡ true
+    → still table name (Some number) ≡ number_of table name
+still_own entries list table own name number numbers is at same =
+    let here : own ≡ name = same_name own name (sym (eq-same own name) ∙ same) in
+    still_number entries list table name (Some number) numbers is (ap (λ (n : List ℕ). lookup ((derived.eq-value).it n) entries) (sym here) ∙ at)
+
+-- the name with a number
+past_name : (table : Table) (n : ℕ) (name : List ℕ) → length table ≤ n → has_at table n name ≡ false
+past_name [] n name past = refl
+past_name (entry ∷ older) n name past =
+    let other : (n == length older) ≡ false = grind (arith, nat_tests) in
+    rw other (past_name older n name (omega (arith, past)))
 
 -- one more name
-number_cases : (same : Bool) (number last : ℕ) (before : Option ℕ) → number ≡ last → cond same (Some number) before ≡ (if same then Some last else before)
-number_cases true number last before is = ap Some is
-number_cases false number last before is = refl
+before_cases : (older : Table) (entry : List ℕ × List Child) (q : List ℕ) (before : Option ℕ) → bytes_eq entry.0 q ≡ false → still older q before ≡ number_of older q → still (entry ∷ older) q before ≡ number_of older q
+before_cases older entry q None other is = is
+before_cases older entry q (Some n) other is = elim (cases_Bool (n == length older)) [
+  | inl here ↦
+      let last : n ≡ length older = grind (arith, nat_tests) in
+      let past : has_at older n q ≡ false = past_name older n q (omega (arith, last)) in
+      rw (here, other) (rw past at is)
+  | inr there ↦ rw there is
+]
+
+added_cases : (older : Table) (entry : List ℕ × List Child) (q : List ℕ) (before : Option ℕ) → still older q before ≡ number_of older q
+    → still (entry ∷ older) q (if bytes_eq entry.0 q then Some (length older) else before) ≡ number_of (entry ∷ older) q
+added_cases older entry q before is = elim (cases_Bool (bytes_eq entry.0 q)) [
+  | inl same ↦ let last : (length older == length older) ≡ true = grind (arith, nat_tests) in rw (same, last, same) refl
+  | inr other ↦ rw other (before_cases older entry q before other is)
+]
 
 pub numbers_added : (old new : List (List ℕ × ℕ)) (items more : List Entry) (one : Entry) (number : ℕ) → more ≡ items ++ one ∷ [] → number ≡ length items → Numbers old (table_of items)
-    → ((q : List ℕ) → lookup ((derived.eq-value).it q) new ≡ cond ((derived.eq-value).it one.name q) (Some number) (lookup ((derived.eq-value).it q) old))
-    → Numbers new (table_of more)
+    → ((q : List ℕ) → found new q ≡ (if bytes_eq one.name q then Some number else found old q)) → Numbers new (table_of more)
 numbers_added old new items more one number added last numbers updates = λ q.
     let turned : table_of more ≡ entry_of one ∷ table_of items =
     ap table_of added ∙ ap reverse (map-append entry_of items (one ∷ [])) ∙ reverse-append (map entry_of items) (entry_of one ∷ []) in
     let count : number ≡ length (table_of items) = omega (arith, length-reverse (map entry_of items), length-map items entry_of) in
-    let here : found new q ≡ cond (bytes_eq one.name q) (Some number) (number_of (table_of items) q) =
-    sym (lookup-found new q) ∙ updates q ∙ ap (λ b. cond b (Some number) (lookup ((derived.eq-value).it q) old)) (eq-same one.name q)
-    ∙ ap (λ before. cond (bytes_eq one.name q) (Some number) before) (lookup-found old q ∙ numbers q) in
-    here ∙ number_cases (bytes_eq one.name q) number (length (table_of items)) (number_of (table_of items) q) count ∙ ap (λ (t : Table). number_of t q) (sym turned)
+    rw (turned, updates q, count) (added_cases (table_of items) (entry_of one) q (found old q) (numbers q))
+
+-- the map with a number more
+cond_if : (same : Bool) (one before : Option ℕ) → cond same one before ≡ (if same then one else before)
+cond_if true one before = refl
+cond_if false one before = refl
+
+pub found_updates : (old new : List (List ℕ × ℕ)) (name : List ℕ) (number : ℕ)
+    → ((q : List ℕ) → lookup ((derived.eq-value).it q) new ≡ cond ((derived.eq-value).it name q) (Some number) (lookup ((derived.eq-value).it q) old))
+    → (q : List ℕ) → found new q ≡ (if bytes_eq name q then Some number else found old q)
+found_updates old new name number updates q =
+    sym (lookup-found new q) ∙ updates q ∙ ap (λ b. cond b (Some number) (lookup ((derived.eq-value).it q) old)) (eq-same name q)
+    ∙ ap (λ before. cond (bytes_eq name q) (Some number) before) (lookup-found old q) ∙ cond_if (bytes_eq name q) (Some number) (found old q)
+
+-- a slot for a name
+slot_cases : (table : Table) (q : List ℕ) (same : Bool) (n : ℕ) (before : Option ℕ) → length table ≤ n → still table q before ≡ number_of table q → (same ≡ true → before ≡ None)
+    → still table q (cond same (Some n) before) ≡ number_of table q
+slot_cases table q true n before past is none =
+    let away : has_at table n q ≡ false = past_name table n q past in
+    let new : before ≡ None = none refl in
+    rw away (rw new at is)
+slot_cases table q false n before past is none = is
+
+pub slot_added : (old new : List (List ℕ × ℕ)) (items : List Entry) (name : List ℕ) (number : ℕ) → number ≡ length items → Numbers old (table_of items) → lookup ((derived.eq-value).it name) old ≡ None
+    → ((q : List ℕ) → lookup ((derived.eq-value).it q) new ≡ cond ((derived.eq-value).it name q) (Some number) (lookup ((derived.eq-value).it q) old)) → Numbers new (table_of items)
+slot_added old new items name number last numbers new_name updates = λ q.
+    let past : length (table_of items) ≤ number = omega (arith, last, length-reverse (map entry_of items), length-map items entry_of) in
+    let here : found new q ≡ cond (bytes_eq name q) (Some number) (found old q) =
+    sym (lookup-found new q) ∙ updates q ∙ ap (λ b. cond b (Some number) (lookup ((derived.eq-value).it q) old)) (eq-same name q)
+    ∙ ap (λ before. cond (bytes_eq name q) (Some number) before) (lookup-found old q) in
+    let none : bytes_eq name q ≡ true → found old q ≡ None =
+    λ same. sym (lookup-found old q) ∙ ap (λ (n : List ℕ). lookup ((derived.eq-value).it n) old) (sym (same_name name q same)) ∙ new_name in
+    rw here (slot_cases (table_of items) q (bytes_eq name q) number (found old q) past (numbers q) none)
 
 -- the children at a number
 reverse_twice : (table : Table) → reverse (reverse table) ≡ table
@@ -77,3 +133,32 @@ pub no_children : (items : List Entry) (table : Table) (n : ℕ) → table_of it
 no_children items table n view past =
     let count : length (table_of items) ≡ length items = omega (arith, length-reverse (map entry_of items), length-map items entry_of) in
     sym (past_children (table_of items) n (omega (arith, past, count))) ∙ ap (λ (t : Table). children_at t n) view
+
+-- the name at a number
+got_name : (table : Table) (n : ℕ) (one : List ℕ × List Child) (name : List ℕ) → n < length table → one ≡ get_or (reverse table) n one → has_at table n name ≡ bytes_eq one.0 name
+got_name [] n one name within is = absurd (omega (arith, within))
+got_name (entry ∷ older) n one name within is =
+    let turned : reverse (entry ∷ older) ≡ reverse older ++ entry ∷ [] = reverse-append (entry ∷ []) older in
+    let there : one ≡ get_or (reverse older ++ entry ∷ []) n one = is ∙ ap (λ (t : Table). get_or t n one) turned in
+    elim (cases_Bool (n == length older)) [
+      | inl here ↦
+          let last : n ≡ length (reverse older) = grind (arith, nat_tests, length-reverse older) in
+          let own : one ≡ entry = there ∙ ap (λ k. get_or (reverse older ++ entry ∷ []) k one) last ∙ get_or-append_seam (reverse older) entry [] one in
+          rw here (ap (λ (e : List ℕ × List Child). bytes_eq e.0 name) (sym own))
+      | inr other ↦
+          let before : n < length older = grind (arith, nat_tests) in
+          rw other (got_name older n one name before (there ∙ get_or_append_left (reverse older) (entry ∷ []) one n (omega (arith, before, length-reverse older))))
+    ]
+
+pub name_found : (items : List Entry) (table : Table) (n : ℕ) (one : Entry) (name : List ℕ) → table_of items ≡ table → n < length items → one ≡ get_or items n one
+    → (derived.eq-value).it one.name name ≡ has_at table n name
+name_found items table n one name view within is =
+    let count : length (table_of items) ≡ length items = omega (arith, length-reverse (map entry_of items), length-map items entry_of) in
+    let got : entry_of one ≡ get_or (reverse (table_of items)) n (entry_of one) =
+    ap entry_of is ∙ sym (get_or-map entry_of items n one (entry_of one) within) ∙ ap (λ (t : Table). get_or t n (entry_of one)) (sym (reverse_twice (map entry_of items))) in
+    eq-same one.name name ∙ sym (got_name (table_of items) n (entry_of one) name (omega (arith, within, count)) got) ∙ ap (λ (t : Table). has_at t n name) view
+
+pub no_name_at : (items : List Entry) (table : Table) (n : ℕ) (name : List ℕ) → table_of items ≡ table → length items ≤ n → false ≡ has_at table n name
+no_name_at items table n name view past =
+    let count : length (table_of items) ≡ length items = omega (arith, length-reverse (map entry_of items), length-map items entry_of) in
+    sym (past_name (table_of items) n name (omega (arith, past, count))) ∙ ap (λ (t : Table). has_at t n name) view

@@ -7,7 +7,7 @@ use Rattle.hal_lexer.specs.Texts.{IsText}
 use Rattle.hal_lexer.specs.declared.definitions.Definition.{Definition}
 
 abbrev pub pair_of : Definition → List ℕ × List ℕ
-pair_of one = (one.name, one.text.now)
+pair_of one = (one.name, one.text)
 
 -- what the entries of a map have for a name
 abbrev pub found : List (List ℕ × ℕ) → List ℕ → Option ℕ

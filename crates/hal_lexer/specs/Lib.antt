@@ -4,4 +4,5 @@ pub mod Compiled
 pub mod Numbers
 pub mod Opened
 pub mod Walks
+pub mod Parts
 pub mod Faults

@@ -1,3 +1,7 @@
+ghost use Rattle.std.specs.Prelude.{◌≡◌, ◌<◌, ℕ, List, Some, IsTrue, slice_get, bytes_eq, if◌then◌else◌, OnOk, OnErr};
+ghost use Rattle.indexmap.specs.IndexMap.{IsUnchanged, index_map_len};
+ghost use Rattle.hal_lexer.specs.Defined.{found};
+
 use crate::child::Child;
 use hal_words::Name;
 use indexmap::IndexMap;
@@ -12,7 +16,8 @@ pub(crate) struct Entry {
 }
 
 /// The names that were looked up, each with its children, which are words or names before it. A contract
-/// sees the list, the latest first.
+/// sees the list, the latest first. Each name that it was asked for has a slot in the map, which it keeps:
+/// there stands its number, or one that it had before all was forgotten.
 #[derive(Drop)]
 pub(crate) struct Compiled {
     list: Vec<Entry>,
@@ -32,8 +37,9 @@ impl Model for Compiled {
 }
 
 impl Compiled {
-    ghost use Rattle.std.specs.Prelude.{◌≡◌, ◌∷◌, [], ◌⊎◌, None, OnOk};
+    ghost use Rattle.std.specs.Prelude.{◌≡◌, ◌∷◌, [], ◌⊎◌, None, Some, OnOk};
     ghost use Rattle.hal_lexer.specs.Compiled.{children_at, number_of};
+    ghost use Rattle.hal_lexer.specs.Numbers.{has_at, still};
 
     /// No name.
     pub(crate) fn new(alloc: Global) -> Compiled
@@ -45,11 +51,70 @@ impl Compiled {
         }
     }
 
+    /// Whether no name is compiled.
+    pub(crate) fn is_empty(&self) -> bool {
+        self.list.is_empty()
+    }
+
+    /// Whether the name with this number is the one.
+    fn has_at(&self, number: usize, name: &Name) -> bool
+        ensures { result ≡ has_at self.now number name.now }
+    {
+        match self.list.get(number) {
+            Some(entry) => entry.name == *name,
+            None => false,
+        }
+    }
+
+    /// The number, where it still is the name's.
+    fn still(&self, number: usize, name: &Name) -> Option<usize>
+        ensures { result ≡ still self.now name.now (Some number) }
+    {
+        if self.has_at(number, name) {
+            Some(number)
+        } else {
+            None
+        }
+    }
+
     /// The number of a name that was looked up.
     pub(crate) fn number(&self, name: &Name) -> Option<usize>
         ensures { result ≡ number_of self.now name.now }
     {
-        self.numbers.get(name).copied()
+        match self.numbers.get(name) {
+            Some(number) => self.still(*number, name),
+            None => None,
+        }
+    }
+
+    /// The same, without hashing where the name has this slot.
+    pub(crate) fn number_at(&self, slot: usize, name: &Name) -> Option<usize>
+        ensures { result ≡ number_of self.now name.now }
+    {
+        match self.numbers.get_index(slot) {
+            Some((kept, number)) if *kept == *name => self.still(*number, name),
+            _ => self.number(name),
+        }
+    }
+
+    /// The slot of a name, which it gets where it has none.
+    pub(crate) fn slot(&mut self, name: Name) -> Result<usize, AllocError>
+        ensures { self.new ≡ self.old }
+    {
+        if let Some(slot) = self.numbers.get_index_of(&name) {
+            return Ok(slot);
+        }
+        let past = self.list.len();
+        let Ok((slot, _)) = self.numbers.insert_full(name, past) else {
+            return Err(AllocError);
+        };
+        Ok(slot)
+    }
+
+    /// The name that has this slot.
+    pub(crate) fn name_at(&self, slot: usize) -> Option<Name> {
+        let (name, _) = self.numbers.get_index(slot)?;
+        Some(*name)
     }
 
     /// The children of the name with this number.
@@ -62,19 +127,32 @@ impl Compiled {
         }
     }
 
-    /// Adds a name with its children.
-    pub(crate) fn push(&mut self, name: Name, children: Vec<Child>) -> Result<(), AllocError>
+    /// Adds a name with its children. It has this slot, or another.
+    pub(crate) fn push_at(
+        &mut self,
+        slot: usize,
+        name: Name,
+        children: Vec<Child>,
+    ) -> Result<(), AllocError>
         ensures { OnOk result (self.new ≡ (name, children.items) ∷ self.old) }
     {
         let number = self.list.len();
         if self.list.push(Entry { name, children }).is_err() {
             return Err(AllocError);
         }
-        if self.numbers.insert(name, number).is_err() {
+        if set(&mut self.numbers, slot, name, number).is_err() {
             self.list.pop();
             return Err(AllocError);
         }
         Ok(())
+    }
+
+    /// Adds a name with its children.
+    pub(crate) fn push(&mut self, name: Name, children: Vec<Child>) -> Result<(), AllocError>
+        ensures { OnOk result (self.new ≡ (name, children.items) ∷ self.old) }
+    {
+        let slot = self.numbers.len();
+        self.push_at(slot, name, children)
     }
 
     /// Forgets each name, where this one is among them.
@@ -83,7 +161,38 @@ impl Compiled {
     {
         if self.number(name).is_some() {
             self.list.clear();
-            self.numbers.clear();
         }
+    }
+}
+
+/// Gives a name this number, without hashing where it has this slot.
+fn set(
+    numbers: &mut IndexMap<Name, usize>,
+    slot: usize,
+    name: Name,
+    number: usize,
+) -> Result<(), AllocError>
+    ensures set { OnOk result ((q : List ℕ) → found numbers.new.entries q ≡ (if bytes_eq name q then Some number else found numbers.old.entries q)) }
+    ensures kept { OnErr result (IsUnchanged numbers.old numbers.new) }
+{
+    if has_slot(numbers, slot, &name) {
+        let (_, kept) = numbers.pair_mut(slot);
+        *kept = number;
+        return Ok(());
+    }
+    match numbers.insert(name, number) {
+        Ok(_) => Ok(()),
+        Err(_) => Err(AllocError),
+    }
+}
+
+/// Whether the name has this slot.
+fn has_slot(numbers: &IndexMap<Name, usize>, slot: usize, name: &Name) -> bool
+    ensures has { IsTrue result → (number : ℕ) × (slice_get numbers.now.entries slot ≡ Some (name.now, number)) }
+    ensures within { IsTrue result → slot < index_map_len numbers.now }
+{
+    match numbers.get_index(slot) {
+        Some((kept, _)) => *kept == *name,
+        None => false,
     }
 }

@@ -1,13 +1,14 @@
+use crate::text::{Part, Text};
 use hal_words::Name;
 use indexmap::IndexMap;
 use std::alloc::{AllocError, Global};
 use std::marker::Model;
 
 /// The text that stands in place of a name.
-#[derive(Clone, Copy, Debug)]
+#[derive(Debug, Drop)]
 pub(crate) struct Definition<'a> {
     name: Name,
-    text: &'a [u8],
+    text: Text<'a>,
 }
 
 /// The definitions so far; of two with one name the later one holds. A contract sees the list, the
@@ -31,7 +32,7 @@ impl<'a> Model for Definitions<'a> {
 }
 
 impl<'a> Definitions<'a> {
-    ghost use Rattle.std.specs.Prelude.{◌≡◌, ◌∷◌, [], OnOk, IfSome, length};
+    ghost use Rattle.std.specs.Prelude.{◌≡◌, ◌∷◌, [], Some, IsTrue, OnOk, IfSome, length};
     ghost use Rattle.std.specs.Option.{option_map};
     ghost use Rattle.hal_words.specs.Reserved.{look_up};
     ghost use Rattle.hal_lexer.specs.Texts.{IsText};
@@ -53,20 +54,30 @@ impl<'a> Definitions<'a> {
         self.list.len()
     }
 
-    /// Adds a definition.
-    pub(crate) fn push(&mut self, name: Name, text: &'a [u8]) -> Result<(), AllocError>
-        requires { IsText text.now }
-        ensures { OnOk result (self.new ≡ (name, text.now) ∷ self.old) }
+    /// Adds a definition. The result is the index that its name has among the names with a text.
+    pub(crate) fn push(&mut self, name: Name, text: Text<'a>) -> Result<usize, AllocError>
+        requires { IsText text }
+        ensures { OnOk result (self.new ≡ (name, text.entry) ∷ self.old) }
     {
         let number = self.list.len();
         if self.list.push(Definition { name, text }).is_err() {
             return Err(AllocError);
         }
-        if self.latest.insert(name, number).is_err() {
+        let Ok((index, _)) = self.latest.insert_full(name, number) else {
             self.list.pop();
             return Err(AllocError);
+        };
+        Ok(index)
+    }
+
+    /// Whether this text stands in place of this name.
+    pub(crate) fn has(&self, name: &Name, text: &[u8]) -> bool
+        ensures { IsTrue result → look_up self.now name.now ≡ Some text.now }
+    {
+        match self.text(name) {
+            Some(known) => known == text,
+            None => false,
         }
-        Ok(())
     }
 
     /// The text that stands in place of this name.
@@ -74,8 +85,42 @@ impl<'a> Definitions<'a> {
         ensures found { option_map (λ text. text.now) result ≡ look_up self.now name.now }
         ensures text { IfSome result (λ text. IsText text.now) }
     {
+        match self.latest_of(name) {
+            Some(text) => Some(text.bytes()),
+            None => None,
+        }
+    }
+
+    /// The text that stands in place of this name, with its words.
+    pub(crate) fn latest_of(&self, name: &Name) -> Option<&Text<'a>>
+        ensures { option_map (λ text. text.now) result ≡ look_up self.now name.now }
+    {
         let index = self.latest.get(name)?;
         let definition = self.list.get(*index)?;
-        Some(definition.text)
+        Some(&definition.text)
+    }
+
+    /// The same, without hashing where the name has this index.
+    pub(crate) fn text_at(&self, index: usize, name: &Name) -> Option<&Text<'a>>
+        ensures { option_map (λ text. text.now) result ≡ look_up self.now name.now }
+    {
+        match self.latest.get_index(index) {
+            Some((kept, number)) if *kept == *name => match self.list.get(*number) {
+                Some(definition) => Some(&definition.text),
+                None => None,
+            },
+            _ => self.latest_of(name),
+        }
+    }
+
+    /// The words of the text whose name has this index, as far as they are cut.
+    pub(crate) fn parts_at(&self, index: usize) -> &[Part] {
+        let Some((_, number)) = self.latest.get_index(index) else {
+            return &[];
+        };
+        match self.list.get(*number) {
+            Some(definition) => definition.text.parts().unwrap_or(&[]),
+            None => &[],
+        }
     }
 }

@@ -76,7 +76,7 @@ fn take<'a>(
         return Ok(0);
     };
     if is_replace(&one.piece) {
-        define(replacements, one.place, behind)?;
+        define(alloc, replacements, one.place, behind)?;
         return Ok(5);
     }
     let word = word_of(alloc, &one.piece, one.place)?;
@@ -93,6 +93,7 @@ fn is_replace(piece: &Piece) -> bool
 
 /// Adds the definition that stands behind REPLACE at this place.
 fn define<'a>(
+    alloc: Global,
     replacements: &mut Replacements<'a>,
     place: Place,
     behind: &[Item<'a>],
@@ -108,7 +109,7 @@ fn define<'a>(
     let Some((name, text)) = definition(behind) else {
         return Err(broken(formless(behind), place));
     };
-    if replacements.define(name, text).is_err() {
+    if replacements.define(alloc, name, text).is_err() {
         return Err(Fault::Memory(AllocError));
     }
     Ok(())

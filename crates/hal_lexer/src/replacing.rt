@@ -1,14 +1,15 @@
 //! The definitions of a file, and the words that stand in place of a word of the file.
 
-ghost use Rattle.std.specs.Prelude.{◌≡◌, ◌<◌, ◌∷◌, [], ◌++◌, List, length, map, OnOk, IfErr};
+ghost use Rattle.std.specs.Prelude.{◌≡◌, ◌<◌, ◌∷◌, [], ◌++◌, ◌⊎◌, List, length, map, None, Some, OnOk, IfErr};
 ghost use Rattle.hal_words.specs.declared.word.Word.TheVariants as word;
 ghost use Rattle.hal_words.specs.Pieces.{Is};
 ghost use Rattle.hal_words.specs.Lines as lines;
 ghost use Rattle.hal_words.specs.Lines.{item};
 ghost use Rattle.hal_words.specs.Replacing.{replaced_word};
+ghost use Rattle.hal_words.specs.Reserved.{look_up};
 ghost use Rattle.hal_words.specs.Words.{word_item};
 ghost use Rattle.hal_pieces.specs.Faults.{IsMemory};
-ghost use Rattle.hal_lexer.specs.Compiled.{IsCompiled, IsOrdered, children_at, gives};
+ghost use Rattle.hal_lexer.specs.Compiled.{IsCompiled, IsOrdered, children_at, gives, number_of};
 ghost use Rattle.hal_lexer.specs.Faults.{Explains};
 ghost use Rattle.hal_lexer.specs.Texts.{IsText};
 ghost use Rattle.hal_lexer.specs.Walks.{kept, left_words, length_left};
@@ -17,6 +18,8 @@ use crate::child::Child;
 use crate::compiled::Compiled;
 use crate::compiling::number;
 use crate::definitions::Definitions;
+use crate::order::Order;
+use crate::text::Text;
 use crate::text_words::is_replace;
 use crate::token_list::Tokens;
 use crate::walk::Walk;
@@ -25,11 +28,12 @@ use hal_pieces::broken;
 use hal_words::{Name, Word};
 use std::alloc::{AllocError, Global};
 
-/// The definitions so far, and what of them is compiled.
+/// The definitions so far, what of them is compiled, and in which order more is to be.
 #[derive(Drop)]
 pub(crate) struct Replacements<'a> {
     definitions: Definitions<'a>,
     compiled: Compiled,
+    order: Order,
 }
 
 impl<'a> Replacements<'a> {
@@ -41,22 +45,25 @@ impl<'a> Replacements<'a> {
         Replacements {
             definitions: Definitions::new(alloc),
             compiled: Compiled::new(alloc),
+            order: Order::new(alloc),
         }
     }
 
     /// Adds a definition. What is compiled rests on the definitions of its names, so where this name is
-    /// one of them, each name is compiled anew at its next use.
-    pub(crate) fn define(&mut self, name: Name, text: &'a [u8]) -> Result<(), Fault>
+    /// one of them and its text is another than before, each name is compiled anew at its next use.
+    pub(crate) fn define(&mut self, alloc: Global, name: Name, text: &'a [u8]) -> Result<(), Fault>
         requires text { IsText text.now }
         requires compiled { IsCompiled self.old.definitions self.old.compiled }
         ensures added { OnOk result (self.new.definitions ≡ (name, text.now) ∷ self.old.definitions) }
         ensures compiled { OnOk result (IsCompiled self.new.definitions self.new.compiled) }
         ensures memory { IfErr result IsMemory }
     {
-        self.compiled.forget(&name);
-        if self.definitions.push(name, text).is_err() {
-            return Err(Fault::Memory(AllocError));
-        }
+        let slot = self.compiled.slot(name).map_err(Fault::Memory)?;
+        let cut = Text::cut(alloc, &mut self.compiled, text).map_err(Fault::Memory)?;
+        forget_changed(&mut self.compiled, &self.definitions, &name, text);
+        self.order.renew(self.compiled.is_empty());
+        let index = self.definitions.push(name, cut).map_err(Fault::Memory)?;
+        self.order.note(slot, index).map_err(Fault::Memory)?;
         Ok(())
     }
 
@@ -101,10 +108,29 @@ impl<'a> Replacements<'a> {
         ensures broken { IfErr result (λ fault. (rest : List lines.Item) →
             Explains (map word_item tokens.old ++ (replaced_word self.old.definitions (item (Is (word.Name name)) place) ++ rest)) fault) }
     {
-        match number(alloc, &self.definitions, &mut self.compiled, name, place)? {
+        let found = number(
+            alloc,
+            &self.definitions,
+            &mut self.compiled,
+            &mut self.order,
+            name,
+            place,
+        )?;
+        match found {
             Some(number) => write(alloc, &self.compiled, tokens, number, place),
             None => tokens.push(Word::Name(name), place),
         }
+    }
+}
+
+/// Forgets what is compiled, where it may rest on a text of this name that is another than this one.
+fn forget_changed(compiled: &mut Compiled, definitions: &Definitions, name: &Name, text: &[u8])
+    ensures { ((number_of compiled.old name.now ≡ None) × (compiled.new ≡ compiled.old))
+        ⊎ ((look_up definitions.now name.now ≡ Some text.now) × (compiled.new ≡ compiled.old))
+        ⊎ (compiled.new ≡ []) }
+{
+    if !definitions.has(name, text) {
+        compiled.forget(name);
     }
 }
 

@@ -21,9 +21,17 @@ pub(crate) enum Kind {
     Chain,
     /// A name that stands for nothing, through 40 definitions that each use the one before twice.
     Empties,
+    /// A chain of names as long as a 75th of the bytes, whose end is defined again and again by the same
+    /// text, with a use of its head behind each.
+    Same,
+    /// The same by two texts in turn, of which one is a word.
+    Turns,
+    /// A name that stands for as many times another as there are eighths of the bytes, where the other
+    /// comes to nothing by two texts in turn.
+    Wide,
 }
 
-pub(crate) const KINDS: [Kind; 8] = [
+pub(crate) const KINDS: [Kind; 11] = [
     Kind::Ordinary,
     Kind::Comment,
     Kind::Line,
@@ -32,6 +40,9 @@ pub(crate) const KINDS: [Kind; 8] = [
     Kind::Replacements,
     Kind::Chain,
     Kind::Empties,
+    Kind::Same,
+    Kind::Turns,
+    Kind::Wide,
 ];
 
 /// A name that stands for a name, and so on, nine deep.
@@ -60,6 +71,30 @@ fn empties(alloc: Global, count: usize) -> Result<String, AllocError> {
     Ok(lines)
 }
 
+/// Lines of which each defines a name as the name before, from Z1 on, and HEAD as the last of them.
+fn chain_to_head(alloc: Global, count: usize) -> Result<String, AllocError> {
+    let mut lines = String::new(alloc);
+    for from in 0..count {
+        let to = from.saturating_add(1);
+        let line = format!(in alloc; " REPLACE Z{to} BY \"Z{from}\";\n")?;
+        lines.push_str(line.as_str())?;
+    }
+    let head = format!(in alloc; " REPLACE HEAD BY \"Z{count}\";\n")?;
+    lines.push_str(head.as_str())?;
+    Ok(lines)
+}
+
+/// A line that defines HEAD as so many times Z0.
+fn wide(alloc: Global, count: usize) -> Result<String, AllocError> {
+    let mut line = String::new(alloc);
+    line.push_str(" REPLACE HEAD BY \"")?;
+    for _ in 0..count {
+        line.push_str("Z0 ")?;
+    }
+    line.push_str("\";\n")?;
+    Ok(line)
+}
+
 /// What the text begins with, what is repeated, and what it ends with.
 #[derive(Clone, Copy)]
 struct Parts {
@@ -79,6 +114,9 @@ impl Kind {
             Kind::Replacements => "replacements",
             Kind::Chain => "chain",
             Kind::Empties => "empties",
+            Kind::Same => "same",
+            Kind::Turns => "turns",
+            Kind::Wide => "wide",
         }
     }
 
@@ -124,6 +162,21 @@ impl Kind {
                 repeat: " N = N + E40 1; /* FROM THE LAST POSITION */\n",
                 end: "",
             },
+            Kind::Same => Parts {
+                begin: "",
+                repeat: " REPLACE Z0 BY \"\"; HEAD\n",
+                end: "",
+            },
+            Kind::Turns => Parts {
+                begin: "",
+                repeat: " REPLACE Z0 BY \"\"; HEAD\n REPLACE Z0 BY \"X\"; HEAD\n",
+                end: "",
+            },
+            Kind::Wide => Parts {
+                begin: "",
+                repeat: " REPLACE Z0 BY \"\"; HEAD\n REPLACE Z0 BY \" \"; HEAD\n",
+                end: "",
+            },
         }
     }
 
@@ -132,6 +185,8 @@ impl Kind {
         match self {
             Kind::Chain => chain(alloc, size / 64),
             Kind::Empties => empties(alloc, 40),
+            Kind::Same | Kind::Turns => chain_to_head(alloc, size / 75),
+            Kind::Wide => wide(alloc, size / 8),
             _ => Ok(String::new(alloc)),
         }
     }
@@ -143,7 +198,8 @@ impl Kind {
         text.extend_from_slice(parts.begin.as_bytes())?;
         let definitions = self.definitions(alloc, size)?;
         text.extend_from_slice(definitions.as_bytes())?;
-        for _ in 0..=size / parts.repeat.len().max(1) {
+        let left = size.saturating_sub(text.len());
+        for _ in 0..=left / parts.repeat.len().max(1) {
             text.extend_from_slice(parts.repeat.as_bytes())?;
         }
         text.extend_from_slice(parts.end.as_bytes())?;

@@ -1,7 +1,7 @@
 use Rattle.std.proofs.Common.{◌≡◌, ◌++◌, [], ◌∷◌, length, rules}
 use Rattle.hal_lexer.specs.declared.compiled.Entry.{Entry}
 use Rattle.hal_lexer.proofs.NumberIndex.{numbers_added}
-use Rattle.hal_lexer.proofs.compiled.Compiled.push.Goals as goal
+use Rattle.hal_lexer.proofs.compiled.Compiled.push_at.Goals as goal
 
 pub invariant_of-self-else-is_err-2 : goal.invariant_of-self-else-is_err-2
 invariant_of-self-else-is_err-2 c =

@@ -1,0 +1,48 @@
+-- A name is compiled from the words of its text.
+use Rattle.std.proofs.Common.{◌≡◌, ℕ, List, [], ◌∷◌, ◌++◌, length, map, drop, Some, None, refl, sym, ap, subst, ◌∙◌, append_assoc, append-nil}
+use Rattle.std.proofs.lemmas.List.Elements.{All-cons, All-nil}
+use Rattle.std.specs.Option.{option_to_list}
+use Rattle.hal_base.specs.declared.refusal.Place.{Place}
+use Rattle.hal_words.specs.declared.word.Word.TheVariants as word
+use Rattle.hal_words.specs.Lines.{Item}
+use Rattle.hal_words.specs.Replacing.{Definitions, text_items}
+use Rattle.hal_words.specs.Reserved.{look_up}
+use Rattle.hal_lexer.specs.declared.child.Child.{Child}
+use Rattle.hal_lexer.specs.declared.child.Child.TheVariants as child
+use Rattle.hal_lexer.specs.declared.text.Part.{Part}
+use Rattle.hal_lexer.specs.Compiled.{Table, number_of, word_children, IsBelow, IsReadAs, IsCompiled}
+use Rattle.hal_lexer.specs.Parts.{part_item, AreParts}
+use Rattle.hal_lexer.proofs.Readings.{read_below}
+
+-- the children of the other parts stand behind those of the first ones
+abbrev pub Behind : Table → List Part → List Part → List Child → Type 0
+Behind table parts rest children =
+    (place : Place) (more : List Child) → IsReadAs table place (map (part_item place) rest) more → IsReadAs table place (map (part_item place) parts) (children ++ more)
+
+pub behind_start : (table : Table) (parts : List Part) → Behind table parts parts []
+behind_start table parts = λ place more is. is
+
+pub behind_word : (table : Table) (parts left rest : List Part) (one : Part) (first children more : List Child) → left ≡ one ∷ rest → word_children table one.word ≡ Some first → more ≡ children ++ first
+    → Behind table parts left children → Behind table parts rest more
+behind_word table parts left rest one first children more front found added behind = λ place others is.
+    let whole : IsReadAs table place (map (part_item place) left) (first ++ others) = rw front (one.word, first, others, refl, found, is, refl) in
+    let same : children ++ (first ++ others) ≡ more ++ others = sym (append_assoc children first others) ∙ ap (λ (list : List Child). list ++ others) (sym added) in
+    subst (λ (list : List Child). IsReadAs table place (map (part_item place) parts) list) same (behind place (first ++ others) whole)
+
+pub behind_end : (table : Table) (parts rest : List Part) (children : List Child) → rest ≡ [] → Behind table parts rest children → (place : Place) → IsReadAs table place (map (part_item place) parts) children
+behind_end table parts rest children none behind place =
+    let ends : IsReadAs table place (map (part_item place) rest) [] = rw none refl in
+    subst (λ (list : List Child). IsReadAs table place (map (part_item place) parts) list) (append-nil children) (behind place [] ends)
+
+-- one more name
+pub raised_compiled : (definitions : Definitions) (old new : Table) (name text : List ℕ) (parts : List Part) (children : List Child) → new ≡ (name, children) ∷ old → IsCompiled definitions old → number_of old name ≡ None
+    → look_up definitions name ≡ Some text → AreParts text parts → ((place : Place) → IsReadAs old place (map (part_item place) parts) children) → IsCompiled definitions new
+raised_compiled definitions old new name text parts children added compiled uncompiled defined are read =
+    let somewhere : Place = record { unit = 0; line = 0; column = 0 } in
+    let whole : (place : Place) → IsReadAs old place (text_items place text) children = λ place. rw (are place) (read place) in
+    rw added ((read_below old somewhere (text_items somewhere text) children compiled.0 (whole somewhere), uncompiled, compiled.0), (rw defined whole, compiled.1))
+
+pub left_compiled : (definitions : Definitions) (old new : Table) (name : List ℕ) → new ≡ (name, child.Word (word.Name name) ∷ []) ∷ old → IsCompiled definitions old → number_of old name ≡ None
+    → look_up definitions name ≡ None → IsCompiled definitions new
+left_compiled definitions old new name added compiled uncompiled none =
+    rw added ((All-cons (IsBelow (length old)) (child.Word (word.Name name)) [] tt (All-nil (IsBelow (length old))), uncompiled, compiled.0), (rw none refl, compiled.1))
