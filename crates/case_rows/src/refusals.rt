@@ -16,7 +16,7 @@ const HELLO: &[u8] =
     b" HELLO: PROGRAM; DECLARE N INTEGER INITIAL(40); N = N + 2; WRITE(6) N; CLOSE HELLO;\n";
 
 /// Rows of what is refused.
-#[derive(Clone, Copy, Debug)]
+#[derive(Clone, Copy)]
 pub(crate) struct RefusalRows;
 
 impl Rows for RefusalRows {
