@@ -2,7 +2,7 @@
 //! `SCRIPT => reason 2 at 1` is a script whose line 1 is faulty for a reason, and `SCRIPT => 3 events` one that makes so many events of HELLO, which has
 //! three of its own; both are tried as `script`.
 
-use crate::call::{Called, Files, called};
+use crate::call::{Called, Files, run_hal};
 use hal_base::{Place, Refusal, Rule};
 use hal_script::ScriptFault;
 use row_files::{Rows, bytes_of, notation_of};
@@ -39,7 +39,7 @@ impl Rows for RefusalRows {
 /// The call of a unit under a script.
 fn call_of(alloc: Global, script: Vec<u8>, unit: Vec<u8>) -> Result<Called, AllocError> {
     let units = vec![in alloc; ("p.hal".to_string(alloc)?, unit)]?;
-    called(alloc, Files { script, units })
+    run_hal(alloc, Files { script, units })
 }
 
 /// Whether a call came to this status for this file, ran nothing and printed this line.
