@@ -37,7 +37,7 @@ fn words_of(alloc: Global, units: &[(String, Vec<u8>)]) -> Result<Vec<String>, A
 }
 
 /// The call that runs these files on one lane.
-pub(crate) fn called(alloc: Global, files: Files) -> Result<Called, AllocError> {
+pub(crate) fn run_hal(alloc: Global, files: Files) -> Result<Called, AllocError> {
     let words = words_of(alloc, files.units.as_slice())?;
     let Files { script, mut units } = files;
     units.push((SCRIPT.to_string(alloc)?, script))?;

@@ -10,7 +10,7 @@
 //! A section's lines run to the next line that begins with `== ` or `-- `, and each is ended by a newline byte. Where a section's first line
 //! ends in ` coded`, the lines behind it are one text as rows write bytes, which holds a newline where `\n` stands in it.
 
-use crate::call::{Called, Files, called};
+use crate::call::{Called, Files, run_hal};
 use hal_script::write_journal;
 use row_files::{bytes_of, notation_of};
 use std::alloc::{AllocError, Global};
@@ -135,7 +135,7 @@ impl Case {
             wanted,
             is_read,
         } = self;
-        let called = called(alloc, files)?;
+        let called = run_hal(alloc, files)?;
         let came = came(alloc, &called, wanted.journal.is_some())?;
         let wanted = if is_read {
             told(

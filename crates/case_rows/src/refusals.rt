@@ -2,7 +2,7 @@
 //! `SCRIPT => reason 2 at 1` is a script whose line 1 is faulty for a reason, and `SCRIPT => 3 events` one that makes so many events of HELLO, which has
 //! three of its own; both are tried as `script`.
 
-use crate::call::{Called, Files, called};
+use crate::call::{Called, Files, run_hal};
 use hal_base::{Place, Refusal, Rule};
 use hal_script::ScriptFault;
 use row_files::{Rows, bytes_of, notation_of};
@@ -16,7 +16,7 @@ const HELLO: &[u8] =
     b" HELLO: PROGRAM; DECLARE N INTEGER INITIAL(40); N = N + 2; WRITE(6) N; CLOSE HELLO;\n";
 
 /// Rows of what is refused.
-#[derive(Clone, Copy, Debug)]
+#[derive(Clone, Copy)]
 pub(crate) struct RefusalRows;
 
 impl Rows for RefusalRows {
@@ -39,7 +39,7 @@ impl Rows for RefusalRows {
 /// The call of a unit under a script.
 fn call_of(alloc: Global, script: Vec<u8>, unit: Vec<u8>) -> Result<Called, AllocError> {
     let units = vec![in alloc; ("p.hal".to_string(alloc)?, unit)]?;
-    called(alloc, Files { script, units })
+    run_hal(alloc, Files { script, units })
 }
 
 /// Whether a call came to this status for this file, ran nothing and printed this line.

@@ -15,7 +15,7 @@ const BAR: &str = " | ";
 pub(crate) const UNIT: u32 = 7;
 
 /// Rows of words.
-#[derive(Clone, Copy, Debug)]
+#[derive(Clone, Copy)]
 pub(crate) struct WordRows;
 
 impl Rows for WordRows {

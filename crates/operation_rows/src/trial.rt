@@ -15,7 +15,7 @@ use std::alloc::{AllocError, Global};
 const BAR: &str = " | ";
 
 /// Rows of values.
-#[derive(Clone, Copy, Debug)]
+#[derive(Clone, Copy)]
 pub(crate) struct ValueRows;
 
 impl Rows for ValueRows {

@@ -3,7 +3,7 @@
 use hal_operations::{Op1, Op2};
 
 /// What a row is tried on.
-#[derive(Clone, Copy, Debug)]
+#[derive(Clone, Copy)]
 pub(crate) enum Way {
     /// An operation with one operand.
     One(Op1),

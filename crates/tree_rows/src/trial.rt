@@ -10,7 +10,7 @@ use std::alloc::{AllocError, Global};
 const ARROW: &str = " => ";
 
 /// Rows of trees.
-#[derive(Clone, Copy, Debug)]
+#[derive(Clone, Copy)]
 pub(crate) struct TreeRows;
 
 impl Rows for TreeRows {

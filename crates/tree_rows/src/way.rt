@@ -3,7 +3,7 @@
 use crate::source::Source;
 
 /// How a row is tried.
-#[derive(Clone, Copy, Debug)]
+#[derive(Clone, Copy)]
 pub(crate) enum Way {
     /// The tree that a source spells.
     Tree(Source),
