@@ -2,23 +2,11 @@
 //! them: computed from the definitions alone.
 #![tactic(auto)]
 
-#[cfg(test)]
-mod checked;
 mod checking;
 mod copies;
 mod desk;
 mod kept;
-#[cfg(test)]
-mod loads;
 mod place;
-#[cfg(test)]
-mod played;
-#[cfg(test)]
-mod plays;
-#[cfg(test)]
-mod refused;
-#[cfg(test)]
-mod row_loads;
 mod rows;
 mod scripted;
 mod scripted_procs;

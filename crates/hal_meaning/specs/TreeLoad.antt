@@ -57,7 +57,8 @@ plain-in_order tables (request.Stop error) plain = tt
 plain-in_order tables request.Finish plain = tt
 plain-in_order tables asked plain = absurd plain
 
-plain-no_update : {A : Type 0} (asked : Request) → IsPlain asked → IsUpdate asked → A
+-- none of them is an UPDATE block
+pub plain-no_update : {A : Type 0} (asked : Request) → IsPlain asked → IsUpdate asked → A
 plain-no_update (request.Update groups) plain asks = absurd plain
 plain-no_update asked plain asks = absurd asks
 

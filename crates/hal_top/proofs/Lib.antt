@@ -1,15 +1,8 @@
-pub mod Drained
 pub mod Exclusions
 pub mod FewDeclarations
 pub mod Headline
-pub mod Joined
-pub mod LeftNames
 pub mod Lists
 pub mod Meanings
 pub mod Prepared
-pub mod Ranges
-pub mod Reports
-pub mod Running
 pub mod Stages
 pub mod Telling
-pub mod PassedRests

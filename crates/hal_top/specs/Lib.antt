@@ -2,11 +2,8 @@ pub mod CommandLine
 pub mod UnitTexts
 pub mod Causes
 pub mod Outcomes
-pub mod Draining
 pub mod Told
 pub mod Programs
-pub mod Running
 pub mod Works
 pub mod Performed
 pub mod Asking
-pub mod Rests

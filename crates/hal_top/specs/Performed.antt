@@ -1,23 +1,14 @@
--- What a run comes to.
+-- What a run of a unit comes to, and what a sink takes of it.
 use Rattle.std.specs.Prelude.{◌≡◌, ℕ, ◌⊎◌, List, Option, length}
 use Rattle.hal_base.specs.Faults.{Rose}
 use Rattle.hal_base.specs.Sink.{Takes}
 use Rattle.hal_core.specs.Tree.{UnitTree}
 use Rattle.exec_model.specs.declared.script.ScriptLine.{ScriptLine}
 use Rattle.exec_model.specs.declared.event.Event.{Event}
-use Rattle.hal_values.specs.Loads.{Meaning}
 use Rattle.hal_meaning.specs.TreeLoad.{load_of}
-use Rattle.exec_model.specs.Moments.{Moment}
-use Rattle.exec_model.specs.Report.{report}
-use Rattle.exec_model.specs.Runs.{IsRunTo}
+use Rattle.script_run.specs.Performed.{Performs}
 
--- the journal is a run of the load under the script on one lane, and the bytes are the report of the moment to which it leads
-pub record Performs (q : Meaning) (script : List ScriptLine) (journal : List Event) (bytes : List ℕ) : Type 0 where
-  pub end_ : Moment
-  pub run : IsRunTo q script 1 journal end_
-  pub told : bytes ≡ report q end_
-
--- the same of a unit's load
+-- the journal is a run of the unit's load under the script on one lane, and the bytes are the report of the moment to which it leads
 abbrev pub HasReport : List ScriptLine → UnitTree → List Event → List ℕ → Type 0
 HasReport script tree journal bytes = Performs (load_of tree) script journal bytes
 

@@ -1,22 +1,16 @@
 //! The top call: words, files, script and unit come in, and a report or one line of refusal goes out.
 #![tactic(auto)]
 
-mod drain;
-mod elements;
 mod fetch;
 mod laws;
 mod outcome;
-mod owners;
 mod perform;
 mod prepare;
 mod program;
 mod refuse;
 mod refused;
-mod report;
-mod run;
 mod top;
 mod tree_procs;
-mod values;
 mod words;
 
 pub use laws::{a_text_has_one_meaning, a_text_with_a_meaning_breaks_nothing};

@@ -5,10 +5,10 @@ ghost use Rattle.hal_top.specs.Outcomes.{refusal_line, file_word, Prints};
 ghost use Rattle.hal_top.specs.Told.{outcome_of};
 ghost use Rattle.hal_top.specs.declared.refused.Refused.TheVariants.{Memory, Usage};
 
-use crate::drain::drain;
 use crate::outcome::Outcome;
 use crate::refused::Refused;
 use hal_base::Sink;
+use hal_report::drain;
 use hal_values::Listing;
 use std::alloc::{AllocError, Global};
 

@@ -1,8 +1,8 @@
-use crate::owners::Owners;
 use crate::program::Program;
 use exec_model::Procs;
 use hal_meaning::{Heard, Names, TreeLoad, oracle_next, oracle_own, unit_tables};
 use hal_values::{Answer, Listing, Request, Tables, Value};
+use script_run::Owners;
 use std::alloc::{AllocError, Global};
 use std::marker::Model;
 
@@ -112,7 +112,7 @@ impl Procs for TreeProcs {
         writes: &mut Vec<(u16, Value)>,
     ) -> Result<u16, AllocError> {
         let _never_asked = (process, store.len(), writes.len());
-        Err(AllocError)
+        unreachable!()
     }
 
     fn tell(&mut self, process: u8, answer: Answer) {

@@ -4,13 +4,17 @@ use Rattle.hal_core.specs.View.{unit_tree}
 use Rattle.hal_meaning.specs.declared.heard.Heard.{Heard}
 use Rattle.hal_meaning.specs.Answering.{answers_of}
 use Rattle.hal_top.specs.Performed.{HasReport}
+use Rattle.hal_top.proofs.Telling.{report_names-arrays}
 use Rattle.hal_top.proofs.perform.perform.Goals as goal
 
 pub start-requires : goal.start-requires
 start-requires c = c.requires
 
-pub play-requires : goal.play-requires
-play-requires c = ap (λ (hs : List Heard). answers_of (unit_tree c.in_ok-procs.procs.load.unit) hs ∷ []) c.in_ok-procs.ensures.heards
+pub play-requires-clause-names : goal.play-requires-clause-names
+play-requires-clause-names c = report_names-arrays _ 0 (unit_tree c.in_ok-procs.procs.load.unit).declarations
+
+pub play-requires-clause-fresh : goal.play-requires-clause-fresh
+play-requires-clause-fresh c = ap (λ (hs : List Heard). answers_of (unit_tree c.in_ok-procs.procs.load.unit) hs ∷ []) c.in_ok-procs.ensures.heards
 
 pub returns : goal.returns
 returns c =

@@ -1,0 +1,76 @@
+//! Scripts on the plain executive over a scripted load.
+
+use crate::loads::{Unit, load};
+use exec_model::{Event, Plain, Script};
+use exec_rows::ScriptedProcs;
+use hal_base::{LANE_LIMIT, TICK_SUM_LIMIT};
+use std::alloc::{AllocError, Global};
+
+/// A line of a script, or an event.
+#[derive(Clone, Copy)]
+pub enum Line {
+    /// At most so many events.
+    Run(u32),
+    /// This event, which may come.
+    One(Event),
+}
+
+/// The plain executive at the beginning of a run of the load, if that is right.
+pub(crate) fn started(
+    alloc: Global,
+    unit: &Unit,
+    lanes: u8,
+) -> Result<Option<Plain<ScriptedProcs>>, AllocError> {
+    let load = load(alloc, unit)?;
+    if !load.is_right() || lanes < 1 || lanes > LANE_LIMIT {
+        return Ok(None);
+    }
+    let procs = ScriptedProcs::start(alloc, load)?;
+    let no_lines = Script::new(Vec::new(alloc));
+    Ok(Some(Plain::start(alloc, procs, &no_lines, lanes)?))
+}
+
+/// The clock goes on, if it stays within the sum that scripts may have.
+pub fn tick(plain: &mut Plain<ScriptedProcs>, time: u64) -> Result<bool, AllocError> {
+    let clock = plain.state().clock;
+    if clock > TICK_SUM_LIMIT || time > TICK_SUM_LIMIT - clock {
+        return Ok(false);
+    }
+    let made = plain.step(Event::Tick(time))?;
+    Ok(made)
+}
+
+pub fn step(plain: &mut Plain<ScriptedProcs>, event: Event) -> Result<bool, AllocError> {
+    let made = match event {
+        Event::Tick(time) => tick(plain, time)?,
+        _ => plain.step(event)?,
+    };
+    Ok(made)
+}
+
+/// At most so many events come. Tells whether each of them was allowed.
+pub fn run(plain: &mut Plain<ScriptedProcs>, count: u32) -> Result<bool, AllocError> {
+    for _ in 0..count {
+        let Some(event) = plain.next_event()? else {
+            return Ok(true);
+        };
+        if !step(plain, event)? {
+            return Ok(false);
+        }
+    }
+    Ok(true)
+}
+
+/// The lines are done, one after the other. Tells whether each event was allowed.
+pub fn play(plain: &mut Plain<ScriptedProcs>, lines: &[Line]) -> Result<bool, AllocError> {
+    for line in lines {
+        let allowed = match line {
+            Line::Run(count) => run(plain, *count)?,
+            Line::One(event) => step(plain, *event)?,
+        };
+        if !allowed {
+            return Ok(false);
+        }
+    }
+    Ok(true)
+}

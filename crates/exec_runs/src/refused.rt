@@ -1,0 +1,140 @@
+//! The events that may not come, after which nothing has changed.
+
+use crate::loads::Unit;
+use crate::plays::{Line, play, started, step};
+use crate::row_loads::{HELD, PREEMPTED, TERMINATED};
+use exec_model::{Event, Plain};
+use exec_rows::ScriptedProcs;
+use std::alloc::{AllocError, Global};
+
+/// The events, the state, and what may come next.
+fn picture(alloc: Global, plain: &mut Plain<ScriptedProcs>) -> Result<String, AllocError> {
+    let next = plain.next_event()?;
+    let journal = plain.journal();
+    let state = plain.state();
+    format!(in alloc; "{journal:?} {state:?} {next:?}")
+}
+
+/// Whether none of these events is made.
+fn makes_none(plain: &mut Plain<ScriptedProcs>, refused: &[Event]) -> Result<bool, AllocError> {
+    for event in refused {
+        if step(plain, *event)? {
+            return Ok(false);
+        }
+    }
+    Ok(true)
+}
+
+/// Events that may not come after these lines.
+#[derive(Clone, Copy)]
+pub(crate) struct Refused {
+    pub(crate) name: &'static str,
+    unit: &'static Unit,
+    lanes: u8,
+    lines: &'static [Line],
+    events: &'static [Event],
+}
+
+/// Whether the executive refuses each of the events after the lines, and nothing changes.
+fn stays(
+    alloc: Global,
+    plain: &mut Plain<ScriptedProcs>,
+    row: &Refused,
+) -> Result<bool, AllocError> {
+    let allowed = play(plain, row.lines)?;
+    let before = picture(alloc, plain)?;
+    let none = makes_none(plain, row.events)?;
+    let after = picture(alloc, plain)?;
+    Ok(allowed && none && before.as_bytes() == after.as_bytes())
+}
+
+impl Refused {
+    /// Whether the load is right, and its executive refuses each of the events after the lines.
+    pub(crate) fn is_kept(&self, alloc: Global) -> Result<bool, AllocError> {
+        match started(alloc, self.unit, self.lanes)? {
+            None => Ok(false),
+            Some(mut plain) => stays(alloc, &mut plain, self),
+        }
+    }
+}
+
+/// P has scheduled D, and D has begun and asks for its UPDATE block.
+const ASKED: [Line; 2] = [Line::Run(2), Line::One(Event::Act(1))];
+
+/// D is inside the block.
+const OPENED: [Line; 3] = [
+    Line::Run(2),
+    Line::One(Event::Act(1)),
+    Line::One(Event::Open(1)),
+];
+
+pub(crate) const REFUSED: [Refused; 7] = [
+    Refused {
+        name: "process 200 and process 2 are unknown",
+        unit: &TERMINATED,
+        lanes: 2,
+        lines: &[],
+        events: &[
+            Event::Act(200),
+            Event::Open(200),
+            Event::Block(200, 0),
+            Event::Preempt(200),
+            Event::Act(2),
+            Event::Preempt(2),
+        ],
+    },
+    Refused {
+        name: "D is idle, and P asks for no UPDATE block",
+        unit: &TERMINATED,
+        lanes: 2,
+        lines: &[],
+        events: &[
+            Event::Act(1),
+            Event::Open(1),
+            Event::Block(1, 0),
+            Event::Open(0),
+            Event::Block(0, 0),
+        ],
+    },
+    Refused {
+        name: "D asks for its UPDATE block, and is not inside it",
+        unit: &TERMINATED,
+        lanes: 2,
+        lines: &ASKED,
+        events: &[Event::Act(1), Event::Block(1, 0), Event::Open(0)],
+    },
+    Refused {
+        name: "D is inside its UPDATE block, which ends after no turn",
+        unit: &TERMINATED,
+        lanes: 2,
+        lines: &OPENED,
+        events: &[
+            Event::Block(1, 1),
+            Event::Block(1, 65_535),
+            Event::Act(1),
+            Event::Open(1),
+            Event::Block(0, 0),
+        ],
+    },
+    Refused {
+        name: "P goes before A and B, which are Ready too",
+        unit: &PREEMPTED,
+        lanes: 1,
+        lines: &[Line::Run(3)],
+        events: &[Event::Act(1), Event::Act(2)],
+    },
+    Refused {
+        name: "A may act beside P, and B may not",
+        unit: &PREEMPTED,
+        lanes: 2,
+        lines: &[Line::Run(3), Line::One(Event::Act(1))],
+        events: &[Event::Act(2), Event::Preempt(3)],
+    },
+    Refused {
+        name: "P asks for K, whose lock group the UPDATE block of D has",
+        unit: &HELD,
+        lanes: 2,
+        lines: &OPENED,
+        events: &[Event::Act(0)],
+    },
+];

@@ -1,0 +1,17 @@
+-- Report names whose elements can be numbered.
+use Rattle.std.specs.Prelude.{ℕ, ◌≤◌, List, [], ◌∷◌, All}
+use Rattle.hal_values.specs.declared.tables.ReportName.{ReportName}
+use Rattle.exec_model.specs.Report.{size_of}
+
+-- how many elements a name may have, at a copy
+abbrev pub element_limit : ℕ
+element_limit = 4294967295
+
+-- an array of these dimensions keeps the limit, and so does each part of it that its last dimensions make
+abbrev pub IsArray : List ℕ → Type 0
+IsArray [] = Unit {0}
+IsArray (dimension ∷ dimensions) = (size_of (dimension ∷ dimensions) ≤ element_limit) × IsArray dimensions
+
+-- each name is that of such an array
+abbrev pub AreArrays : List ReportName → Type 0
+AreArrays names = All (λ (named : ReportName). IsArray named.dimensions) names

@@ -1,7 +1,0 @@
-use Rattle.std.proofs.Common.{arith}
-use Rattle.hal_top.proofs.Drained.{IsDrained-step}
-use Rattle.hal_top.proofs.drain.drain.Goals as goal
-
-pub loop-rest-preserved : goal.loop-rest-preserved
-loop-rest-preserved g c =
-    (rw c.split_at.ensures.back (IsDrained-step _ _ _ _ _ _ c.in_ok-count.ensures.within c.loop-rest.invariant.0 c.in_ok-count.ensures.grown), omega (arith, c.loop-rest.invariant.1, c.in_ok-count.ensures.later))

@@ -1,5 +1,0 @@
-use Rattle.std.proofs.Common.{length}
-use Rattle.hal_top.proofs.elements.+add_joined.Given as goal
-
-abbrev pub decreases-add_joined : goal.decreases-add_joined
-decreases-add_joined l = length l.numbers.now

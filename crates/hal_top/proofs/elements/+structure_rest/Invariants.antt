@@ -1,5 +1,0 @@
-use Rattle.std.proofs.Common.{length}
-use Rattle.hal_top.proofs.elements.+structure_rest.Given as goal
-
-abbrev pub decreases-structure_rest : goal.decreases-structure_rest
-decreases-structure_rest l = length l.names.now

@@ -1,7 +1,0 @@
-use Rattle.std.proofs.Common.{◌≡◌, ◌++◌, drop, flat_map, Some}
-use Rattle.exec_model.specs.Report.{copy_elements}
-use Rattle.hal_top.proofs.elements.add_names.Given as goal
-
-abbrev pub invariant-loop-named : goal.invariant-loop-named
-invariant-loop-named l =
-    l.shown.items ++ flat_map (copy_elements (Some l.copy)) (drop l.named-index l.names) ≡ l.initial.shown.items ++ flat_map (copy_elements (Some l.copy)) l.names

@@ -1,9 +1,0 @@
-use Rattle.std.proofs.Common.{◌≡◌, ◌≤◌, ◌++◌, ℕ, length}
-use Rattle.exec_model.specs.Report.{elements_in}
-use Rattle.hal_top.proofs.elements.elements_of.Given as goal
-
-abbrev pub invariant-names : goal.invariant-names
-invariant-names l = (n : ℕ) × (length l.rest ≤ n) × (l.shown.items ++ elements_in n l.rest ≡ elements_in (length l.names) l.names)
-
-abbrev pub decreases-names : goal.decreases-names
-decreases-names l = length l.rest

@@ -1,0 +1,4 @@
+pub mod Completing
+pub mod OpenRows
+pub mod Running
+pub mod Sorting
