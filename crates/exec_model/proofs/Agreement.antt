@@ -20,7 +20,7 @@ use Rattle.exec_model.specs.Effects.{effect}
 use Rattle.exec_model.specs.Moments.{Moment, row_of, answers_of}
 use Rattle.exec_model.specs.Opening.{opening}
 use Rattle.exec_model.specs.Report.{end_line, live_line, value_lines, elements, own_values, report}
-use Rattle.exec_model.specs.Runs.{IsOfProcess, AreOfProcesses, IsNamed, IsUnknown, MakesLine, MakesLines, Reaches, Completes, open_blocks, IsRunTo, IsRun}
+use Rattle.exec_model.specs.Runs.{IsOfProcess, AreOfProcesses, IsLowestNamed, IsUnknown, MakesLine, MakesLines, Reaches, Completes, open_blocks, IsRunTo, IsRun}
 use Rattle.exec_model.specs.Scripts.{IsScript}
 use Rattle.exec_model.specs.Settling.{settle}
 use Rattle.exec_model.specs.Sound.{IsSound, IsWait, KeepsClock}
@@ -196,8 +196,8 @@ one_step-agree a b lanes old events e new agree sound one steps = subst (λ es. 
     go steps = (steps.0, IsStep-agree a b lanes old steps.0 e agree sound steps.1, steps.2)
 
 -- a name stands for the same process
-IsNamed-agree : (t u : Tables) (name : List ℕ) (p : ℕ) → t ≡ u → IsNamed t name p → IsNamed u name p
-IsNamed-agree t u name p same named = subst (λ (x : Tables). IsNamed x name p) same named
+IsLowestNamed-agree : (t u : Tables) (name : List ℕ) (p : ℕ) → t ≡ u → IsLowestNamed t name p → IsLowestNamed u name p
+IsLowestNamed-agree t u name p same named = subst (λ (x : Tables). IsLowestNamed x name p) same named
 
 -- the events of a script line are the same
 MakesLine-agree : (a b : Meaning) (lanes : ℕ) (old : Moment) (l : ScriptLine) (events : List Event) (new : Moment) → Agree a b → IsLoad a → IsSound a old → MakesLine a lanes old l events new → MakesLine b lanes old l events new
@@ -205,7 +205,7 @@ MakesLine-agree a b lanes old (line.Run count) events new agree load sound made 
     record { steps = Steps-agree a b lanes old events new agree load sound made.kind made.steps; kind = made.kind; used_up = made.used_up }
 MakesLine-agree a b lanes old (line.Tick time) events new agree load sound made = (made.0, one_step-agree a b lanes old events (event.Tick time) new agree sound made.0 made.1)
 MakesLine-agree a b lanes old (line.Preempt name) events new agree load sound (inl made) =
-    inl (made.0, IsNamed-agree a.tables b.tables name made.0 agree.tables made.1, made.2, one_step-agree a b lanes old events (event.Preempt made.0) new agree sound made.2 made.3)
+    inl (made.0, IsLowestNamed-agree a.tables b.tables name made.0 agree.tables made.1, made.2, one_step-agree a b lanes old events (event.Preempt made.0) new agree sound made.2 made.3)
 MakesLine-agree a b lanes old (line.Preempt name) events new agree load sound (inr made) = inr (subst (λ t. IsUnknown t name) agree.tables made.0, made.1, made.2)
 MakesLine-agree a b lanes old (line.Input channel given) events new agree load sound made = made
 

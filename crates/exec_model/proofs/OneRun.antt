@@ -11,7 +11,7 @@ use Rattle.exec_model.specs.declared.script.ScriptLine.TheVariants as line
 use Rattle.exec_model.specs.Moments.{Moment, row_of}
 use Rattle.exec_model.specs.Opening.{opening}
 use Rattle.exec_model.specs.Rows.{idle_row, is_ready}
-use Rattle.exec_model.specs.Runs.{IsOfProcess, AreOfProcesses, IsQuiet, IsNamed, MakesLine, MakesLines, Reaches, Completes, open_blocks, IsRunTo}
+use Rattle.exec_model.specs.Runs.{IsOfProcess, AreOfProcesses, IsQuiet, IsLowestNamed, MakesLine, MakesLines, Reaches, Completes, open_blocks, IsRunTo}
 use Rattle.exec_model.specs.Scripts.{IsScript}
 use Rattle.exec_model.specs.Sound.{IsSound}
 use Rattle.exec_model.specs.Steps.{IsAllowed, stepped, Steps}
@@ -78,8 +78,8 @@ one_step-is q lanes old new events e same steps = go (subst (λ es. Steps q lane
     go steps = steps.2 ∙ steps.1.done
 
 -- one process is the lowest of a name
-IsNamed-one : (tables : Tables) (name : List ℕ) (p o : ℕ) → IsNamed tables name p → IsNamed tables name o → p ≡ o
-IsNamed-one tables name p o one two = elim (cases_order p o) [
+IsLowestNamed-one : (tables : Tables) (name : List ℕ) (p o : ℕ) → IsLowestNamed tables name p → IsLowestNamed tables name o → p ≡ o
+IsLowestNamed-one tables name p o one two = elim (cases_order p o) [
   | inl same ↦ same
   | inr other ↦ elim other [ inl below ↦ absurd (two.lowest p below one.named) | inr above ↦ absurd (one.lowest o above two.named) ]
 ]
@@ -92,7 +92,7 @@ MakesLine-one q old (line.Run count) events others new end_ load sound one two =
     (used_up-late count events others new end_ one.used_up two.used_up) (used_up-late count others events end_ new two.used_up one.used_up)
 MakesLine-one q old (line.Tick time) events others new end_ load sound one two =
     (one.0 ∙ sym two.0, one_step-is q 1 old new events (event.Tick time) one.0 one.1 ∙ sym (one_step-is q 1 old end_ others (event.Tick time) two.0 two.1))
-MakesLine-one q old (line.Preempt name) events others new end_ load sound (inl one) (inl two) = let same = IsNamed-one q.tables name one.0 two.0 one.1 two.1 in (
+MakesLine-one q old (line.Preempt name) events others new end_ load sound (inl one) (inl two) = let same = IsLowestNamed-one q.tables name one.0 two.0 one.1 two.1 in (
   one.2 ∙ (ap (λ p. event.Preempt p ∷ []) same ∙ sym two.2),
   one_step-is q 1 old new events (event.Preempt one.0) one.2 one.3 ∙ (ap (λ p. stepped q old (event.Preempt p)) same ∙ sym (one_step-is q 1 old end_ others (event.Preempt two.0) two.2 two.3)),
 )

@@ -37,7 +37,7 @@ pub record MakesEvents (q : Meaning) (lanes : ℕ) (old : Moment) (count : ℕ) 
   pub used_up : (length events ≡ count) ⊎ ((length events < count) × IsQuiet new)
 
 -- p is the lowest process of this name
-pub record IsNamed (tables : Tables) (name : List ℕ) (p : ℕ) : Type 0 where
+pub record IsLowestNamed (tables : Tables) (name : List ℕ) (p : ℕ) : Type 0 where
   pub named : slice_get tables.processes p ≡ Some name
   pub lowest : (o : ℕ) → o < p → slice_get tables.processes o ≢ Some name
 
@@ -50,7 +50,7 @@ abbrev pub MakesLine : Meaning → ℕ → Moment → ScriptLine → List Event 
 MakesLine q lanes old (line.Run count) events new = MakesEvents q lanes old count events new
 MakesLine q lanes old (line.Tick time) events new = (events ≡ event.Tick time ∷ []) × Steps q lanes old events new
 MakesLine q lanes old (line.Preempt name) events new =
-    ((p : ℕ) × IsNamed q.tables name p × (events ≡ event.Preempt p ∷ []) × Steps q lanes old events new) ⊎ (IsUnknown q.tables name × (events ≡ []) × (new ≡ old))
+    ((p : ℕ) × IsLowestNamed q.tables name p × (events ≡ event.Preempt p ∷ []) × Steps q lanes old events new) ⊎ (IsUnknown q.tables name × (events ≡ []) × (new ≡ old))
 MakesLine q lanes old (line.Input channel given) events new = (events ≡ []) × (new ≡ old)
 
 -- the events of script lines, in order

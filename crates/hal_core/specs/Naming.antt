@@ -45,6 +45,6 @@ pub record IsOnce (names : List (List ℕ)) (name : List ℕ) : Type 0 where
   pub last : ¬ Contains after name
 
 -- each name that a statement uses is declared once, and the unit's own name isn't declared
-pub record IsNamed (unit : UnitTree) : Type 0 where
+pub record HasRightNames (unit : UnitTree) : Type 0 where
   pub used : All (IsOnce (declared_names unit)) (body_names unit.body)
   pub own : ¬ Contains (declared_names unit) unit.name

@@ -9,7 +9,7 @@ use Rattle.hal_base.specs.declared.limits.TheConstants.{TOKEN_LIMIT}
 use Rattle.hal_words.specs.declared.word.Token.{Token}
 use Rattle.hal_words.specs.Pieces.{Wrong}
 use Rattle.hal_words.specs.Lines.{Item, item}
-use Rattle.hal_words.specs.Words.{word_item, IsCut, Breaks}
+use Rattle.hal_words.specs.Words.{word_item, IsCut, BreaksWordRule}
 use Rattle.hal_pieces.specs.Faults.{IsRight}
 
 abbrev Right : Item → Type 0
@@ -25,7 +25,7 @@ none_there : (place : Place) → Contains [] place → ⊥
 none_there place found = omega (arith, found.1)
 
 -- no rule is broken
-pub no_breach : (unit : ℕ) (text : List ℕ) (tokens : List Token) (rule : ℕ) (place : Place) → IsCut unit text tokens → Breaks unit text rule place → ⊥
+pub no_breach : (unit : ℕ) (text : List ℕ) (tokens : List Token) (rule : ℕ) (place : Place) → IsCut unit text tokens → BreaksWordRule unit text rule place → ⊥
 no_breach unit text tokens rule place cut (inl fault) = no_fault tokens rule place (subst (λ (items : List Item). Contains items (item (Wrong rule) place)) cut.words fault)
 no_breach unit text tokens rule place cut (inr (inl late)) =
     let there : TOKEN_LIMIT < length (map word_item tokens) =

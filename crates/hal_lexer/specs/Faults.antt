@@ -6,7 +6,7 @@ use Rattle.hal_base.specs.declared.refusal.Fault.TheVariants as fault
 use Rattle.hal_base.specs.declared.limits.TheConstants.{TOKEN_LIMIT}
 use Rattle.hal_words.specs.Pieces.{Wrong}
 use Rattle.hal_words.specs.Lines.{Item, item}
-use Rattle.hal_words.specs.Words.{misplaced, Breaks}
+use Rattle.hal_words.specs.Words.{misplaced, BreaksWordRule}
 
 -- the rule that an item breaks, or memory ended
 abbrev pub IsFaultItem : Item → Fault → Type 0
@@ -37,5 +37,5 @@ Blames whole (fault.Memory error) = ⊤
 
 -- the text breaks the rule of the fault, or memory ended
 abbrev pub BreaksBy : ℕ → List ℕ → Fault → Type 0
-BreaksBy unit text (fault.Broken refusal) = Breaks unit text refusal.rule.0 refusal.place
+BreaksBy unit text (fault.Broken refusal) = BreaksWordRule unit text refusal.rule.0 refusal.place
 BreaksBy unit text (fault.Memory error) = ⊤

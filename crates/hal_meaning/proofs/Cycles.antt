@@ -9,7 +9,7 @@ use Rattle.hal_meaning.specs.declared.course.Course.{Course}
 use Rattle.hal_meaning.specs.declared.course.Course.TheVariants as course
 use Rattle.hal_meaning.specs.declared.heard.Heard.{Heard}
 use Rattle.hal_meaning.specs.declared.heard.Heard.TheVariants.{GoesOn, Killed}
-use Rattle.hal_meaning.specs.Meaning.{State, Result, Gives, Asks, Restarts, Lost, Flow, Normal, Cycle, Meaning, asks, asks_from, bind, restarted, task, tasks}
+use Rattle.hal_meaning.specs.UnitMeaning.{State, Result, Gives, Asks, Restarts, Lost, Flow, Normal, Cycle, Meaning, asks, asks_from, bind, restarted, task, tasks}
 use Rattle.hal_meaning.specs.Course.{ComesTo, IsShorter, result_of, state_of, passage}
 
 -- the next cycle, after one that came to this

@@ -18,7 +18,7 @@ use Rattle.hal_meaning.specs.declared.heard.Heard.TheVariants.{GoesOn, Killed}
 use Rattle.hal_meaning.specs.declared.course.Course.{Course}
 use Rattle.hal_meaning.specs.declared.course.Course.TheVariants as course
 use Rattle.hal_meaning.specs.Values.{Checked, Good, Bad, comparison_value}
-use Rattle.hal_meaning.specs.Meaning.{State, Result, Gives, Flow, Normal, Meaning, asks_from, fails, tested, either_way, statement, alternative_meaning, tasks}
+use Rattle.hal_meaning.specs.UnitMeaning.{State, Result, Gives, Flow, Normal, Meaning, asks_from, fails, tested, either_way, statement, alternative_meaning, tasks}
 use Rattle.hal_meaning.specs.Course.{ComesTo, IsShorter, result_of, state_of, group}
 
 pub seen_assigned : (one : Statement) (target : List ℕ) (value : Sum) → one.kind ≡ Assign target value → statement_tree one ≡ Assigned one.place target (sum_tree value)

@@ -12,7 +12,7 @@ use Rattle.hal_meaning.specs.declared.heard.Heard.TheVariants.{GoesOn, Killed}
 use Rattle.hal_meaning.specs.declared.course.Course.{Course}
 use Rattle.hal_meaning.specs.declared.course.Course.TheVariants as course
 use Rattle.hal_meaning.specs.Values.{Checked, Good, Bad, comparison_value}
-use Rattle.hal_meaning.specs.Meaning.{State, Result, Gives, Asks, Restarts, Flow, Normal, Loop, Meaning, asks_from, bind, tested, fails, either_way, statement, statements, tasks}
+use Rattle.hal_meaning.specs.UnitMeaning.{State, Result, Gives, Asks, Restarts, Flow, Normal, Loop, Meaning, asks_from, bind, tested, fails, either_way, statement, statements, tasks}
 use Rattle.hal_meaning.specs.Course.{ComesTo, IsWithin, IsShorter, result_of, state_of, turn, group}
 
 -- what is left of a body comes to what the whole body comes to

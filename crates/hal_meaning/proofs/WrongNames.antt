@@ -11,7 +11,7 @@ use Rattle.hal_core.specs.declared.tree.Declaration.{Declaration}
 use Rattle.hal_core.specs.declared.tree.OperandKind.{OperandKind}
 use Rattle.hal_core.specs.declared.tree.OperandKind.TheVariants as operand
 use Rattle.hal_core.specs.declared.tree.Term.{Term}
-use Rattle.hal_core.specs.Naming.{kind_names, sum_names, comparison_names, statement_names, alternative_names, body_names, declared_names, IsOnce, IsNamed}
+use Rattle.hal_core.specs.Naming.{kind_names, sum_names, comparison_names, statement_names, alternative_names, body_names, declared_names, IsOnce, HasRightNames}
 use Rattle.hal_core.specs.Tree.{SumTree, ComparisonTree, StatementTree, Assigned, Written, Chosen, Looped, AlternativeTree, NoElse, Else, BodyTree, Ended, Then, UnitTree}
 use Rattle.hal_core.specs.Uses.{Use, kind_uses, operand_uses, sum_uses, comparison_uses, statement_uses, alternative_uses, body_uses, is_once, first_stray, first_declared, misnamed}
 use Rattle.hal_meaning.proofs.Entries.{not_in_none, head_of, is_once-Decides}
@@ -109,7 +109,7 @@ none_of None other none = (refl, none)
 none_of (Some place) other none = some_none place none
 
 -- so a unit has no wrong name
-pub named_right : (unit : UnitTree) → misnamed unit ≡ None → IsNamed unit
+pub named_right : (unit : UnitTree) → misnamed unit ≡ None → HasRightNames unit
 named_right unit none =
     let both = none_of (first_declared unit.name unit.declarations) (first_stray (declared_names unit) (body_uses unit.body)) none in
     record {
@@ -117,7 +117,7 @@ named_right unit none =
       own = absent unit.name unit.declarations both.0;
     }
 
-pub right_named : (unit : UnitTree) → IsNamed unit → misnamed unit ≡ None
+pub right_named : (unit : UnitTree) → HasRightNames unit → misnamed unit ≡ None
 right_named unit named =
     ap (λ o. option_or o (first_stray (declared_names unit) (body_uses unit.body))) (absent_all unit.name unit.declarations named.own)
     ∙ once_all (declared_names unit) (body_uses unit.body) (subst (All (IsOnce (declared_names unit))) (sym (named_body unit.body)) named.used)

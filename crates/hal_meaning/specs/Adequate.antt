@@ -9,7 +9,7 @@ use Rattle.hal_values.specs.declared.request.Request.TheVariants.{Begin, Pass, P
 use Rattle.hal_meaning.specs.declared.heard.Heard.{Heard}
 use Rattle.hal_meaning.specs.declared.heard.Heard.TheVariants.{GoesOn, Killed}
 use Rattle.hal_meaning.specs.Values.{Checked, Good, Bad, checked_then, in_single, sum_value, comparison_value}
-use Rattle.hal_meaning.specs.Meaning.{State, Result, Gives, Asks, Restarts, Lost, Flow, Loop, Cycle, Meaning, bind, asks, asks_from, fails_from, tested, either_way, in_line, line_text, items_values, looping, statement, alternative_meaning, statements, restarted, task, tasks, first_values, meaning}
+use Rattle.hal_meaning.specs.UnitMeaning.{State, Result, Gives, Asks, Restarts, Lost, Flow, Loop, Cycle, Meaning, bind, asks, asks_from, fails_from, tested, either_way, in_line, line_text, items_values, looping, statement, alternative_meaning, statements, restarted, task, tasks, first_values, meaning}
 
 -- a request that this form has
 abbrev pub IsPlain : Request → Type 0

@@ -13,7 +13,7 @@ use Rattle.hal_values.specs.Answers as answered
 use Rattle.hal_values.specs.Loads.{FitsNext}
 use Rattle.hal_meaning.specs.declared.heard.Heard.{Heard}
 use Rattle.hal_meaning.specs.declared.heard.Heard.TheVariants.{GoesOn, Killed}
-use Rattle.hal_meaning.specs.Meaning.{heard, next_heard, own_heard, next_request}
+use Rattle.hal_meaning.specs.UnitMeaning.{heard, next_heard, own_heard, next_request}
 use Rattle.hal_meaning.specs.Adequate.{IsPlain}
 use Rattle.hal_meaning.specs.TreeLoad.{tables_of, load_of, next_of, block_of, own_of, next-plain}
 

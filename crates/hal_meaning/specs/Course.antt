@@ -9,7 +9,7 @@ use Rattle.hal_meaning.specs.declared.heard.Heard.{Heard}
 use Rattle.hal_meaning.specs.declared.course.Course.{Course}
 use Rattle.hal_meaning.specs.declared.course.Course.TheVariants as course
 use Rattle.hal_meaning.specs.Values.{Checked, Good, Bad}
-use Rattle.hal_meaning.specs.Meaning.{State, Result, Gives, Asks, Restarts, Flow, Normal, Loop, Meaning, asks, bind, looping, statements, tasks}
+use Rattle.hal_meaning.specs.UnitMeaning.{State, Result, Gives, Asks, Restarts, Flow, Normal, Loop, Meaning, asks, bind, looping, statements, tasks}
 
 -- the state with these own values and these answers
 abbrev pub state_of : List ℤ → List Heard → State

@@ -1,5 +1,5 @@
 pub mod Values
-pub mod Meaning
+pub mod UnitMeaning
 pub mod Course
 pub mod NameTable
 pub mod Adequate

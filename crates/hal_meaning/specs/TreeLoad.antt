@@ -16,7 +16,7 @@ use Rattle.hal_values.specs.declared.value.Value.TheVariants as value
 use Rattle.hal_values.specs.Answers.{Answered, Done, Killed}
 use Rattle.hal_values.specs.Requests.{IsInOrder}
 use Rattle.hal_values.specs.Loads.{Meaning, IsLoad, IsUpdate}
-use Rattle.hal_meaning.specs.Meaning.{Result, Gives, Asks, Restarts, Lost, Flow, heard, meaning, asked_request, next_request, own_values}
+use Rattle.hal_meaning.specs.UnitMeaning.{Result, Gives, Asks, Restarts, Lost, Flow, heard, meaning, asked_request, next_request, own_values}
 use Rattle.hal_meaning.specs.Adequate.{IsPlain, IsAsked, meaning-asks}
 use Rattle.hal_meaning.specs.Following.{killed-next, finish-next}
 

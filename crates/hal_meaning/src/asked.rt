@@ -1,7 +1,7 @@
 ghost use Rattle.std.specs.Prelude.{◌≡◌, IfOk};
 ghost use Rattle.hal_core.specs.View.{unit_tree};
 ghost use Rattle.hal_core.specs.Naming.{declared_names};
-ghost use Rattle.hal_meaning.specs.Meaning.{Asks, first_values, meaning, next_heard, own_heard};
+ghost use Rattle.hal_meaning.specs.UnitMeaning.{Asks, first_values, meaning, next_heard, own_heard};
 ghost use Rattle.hal_meaning.specs.Course.{ComesTo, IsShorter, body_then_finish, passage, result_of, state_of};
 
 use crate::course::{Course, asks};

@@ -1,5 +1,5 @@
 ghost use Rattle.std.specs.Prelude.{◌≡◌, List, ℤ};
-ghost use Rattle.hal_meaning.specs.Meaning.{asks_from, fails_from, Gives, Normal};
+ghost use Rattle.hal_meaning.specs.UnitMeaning.{asks_from, fails_from, Gives, Normal};
 ghost use Rattle.hal_meaning.specs.Course.{IsShorter, result_of};
 
 use crate::heard::Heard;

@@ -1,6 +1,6 @@
 ghost use Rattle.std.specs.Prelude.{◌≡◌};
 ghost use Rattle.hal_values.specs.Answers.{Answered, StandsFor};
-ghost use Rattle.hal_meaning.specs.Meaning.{heard};
+ghost use Rattle.hal_meaning.specs.UnitMeaning.{heard};
 
 use hal_values::Answer;
 

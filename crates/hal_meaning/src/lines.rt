@@ -1,7 +1,7 @@
 ghost use Rattle.std.specs.Prelude.{◌≡◌, IfOk, map};
 ghost use Rattle.hal_core.specs.View.{sum_tree};
 ghost use Rattle.hal_meaning.specs.Values.{checked_then};
-ghost use Rattle.hal_meaning.specs.Meaning.{in_line, items_values, line_text};
+ghost use Rattle.hal_meaning.specs.UnitMeaning.{in_line, items_values, line_text};
 ghost use Rattle.hal_meaning.specs.Course.{checked, values_checked};
 
 use crate::names::Names;

@@ -1,6 +1,6 @@
 ghost use Rattle.std.specs.Prelude.{◌≡◌, ◌↔◌, None, Some, IfErr, IfOk, flat_map, map};
 ghost use Rattle.hal_core.specs.View.{body_tree, comparison_tree, statement_tree, sum_tree, unit_tree};
-ghost use Rattle.hal_core.specs.Naming.{IsNamed, declared_names};
+ghost use Rattle.hal_core.specs.Naming.{HasRightNames, declared_names};
 ghost use Rattle.hal_core.specs.Tree.{UnitTree};
 ghost use Rattle.hal_core.specs.Uses.{body_uses, comparison_uses, first_declared, first_stray, misnamed, operand_uses, statement_uses, sum_uses};
 
@@ -141,7 +141,7 @@ fn misnamed(names: &Names, unit: &Unit) -> Option<Place>
 
 /// The names of a unit, or the place of the first name that is wrong: the unit's own name where it is declared, else a name that a statement uses and that isn't declared once.
 pub fn resolve(alloc: Global, unit: &Unit) -> Result<Result<Names, Place>, AllocError>
-    ensures named { IfOk result (λ found. IfOk found (λ names. (names ≡ declared_names (unit_tree unit.now)) × IsNamed (unit_tree unit.now))) }
+    ensures named { IfOk result (λ found. IfOk found (λ names. (names ≡ declared_names (unit_tree unit.now)) × HasRightNames (unit_tree unit.now))) }
     ensures misnamed { IfOk result (λ found. IfErr found (λ place. misnamed (unit_tree unit.now) ≡ Some place)) }
 {
     let names = Names::of(alloc, unit.declarations.as_slice())?;
@@ -153,5 +153,5 @@ pub fn resolve(alloc: Global, unit: &Unit) -> Result<Result<Names, Place>, Alloc
 
 /// A law of every unit: either its names are right, or one of them is wrong at a place.
 pub fn a_unit_is_named_or_has_a_wrong_name()
-    ensures { (unit : UnitTree) → (misnamed unit ≡ None) ↔ IsNamed unit }
+    ensures { (unit : UnitTree) → (misnamed unit ≡ None) ↔ HasRightNames unit }
 {}

@@ -1,7 +1,7 @@
 ghost use Rattle.std.specs.Prelude.{◌≡◌, IfOk, map};
 ghost use Rattle.hal_core.specs.View.{body_tree, comparison_tree, statement_tree, sum_tree};
 ghost use Rattle.hal_meaning.specs.Values.{cell_of};
-ghost use Rattle.hal_meaning.specs.Meaning.{assignment, statement, statements, stored_at, write};
+ghost use Rattle.hal_meaning.specs.UnitMeaning.{assignment, statement, statements, stored_at, write};
 ghost use Rattle.hal_meaning.specs.Course.{ComesTo, IsShorter, IsWithin, group, result_of, state_of, turn};
 
 use crate::course::{Course, asks, fails};

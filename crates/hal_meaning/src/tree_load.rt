@@ -1,7 +1,7 @@
 ghost use Rattle.std.specs.Prelude.{List};
 ghost use Rattle.hal_core.specs.View.{unit_tree};
 ghost use Rattle.hal_meaning.specs.declared.heard.Heard.{Heard};
-ghost use Rattle.hal_meaning.specs.Meaning.{meaning};
+ghost use Rattle.hal_meaning.specs.UnitMeaning.{meaning};
 ghost use Rattle.hal_meaning.specs.Adequate.{IsAsked};
 
 use hal_core::Unit;

@@ -10,7 +10,7 @@ use Rattle.hal_words.specs.Pieces.{Wrong}
 use Rattle.hal_words.specs.Lines.{Item, item, Cell, Given}
 use Rattle.hal_words.specs.Items.{items, comment_rest, fault_if_open}
 use Rattle.hal_pieces.specs.Faults.{IsRight, HasNoFault, HasFault}
-use Rattle.hal_pieces.specs.Reading.{size_within, left, Follows, Reads, Breaks, TellsOf}
+use Rattle.hal_pieces.specs.Reading.{size_within, left, Follows, Reads, IsBrokenBy, TellsOf}
 
 -- what is equal to right items and a rest
 pub Follows-same : (whole done rest : List Item) → HasNoFault done → whole ≡ done ++ rest → Follows whole done rest
@@ -77,8 +77,8 @@ Reads-then cells middle later before between after old half new first second = r
 }
 
 -- a fault after what is read
-pub Breaks-then : (cells later : List Cell) (before after : Option Place) (old new : List Item) (refusal : Refusal) → Reads cells later before after old new → Breaks later after refusal → Breaks cells before refusal
-Breaks-then cells later before after old new refusal reads breaks = λ more. (reads.follows more).faults (item (Wrong refusal.rule.0) refusal.place) (breaks more)
+pub IsBrokenBy-then : (cells later : List Cell) (before after : Option Place) (old new : List Item) (refusal : Refusal) → Reads cells later before after old new → IsBrokenBy later after refusal → IsBrokenBy cells before refusal
+IsBrokenBy-then cells later before after old new refusal reads breaks = λ more. (reads.follows more).faults (item (Wrong refusal.rule.0) refusal.place) (breaks more)
 
 -- cells before others
 pub Reads-before : (cells later : List Cell) (before after : Option Place) (old new : List Item) → Reads cells [] before after old new → Reads (cells ++ later) later before after old new
@@ -88,8 +88,8 @@ Reads-before cells later before after old new reads = record {
   follows = λ more. subst (λ (l : List Cell). Follows (left before l) reads.here (left after (later ++ more))) (sym (append_assoc cells later more)) (reads.follows (later ++ more));
 }
 
-pub Breaks-before : (cells later : List Cell) (before : Option Place) (refusal : Refusal) → Breaks cells before refusal → Breaks (cells ++ later) before refusal
-Breaks-before cells later before refusal breaks = λ more. subst (λ (l : List Cell). HasFault (left before l) refusal) (sym (append_assoc cells later more)) (breaks (later ++ more))
+pub IsBrokenBy-before : (cells later : List Cell) (before : Option Place) (refusal : Refusal) → IsBrokenBy cells before refusal → IsBrokenBy (cells ++ later) before refusal
+IsBrokenBy-before cells later before refusal breaks = λ more. subst (λ (l : List Cell). HasFault (left before l) refusal) (sym (append_assoc cells later more)) (breaks (later ++ more))
 
 -- what is read where equal lists say so
 pub Reads-same : (cells later : List Cell) (before after : Option Place) (old here new : List Item) → new ≡ old ++ here → HasNoFault here → ((more : List Cell) → left before (cells ++ more) ≡ here ++ left after (later ++ more)) → Reads cells later before after old new
@@ -105,9 +105,9 @@ Reads-nothing cells later before after old same = Reads-same cells later before 
 
 -- an error after what is read
 pub TellsOf-then : (cells later : List Cell) (before after : Option Place) (old new : List Item) (told : Fault) → Reads cells later before after old new → TellsOf later after told → TellsOf cells before told
-TellsOf-then cells later before after old new (fault.Broken refusal) reads breaks = Breaks-then cells later before after old new refusal reads breaks
+TellsOf-then cells later before after old new (fault.Broken refusal) reads breaks = IsBrokenBy-then cells later before after old new refusal reads breaks
 TellsOf-then cells later before after old new (fault.Memory error) reads breaks = tt
 
 pub TellsOf-before : (cells later : List Cell) (before : Option Place) (told : Fault) → TellsOf cells before told → TellsOf (cells ++ later) before told
-TellsOf-before cells later before (fault.Broken refusal) breaks = Breaks-before cells later before refusal breaks
+TellsOf-before cells later before (fault.Broken refusal) breaks = IsBrokenBy-before cells later before refusal breaks
 TellsOf-before cells later before (fault.Memory error) breaks = tt

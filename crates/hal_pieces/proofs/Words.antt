@@ -10,7 +10,7 @@ use Rattle.hal_words.specs.Pieces.{Wrong, piece}
 use Rattle.hal_words.specs.Lines.{Item, item, Cell, place_at, main_cells}
 use Rattle.hal_words.specs.Items.{begins_comment, main_item, items}
 use Rattle.hal_pieces.specs.Faults.{IsRight}
-use Rattle.hal_pieces.specs.Reading.{closing, inside, Reads, Breaks}
+use Rattle.hal_pieces.specs.Reading.{closing, inside, Reads, IsBrokenBy}
 use Rattle.hal_pieces.proofs.Cells.{items-blank, items-word}
 use Rattle.hal_pieces.proofs.InComments.{items-comment, inside-byte, inside-closed, inside-open}
 use Rattle.hal_pieces.proofs.Follow.{Reads-same, Reads-nothing}
@@ -66,8 +66,8 @@ Reads-word unit line column text one old some plain blank comment found right =
     (λ more. items-piece unit line column text more some plain blank comment ∙ ap (λ (o : Item). o ∷ items 0 (main_cells unit line (column + (piece text).1) (drop (piece text).1 text) ++ more)) found)
 
 -- a word that breaks a rule
-pub Breaks-word : (unit line column : ℕ) (text : List ℕ) (refusal : Refusal) → 0 < length text → All (λ b. b ≢ 10) text → begins is_blank text ≡ false → begins_comment text ≡ false → main_item (piece text).0 (place_at unit line column) ≡ item (Wrong refusal.rule.0) refusal.place → Breaks (main_cells unit line column text) None refusal
-Breaks-word unit line column text refusal some plain blank comment found = λ more.
+pub IsBrokenBy-word : (unit line column : ℕ) (text : List ℕ) (refusal : Refusal) → 0 < length text → All (λ b. b ≢ 10) text → begins is_blank text ≡ false → begins_comment text ≡ false → main_item (piece text).0 (place_at unit line column) ≡ item (Wrong refusal.rule.0) refusal.place → IsBrokenBy (main_cells unit line column text) None refusal
+IsBrokenBy-word unit line column text refusal some plain blank comment found = λ more.
     let fault = item (Wrong refusal.rule.0) refusal.place in
     let same = items-piece unit line column text more some plain blank comment ∙ ap (λ (o : Item). o ∷ items 0 (main_cells unit line (column + (piece text).1) (drop (piece text).1 text) ++ more)) found in
     subst (λ (l : List Item). Contains l fault) (sym same) (0, omega arith, refl)

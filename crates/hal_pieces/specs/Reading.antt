@@ -39,10 +39,10 @@ pub record Reads (cells later : List Cell) (before after : Option Place) (old ne
   pub follows : (more : List Cell) → Follows (left before (cells ++ more)) here (left after (later ++ more))
 
 -- the cells have this fault, whatever follows
-abbrev pub Breaks : List Cell → Option Place → Refusal → Type 0
-Breaks cells before refusal = (more : List Cell) → HasFault (left before (cells ++ more)) refusal
+abbrev pub IsBrokenBy : List Cell → Option Place → Refusal → Type 0
+IsBrokenBy cells before refusal = (more : List Cell) → HasFault (left before (cells ++ more)) refusal
 
 -- an error tells a fault of the cells
 abbrev pub TellsOf : List Cell → Option Place → Fault → Type 0
-TellsOf cells before (fault.Broken refusal) = Breaks cells before refusal
+TellsOf cells before (fault.Broken refusal) = IsBrokenBy cells before refusal
 TellsOf cells before (fault.Memory error) = Unit {0}

@@ -14,7 +14,7 @@ use Rattle.hal_grammar.specs.SpellsFiles.{SpellsFile}
 use Rattle.hal_grammar.proofs.OneFile.{one_file}
 use Rattle.hal_parse.specs.Parsed.{IsFileOf}
 use Rattle.hal_core.specs.Tree.{UnitTree}
-use Rattle.hal_core.specs.Naming.{IsNamed}
+use Rattle.hal_core.specs.Naming.{HasRightNames}
 use Rattle.hal_core.specs.Uses.{misnamed}
 use Rattle.hal_built.specs.SecondForm.{second_form}
 use Rattle.hal_built.specs.Unbuilt.{unbuilt_file}
@@ -65,7 +65,7 @@ one_meaning number text tree other has also =
     same_Some tree other (sym has.built ∙ (ap second_form (one_read number text has.file also.file has.read also.read) ∙ also.built))
 
 -- a file whose phrases and names have a meaning has none without
-has_no_place : (file : File) (tree : UnitTree) (place : Place) → second_form file ≡ Some tree → IsNamed tree → HasNoMeaningAt file place → ⊥
+has_no_place : (file : File) (tree : UnitTree) (place : Place) → second_form file ≡ Some tree → HasRightNames tree → HasNoMeaningAt file place → ⊥
 has_no_place file tree place built named (inl unbuilt) = clash (unbuilt_file file) (formed_built_by file tree built) unbuilt
   where
     clash : (found : _) → found ≡ None → found ≡ Some place → ⊥

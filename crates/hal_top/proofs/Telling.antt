@@ -9,7 +9,7 @@ use Rattle.hal_values.specs.declared.value.Value.TheVariants as value
 use Rattle.hal_values.specs.Answers.{Answered, Begun, Told, Done, Wrong, Killed, StandsFor}
 use Rattle.hal_values.specs.Loads.{FitsNext}
 use Rattle.hal_meaning.specs.declared.heard.Heard.{Heard}
-use Rattle.hal_meaning.specs.Meaning.{heard, next_heard, own_heard}
+use Rattle.hal_meaning.specs.UnitMeaning.{heard, next_heard, own_heard}
 use Rattle.hal_meaning.specs.Answering.{answers_of, next-answers, own-answers, answers-pushed}
 use Rattle.hal_meaning.specs.TreeLoad.{load_of, next_of, own_of, report_names}
 use Rattle.exec_model.specs.Moments.{answers_in, pushed_answer}

@@ -3,7 +3,7 @@ use Rattle.std.specs.Prelude.{◌≡◌, ◌≤◌, ℕ, List, Some, length}
 use Rattle.hal_grammar.specs.Units.{File}
 use Rattle.hal_core.specs.Tree.{UnitTree}
 use Rattle.hal_core.specs.View.{unit_tree}
-use Rattle.hal_core.specs.Naming.{IsNamed, declared_names}
+use Rattle.hal_core.specs.Naming.{HasRightNames, declared_names}
 use Rattle.hal_built.specs.SecondForm.{second_form}
 use Rattle.hal_meaning.specs.Small.{IsSmall}
 use Rattle.hal_top.specs.declared.program.Program.{Program}
@@ -17,7 +17,7 @@ pub record IsRunnable (program : Program) : Type 0 where
 -- the file has this unit's tree, with right names
 pub record IsProgramIn (file : File) (program : Program) : Type 0 where
   pub built : second_form file ≡ Some (unit_tree program.unit)
-  pub named : IsNamed (unit_tree program.unit)
+  pub named : HasRightNames (unit_tree program.unit)
   pub names : program.names ≡ declared_names (unit_tree program.unit)
   pub short : length (unit_tree program.unit).name ≤ 32
 

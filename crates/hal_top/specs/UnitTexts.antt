@@ -9,7 +9,7 @@ use Rattle.hal_words.specs.Words as words
 use Rattle.hal_grammar.specs.Units.{File}
 use Rattle.hal_parse.specs.Parsed.{IsFileOf, IsUnread}
 use Rattle.hal_core.specs.Tree.{UnitTree}
-use Rattle.hal_core.specs.Naming.{IsNamed}
+use Rattle.hal_core.specs.Naming.{HasRightNames}
 use Rattle.hal_core.specs.Uses.{misnamed}
 use Rattle.hal_built.specs.SecondForm.{second_form}
 use Rattle.hal_built.specs.Unbuilt.{unbuilt_file}
@@ -25,7 +25,7 @@ pub record HasMeaning (number : ℕ) (text : List ℕ) (tree : UnitTree) : Type 
   pub file : File
   pub read : IsRead number text file
   pub built : second_form file ≡ Some tree
-  pub named : IsNamed tree
+  pub named : HasRightNames tree
 
 -- this is the place of the first smallest phrase without a meaning, or all phrases have one and this is that of the first wrong name
 abbrev pub HasNoMeaningAt : File → Place → Type 0
@@ -46,7 +46,7 @@ pub record HasNoMeaning (number : ℕ) (text : List ℕ) (refusal : Refusal) : T
 
 -- a rule of words, 401 or 410
 abbrev pub Breaks : ℕ → List ℕ → Refusal → Type 0
-Breaks number text refusal = words.Breaks number text refusal.rule.0 refusal.place ⊎ BreaksGrammar number text refusal ⊎ HasNoMeaning number text refusal
+Breaks number text refusal = words.BreaksWordRule number text refusal.rule.0 refusal.place ⊎ BreaksGrammar number text refusal ⊎ HasNoMeaning number text refusal
 
 -- the text breaks the rule of the fault, or memory ended
 abbrev pub BreaksBy : ℕ → List ℕ → Fault → Type 0

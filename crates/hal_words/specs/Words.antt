@@ -44,8 +44,8 @@ pub record IsCut (unit : ℕ) (text : List ℕ) (tokens : List Token) : Type 0 w
   pub temporaries : misplaced false false (file_words unit text) ≡ []
 
 -- the text breaks the rule at the place: a fault stands among its words, or it has a word after the limit, or a TEMPORARY out of place
-abbrev pub Breaks : ℕ → List ℕ → ℕ → Place → Type 0
-Breaks unit text rule place =
+abbrev pub BreaksWordRule : ℕ → List ℕ → ℕ → Place → Type 0
+BreaksWordRule unit text rule place =
     Contains (file_words unit text) (item (Wrong rule) place)
     ⊎ ((one : Item) × (slice_get (file_words unit text) TOKEN_LIMIT ≡ Some one) × (rule ≡ 206) × (place ≡ one.place))
     ⊎ (Contains (misplaced false false (file_words unit text)) place × (rule ≡ 324))

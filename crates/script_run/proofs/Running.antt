@@ -15,7 +15,7 @@ use Rattle.exec_model.specs.declared.script.ScriptLine.TheVariants as asks
 use Rattle.exec_model.specs.declared.state.State.{State}
 use Rattle.exec_model.specs.Moments.{Moment, moment_of}
 use Rattle.exec_model.specs.Opening.{opening}
-use Rattle.exec_model.specs.Runs.{IsOfProcess, AreOfProcesses, IsQuiet, IsNamed, MakesLine, MakesLines, IsUnknown, IsRunTo}
+use Rattle.exec_model.specs.Runs.{IsOfProcess, AreOfProcesses, IsQuiet, IsLowestNamed, MakesLine, MakesLines, IsUnknown, IsRunTo}
 use Rattle.exec_model.specs.Scripts.{IsScript, asked_time}
 use Rattle.exec_model.specs.Sound.{IsSound, KeepsClock}
 use Rattle.exec_model.specs.Steps.{IsAllowed, Steps, stepped}
@@ -141,14 +141,14 @@ pub RunsLine-tick : (q : Meaning) (lanes : ℕ) (old new : Moment) (time : ℕ) 
 RunsLine-tick q lanes old new time before now done is = (event.Tick time ∷ [], is, (refl, one_step q lanes old new (event.Tick time) tt done))
 
 -- a process of a name exists
-pub IsNamed-exists : (tables : Tables) (name : List ℕ) (p : ℕ) → IsNamed tables name p → HasProcess tables p
-IsNamed-exists tables name p is = slice_get_within tables.processes p name is.named
+pub IsLowestNamed-exists : (tables : Tables) (name : List ℕ) (p : ℕ) → IsLowestNamed tables name p → HasProcess tables p
+IsLowestNamed-exists tables name p is = slice_get_within tables.processes p name is.named
 
 -- the process of the name gives way
-pub RunsLine-preempt : (q : Meaning) (lanes : ℕ) (old new : Moment) (name : List ℕ) (p : ℕ) (before now : List Event) → IsNamed q.tables name p → new ≡ stepped q old (event.Preempt p)
+pub RunsLine-preempt : (q : Meaning) (lanes : ℕ) (old new : Moment) (name : List ℕ) (p : ℕ) (before now : List Event) → IsLowestNamed q.tables name p → new ≡ stepped q old (event.Preempt p)
     → now ≡ before ++ event.Preempt p ∷ [] → RunsLine q lanes old (asks.Preempt name) before now new
 RunsLine-preempt q lanes old new name p before now is done written =
-    (event.Preempt p ∷ [], written, inl (p, is, refl, one_step q lanes old new (event.Preempt p) (IsNamed-exists q.tables name p is) done))
+    (event.Preempt p ∷ [], written, inl (p, is, refl, one_step q lanes old new (event.Preempt p) (IsLowestNamed-exists q.tables name p is) done))
 
 -- steps move the clock as far as their events do
 Steps-clock : (q : Meaning) (lanes : ℕ) (old new : Moment) (events : List Event) → Steps q lanes old events new → new.clock ≡ old.clock + sum_by event_time events

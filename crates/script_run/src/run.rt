@@ -6,7 +6,7 @@ ghost use Rattle.hal_values.specs.Loads.{meaning_of};
 ghost use Rattle.hal_values.specs.Tables.{process_count};
 ghost use Rattle.exec_model.specs.Opening.{opening};
 ghost use Rattle.exec_model.specs.Running.{running_moment};
-ghost use Rattle.exec_model.specs.Runs.{IsNamed, IsUnknown, IsRunTo};
+ghost use Rattle.exec_model.specs.Runs.{IsLowestNamed, IsUnknown, IsRunTo};
 ghost use Rattle.exec_model.specs.Scripts.{asked_time};
 ghost use Rattle.exec_model.specs.Sound.{IsSound, KeepsClock};
 ghost use Rattle.exec_model.specs.Steps.{IsAllowed, stepped};
@@ -75,7 +75,7 @@ fn is_named(tables: &Tables, place: usize, name: &[u8]) -> bool
 /// The lowest process of this name, if there is one.
 fn named(tables: &Tables, name: &[u8]) -> Option<u8>
     requires { process_count tables.now ≤ PROCESS_LIMIT }
-    ensures found { IfSome result (IsNamed tables.now name.now) }
+    ensures found { IfSome result (IsLowestNamed tables.now name.now) }
     ensures none { IfNone result (IsUnknown tables.now name.now) }
 {
     'places: for place in 0..tables.processes.as_slice().len() {

@@ -12,7 +12,7 @@ use Rattle.hal_grammar.specs.SpellsDeclarations.{last, declares, declared, attri
 use Rattle.hal_grammar.specs.SpellsStatements.{labelled, no_labels, assigned, outputs, chosen, looped_while, no_alternative, groups, statements_end, statements_more}
 use Rattle.hal_grammar.specs.SpellsFiles.{SpellsFile, block_alone, block, program_head, statement_first, closed}
 use Rattle.hal_grammar.proofs.Derived.{first_is, equals_no_label, reserved_no_label, sum_of, expression_of, number, named}
-use Rattle.hal_core.specs.Naming.{IsOnce, IsNamed}
+use Rattle.hal_core.specs.Naming.{IsOnce, HasRightNames}
 use Rattle.hal_built.specs.SecondForm.{both as built_both, operand_of, terms_of, sum_of as built_sum, sums_of, relation_of, comparison_of, channel_of, target_of, statement_of, basic_of, alternative_of, body_of, declared_of, declaration_of, declarations_of, elements_of, closes, block_of, second_form}
 use Rattle.worked_rows.specs.Files.{count_file}
 use Rattle.worked_rows.specs.CountWords.{count_text, count_tokens}
@@ -61,8 +61,8 @@ pub built-count : second_form count_file ≡ Some count_tree
 unfolding built_both operand_of terms_of built_sum sums_of relation_of comparison_of channel_of target_of statement_of basic_of alternative_of body_of declared_of declaration_of declarations_of elements_of closes block_of second_form
 built-count = refl
 
-pub IsNamed-count : IsNamed count_tree
-IsNamed-count = record {
+pub HasRightNames-count : HasRightNames count_tree
+HasRightNames-count = record {
   used = All-from_recursion (IsOnce (codes "N" ∷ [])) (codes "N" ∷ codes "N" ∷ codes "N" ∷ codes "N" ∷ codes "N" ∷ []) (once, (once, (once, (once, (once, tt)))));
   own = not_among (codes "N" ∷ []) (codes "P") refl;
 }

@@ -8,7 +8,7 @@ use Rattle.hal_grammar.specs.SpellsDeclarations.{last, declares, declared, attri
 use Rattle.hal_grammar.specs.SpellsStatements.{labelled, no_labels, assigned, outputs}
 use Rattle.hal_grammar.specs.SpellsFiles.{SpellsFile, block_alone, block, program_head, statement_first, closed}
 use Rattle.hal_grammar.proofs.Derived.{name_not_reserved, equals_no_label, reserved_no_label, sum_of, expression_of, number, named}
-use Rattle.hal_core.specs.Naming.{IsOnce, IsNamed}
+use Rattle.hal_core.specs.Naming.{IsOnce, HasRightNames}
 use Rattle.hal_built.specs.SecondForm.{both, operand_of, terms_of, sum_of as built_sum, sums_of, channel_of, target_of, statement_of, basic_of, initial_of, declared_of, declaration_of, declarations_of, elements_of, closes, block_of, second_form}
 use Rattle.worked_rows.specs.Files.{hello_file}
 use Rattle.worked_rows.specs.HelloWords.{hello_text, hello_tokens}
@@ -43,8 +43,8 @@ built-hello = refl
 pub once : IsOnce (codes "N" ∷ []) (codes "N")
 once = record { before = []; after = []; here = refl; first = λ h. omega (arith, h.1); last = λ h. omega (arith, h.1) }
 
-pub IsNamed-hello : IsNamed hello_tree
-IsNamed-hello = record {
+pub HasRightNames-hello : HasRightNames hello_tree
+HasRightNames-hello = record {
   used = All-from_recursion (IsOnce (codes "N" ∷ [])) (codes "N" ∷ codes "N" ∷ codes "N" ∷ []) (once, (once, (once, tt)));
   own = not_among (codes "N" ∷ []) (codes "HELLO") refl;
 }

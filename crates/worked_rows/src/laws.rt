@@ -4,7 +4,7 @@ ghost use Rattle.std.specs.Prelude.{◌≡◌, [], ◌∷◌, Some, codes};
 ghost use Rattle.std.specs.Str.Lines.{lines};
 ghost use Rattle.hal_words.specs.Words.{IsCut};
 ghost use Rattle.hal_grammar.specs.SpellsFiles.{SpellsFile};
-ghost use Rattle.hal_core.specs.Naming.{IsNamed};
+ghost use Rattle.hal_core.specs.Naming.{HasRightNames};
 ghost use Rattle.hal_built.specs.SecondForm.{second_form};
 ghost use Rattle.hal_top.specs.UnitTexts.{HasMeaning};
 ghost use Rattle.hal_script.specs.ScriptTexts.{IsScriptOf};
@@ -62,7 +62,7 @@ pub fn hello_is_built()
 
 /// HELLO declares the names that it uses, each once.
 pub fn hello_is_named()
-    ensures { IsNamed hello_tree }
+    ensures { HasRightNames hello_tree }
 {}
 
 /// A script of one line.

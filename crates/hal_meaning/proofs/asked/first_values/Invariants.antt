@@ -1,6 +1,6 @@
 use Rattle.std.proofs.Common.{◌≡◌, ◌++◌, drop, map}
 use Rattle.hal_core.specs.declared.tree.Declaration.{Declaration}
-use Rattle.hal_meaning.specs.Meaning.{initial_value}
+use Rattle.hal_meaning.specs.UnitMeaning.{initial_value}
 use Rattle.hal_meaning.proofs.asked.first_values.Given as goal
 
 abbrev pub invariant-loop-declaration : goal.invariant-loop-declaration

@@ -1,5 +1,5 @@
 use Rattle.std.proofs.Common.{sym, ap, ◌∙◌}
-use Rattle.hal_meaning.specs.Meaning.{Asks}
+use Rattle.hal_meaning.specs.UnitMeaning.{Asks}
 use Rattle.hal_meaning.proofs.Cycles.{Begun-asks, Begun-next}
 use Rattle.hal_meaning.proofs.asked.oracle.Goals as goal
 

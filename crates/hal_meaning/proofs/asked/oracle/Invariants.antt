@@ -1,6 +1,6 @@
 use Rattle.std.proofs.Common.{length}
 use Rattle.hal_core.specs.View.{unit_tree}
-use Rattle.hal_meaning.specs.Meaning.{meaning}
+use Rattle.hal_meaning.specs.UnitMeaning.{meaning}
 use Rattle.hal_meaning.proofs.Cycles.{Begun}
 use Rattle.hal_meaning.proofs.asked.oracle.Given as goal
 

@@ -1,5 +1,5 @@
 use Rattle.std.proofs.Common.{◌≡◌, ◌≤◌, List, ℤ, length}
-use Rattle.hal_meaning.specs.Meaning.{Flow, fails_from}
+use Rattle.hal_meaning.specs.UnitMeaning.{Flow, fails_from}
 use Rattle.hal_meaning.proofs.course.fails.Given as goal
 
 abbrev pub invariant-loop-rest : goal.invariant-loop-rest

@@ -1,7 +1,7 @@
 use Rattle.std.proofs.Common.{◌≡◌, ◌++◌, drop, map}
 use Rattle.hal_core.specs.View.{sum_tree}
 use Rattle.hal_meaning.specs.Values.{Good, checked_then}
-use Rattle.hal_meaning.specs.Meaning.{items_values}
+use Rattle.hal_meaning.specs.UnitMeaning.{items_values}
 use Rattle.hal_meaning.proofs.lines.items_values.Given as goal
 
 abbrev pub invariant-loop-item : goal.invariant-loop-item

@@ -1,5 +1,5 @@
 use Rattle.std.proofs.Common.{◌≡◌, ◌≤◌, length, ◌++◌, drop}
-use Rattle.hal_meaning.specs.Meaning.{line_text}
+use Rattle.hal_meaning.specs.UnitMeaning.{line_text}
 use Rattle.hal_meaning.proofs.lines.line_of.Given as goal
 
 abbrev pub invariant-loop-value : goal.invariant-loop-value

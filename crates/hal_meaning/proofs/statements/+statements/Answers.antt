@@ -3,7 +3,7 @@ use Rattle.std.proofs.lemmas.Result.{IfOk-weaker}
 use Rattle.hal_core.specs.declared.tree.Sum.{Sum}
 use Rattle.hal_core.specs.View.{comparison_tree, body_tree, alternative_tree, statement_tree, sum_tree}
 use Rattle.hal_meaning.specs.Values.{Good}
-use Rattle.hal_meaning.specs.Meaning.{write, statements}
+use Rattle.hal_meaning.specs.UnitMeaning.{write, statements}
 use Rattle.hal_meaning.specs.Course.{checked, state_of}
 use Rattle.hal_meaning.proofs.Turns.{Turns-next}
 use Rattle.hal_meaning.proofs.Seen.{seen_assigned, seen_written, seen_chosen, seen_else, seen_no_else, seen_looped, ComesTo-seen, ComesTo-plain, ComesTo-held, ComesTo-else, ComesTo-no_else, ComesTo-bad, ComesTo-looped, ComesTo-asked}

@@ -5,13 +5,13 @@ use Rattle.hal_words.specs.Pieces.{piece}
 use Rattle.hal_pieces.specs.declared.item.Item.{Item}
 use Rattle.hal_pieces.specs.Faults.{IsRight, seen_item}
 use Rattle.hal_pieces.proofs.Sizes.{piece-within}
-use Rattle.hal_pieces.proofs.Words.{Reads-word, Breaks-word}
+use Rattle.hal_pieces.proofs.Words.{Reads-word, IsBrokenBy-word}
 use Rattle.hal_pieces.proofs.lines.push_piece.Goals as goal
 
 pub returns-in-Some-clause-broken : goal.returns-in-Some-clause-broken
 returns-in-Some-clause-broken c =
     let place = c.args.place in
-    Breaks-word place.unit place.line place.column c.args.text.now c.in-Some.refusal c.requires.some c.requires.plain c.requires.no_blank c.requires.no_comment
+    IsBrokenBy-word place.unit place.line place.column c.args.text.now c.in-Some.refusal c.requires.some c.requires.plain c.requires.no_blank c.requires.no_comment
     (ap (λ p. main_item p place) (sym c.first_piece-piece.ensures.what) ∙ c.in-Some.ensures.broken)
 
 pub returns-clause-within : goal.returns-clause-within
