@@ -2,6 +2,7 @@
 use Rattle.std.proofs.Common.{◌≡◌, ◌<◌, ◌≤◌, ℕ, inl, inr, true, false, Bool, cond, List, [], ◌∷◌, ◌++◌, length, get_or, map, reverse, Option, Some, None, refl, sym, ap, ◌∙◌, arith}
 use Rattle.std.specs.Prelude.{bytes_eq, ◌==◌, if◌then◌else◌}
 use Rattle.std.specs.Map.{lookup}
+use Rattle.std.specs.Option.{IfSome}
 use Rattle.std.proofs.lemmas.Bool.{cases_Bool}
 use Rattle.std.proofs.lemmas.Bool.Decides.{nat_tests}
 use Rattle.std.proofs.lemmas.List.{reverse-append, length-reverse, length-map, map-append, get_or_append_left, get_or-map}
@@ -9,12 +10,12 @@ use Rattle.std.proofs.Math.Seq.{get_or-append_seam}
 use Rattle.hal_words.specs.contracts.name.NamePartialEq.TheImpl as derived
 use Rattle.hal_lexer.specs.declared.child.Child.{Child}
 use Rattle.hal_lexer.specs.declared.compiled.Entry.{Entry}
-use Rattle.hal_lexer.specs.Compiled.{Table, entry_of, number_of, children_at}
+use Rattle.hal_lexer.specs.Compiled.{Table, entry_of, number_of, children_at, IsOrdered}
 use Rattle.hal_lexer.specs.Defined.{found}
 use Rattle.hal_lexer.specs.Numbers.{Numbers, has_at, still}
 use Rattle.hal_lexer.proofs.NameEquality.{eq-same}
 use Rattle.hal_lexer.proofs.Index.{lookup-found}
-use Rattle.hal_lexer.proofs.Tables.{same_name}
+use Rattle.hal_lexer.proofs.Tables.{same_name, number_before}
 
 abbrev table_of : List Entry → Table
 table_of items = reverse (map entry_of items)
@@ -24,11 +25,32 @@ pub still_number : (entries : List (List ℕ × ℕ)) (list table : Table) (name
     → still table name kept ≡ number_of table name
 still_number entries list table name kept numbers is at = ap (still table name) (sym at ∙ lookup-found entries name) ∙ rw (← is) (numbers name)
 
-pub still_own : (entries : List (List ℕ × ℕ)) (list table : Table) (own name : List ℕ) (number : ℕ) → Numbers entries list → list ≡ table → lookup ((derived.eq-value).it own) entries ≡ Some number → (derived.eq-value).it own name ≡ true
-    → still table name (Some number) ≡ number_of table name
-still_own entries list table own name number numbers is at same =
-    let here : own ≡ name = same_name own name (sym (eq-same own name) ∙ same) in
-    still_number entries list table name (Some number) numbers is (ap (λ (n : List ℕ). lookup ((derived.eq-value).it n) entries) (sym here) ∙ at)
+pub uncompiled_found : (entries : List (List ℕ × ℕ)) (list table : Table) (name : List ℕ) (number : ℕ) (result : Option (List ℕ)) → Numbers entries list → list ≡ table → lookup ((derived.eq-value).it name) entries ≡ Some number
+    → IfSome result (λ same. (same ≡ name) × (has_at table number name ≡ false)) → IfSome result (λ same. number_of table same ≡ None)
+uncompiled_found entries list table name number None numbers is at found' = tt
+uncompiled_found entries list table name number (Some same) numbers is at found' =
+    let kept : still table name (Some number) ≡ number_of table name = still_number entries list table name (Some number) numbers is at in
+    let none : None ≡ number_of table name = rw found'.1 at kept in
+    ap (number_of table) found'.0 ∙ sym none
+
+-- in a table in order a name has one number
+ordered_has : (table : Table) (n : ℕ) (name : List ℕ) → IsOrdered table → has_at table n name ≡ true → number_of table name ≡ Some n
+ordered_has [] n name ordered has = let no : false ≡ true = has in absurd (cc)
+ordered_has (entry ∷ older) n name ordered has = elim (cases_Bool (n == length older)) [
+  | inl here ↦
+      let own : bytes_eq entry.0 name ≡ true = rw here at has in
+      let last : length older ≡ n = grind (arith, nat_tests) in
+      rw own (ap Some last)
+  | inr there ↦
+      let before : has_at older n name ≡ true = rw there at has in
+      number_before older entry name n ordered.1 (ordered_has older n name ordered.2 before)
+]
+
+pub ordered_still : (table : Table) (n : ℕ) (name : List ℕ) → IsOrdered table → IfSome (still table name (Some n)) (λ number. number_of table name ≡ Some number)
+ordered_still table n name ordered = elim (cases_Bool (has_at table n name)) [
+  | inl has ↦ rw has (ordered_has table n name ordered has)
+  | inr has ↦ rw has tt
+]
 
 -- the name with a number
 past_name : (table : Table) (n : ℕ) (name : List ℕ) → length table ≤ n → has_at table n name ≡ false

@@ -37,8 +37,8 @@ impl Model for Compiled {
 }
 
 impl Compiled {
-    ghost use Rattle.std.specs.Prelude.{◌≡◌, ◌∷◌, [], ◌⊎◌, None, Some, OnOk};
-    ghost use Rattle.hal_lexer.specs.Compiled.{children_at, number_of};
+    ghost use Rattle.std.specs.Prelude.{◌≡◌, ◌∷◌, [], ◌⊎◌, false, None, Some, IfSome, OnOk};
+    ghost use Rattle.hal_lexer.specs.Compiled.{IsOrdered, children_at, number_of};
     ghost use Rattle.hal_lexer.specs.Numbers.{has_at, still};
 
     /// No name.
@@ -87,13 +87,14 @@ impl Compiled {
         }
     }
 
-    /// The same, without hashing where the name has this slot.
+    /// The number of a name that was looked up, if it is the one that has this slot.
     pub(crate) fn number_at(&self, slot: usize, name: &Name) -> Option<usize>
-        ensures { result ≡ number_of self.now name.now }
+        requires { IsOrdered self.now }
+        ensures { IfSome result (λ number. number_of self.now name.now ≡ Some number) }
     {
         match self.numbers.get_index(slot) {
-            Some((kept, number)) if *kept == *name => self.still(*number, name),
-            _ => self.number(name),
+            Some((_, number)) => self.still(*number, name),
+            None => None,
         }
     }
 
@@ -111,10 +112,25 @@ impl Compiled {
         Ok(slot)
     }
 
-    /// The name that has this slot.
-    pub(crate) fn name_at(&self, slot: usize) -> Option<Name> {
-        let (name, _) = self.numbers.get_index(slot)?;
-        Some(*name)
+    /// The name that has this slot, if it wasn't looked up.
+    pub(crate) fn uncompiled_at(&self, slot: usize) -> Option<Name>
+        ensures { IfSome result (λ name. number_of self.now name ≡ None) }
+    {
+        match self.numbers.get_index(slot) {
+            Some((name, number)) => self.uncompiled(*name, *number),
+            None => None,
+        }
+    }
+
+    /// The name, unless this number is its own.
+    fn uncompiled(&self, name: Name, number: usize) -> Option<Name>
+        ensures { IfSome result (λ same. (same ≡ name) × (has_at self.now number name ≡ false)) }
+    {
+        if self.has_at(number, &name) {
+            None
+        } else {
+            Some(name)
+        }
     }
 
     /// The children of the name with this number.

@@ -1,4 +1,4 @@
-use crate::text::{Part, Text};
+use crate::text::Text;
 use hal_words::Name;
 use indexmap::IndexMap;
 use std::alloc::{AllocError, Global};
@@ -110,17 +110,6 @@ impl<'a> Definitions<'a> {
                 None => None,
             },
             _ => self.latest_of(name),
-        }
-    }
-
-    /// The words of the text whose name has this index, as far as they are cut.
-    pub(crate) fn parts_at(&self, index: usize) -> &[Part] {
-        let Some((_, number)) = self.latest.get_index(index) else {
-            return &[];
-        };
-        match self.list.get(*number) {
-            Some(definition) => definition.text.parts().unwrap_or(&[]),
-            None => &[],
         }
     }
 }

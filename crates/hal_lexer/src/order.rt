@@ -1,18 +1,36 @@
-use crate::definitions::Definitions;
 use crate::text::Part;
 use hal_words::Word;
 use std::alloc::{AllocError, Global};
+
+/// What is known of the name that has a slot.
+#[derive(Clone, Copy, Debug, Drop)]
+struct Noted {
+    /// Where the definitions have its text.
+    index: usize,
+    /// Where the slots of the names in its text begin, and end.
+    from: usize,
+    end: usize,
+    /// The round in which it was met last.
+    round: u64,
+}
+
+const NOTHING: Noted = Noted {
+    index: usize::MAX,
+    from: 0,
+    end: 0,
+    round: 0,
+};
 
 /// In which order names are to be compiled, each behind those in its text. It is a guess, and made of
 /// slots alone: what is compiled is looked at again where it is added.
 #[derive(Drop)]
 pub(crate) struct Order {
-    /// For each slot, where the definitions have the text of its name.
-    indices: Vec<usize>,
-    /// For each slot, the round in which its name was met last.
-    rounds: Vec<u64>,
+    /// For each slot, what is known of its name.
+    noted: Vec<Noted>,
+    /// The slots of the names in all texts, each text's in a row.
+    slots: Vec<usize>,
     round: u64,
-    /// The slots whose texts are gone through, each with the number of parts that were.
+    /// The slots whose texts are gone through, each with the place in `slots` where that goes on.
     left: Vec<(usize, usize)>,
 }
 
@@ -20,28 +38,65 @@ impl Order {
     /// No name.
     pub(crate) fn new(alloc: Global) -> Order {
         Order {
-            indices: Vec::new(alloc),
-            rounds: Vec::new(alloc),
+            noted: Vec::new(alloc),
+            slots: Vec::new(alloc),
             round: 1,
             left: Vec::new(alloc),
         }
     }
 
-    /// Notes where the definitions have the text of a name.
-    pub(crate) fn note(&mut self, slot: usize, index: usize) -> Result<(), AllocError> {
-        reach(&mut self.indices, slot, usize::MAX)?;
-        if let Some(place) = self.indices.get_mut(slot) {
-            *place = index;
+    /// Notes the names in the text of the one that has this slot.
+    pub(crate) fn note_text(&mut self, slot: usize, parts: &[Part]) -> Result<(), AllocError> {
+        let from = self.slots.len();
+        self.add_slots(parts)?;
+        let end = self.slots.len();
+        self.reach(slot)?;
+        if let Some(noted) = self.noted.get_mut(slot) {
+            noted.from = from;
+            noted.end = end;
         }
         Ok(())
     }
 
-    /// Where the definitions have the text of a name, if they do.
-    pub(crate) fn index(&self, slot: usize) -> usize {
-        match self.indices.get(slot) {
-            Some(index) => *index,
-            None => usize::MAX,
+    /// Adds the slots of the names among these words; of a name that is said again, once.
+    fn add_slots(&mut self, parts: &[Part]) -> Result<(), AllocError> {
+        let mut last = None;
+        'part: for part in parts {
+            if matches!(part.word, Word::Name(_)) && last != Some(part.slot) {
+                last = Some(part.slot);
+                self.add_slot(part.slot)?;
+            }
         }
+        Ok(())
+    }
+
+    fn add_slot(&mut self, slot: usize) -> Result<(), AllocError> {
+        match self.slots.push(slot) {
+            Ok(()) => Ok(()),
+            Err(_) => Err(AllocError),
+        }
+    }
+
+    /// Notes where the definitions have the text of the name that has this slot.
+    pub(crate) fn note_index(&mut self, slot: usize, index: usize) -> Result<(), AllocError> {
+        self.reach(slot)?;
+        if let Some(noted) = self.noted.get_mut(slot) {
+            noted.index = index;
+        }
+        Ok(())
+    }
+
+    /// What is known of the name that has this slot.
+    fn noted(&self, slot: usize) -> Noted {
+        match self.noted.get(slot) {
+            Some(noted) => *noted,
+            None => NOTHING,
+        }
+    }
+
+    /// Where the definitions have the text of the name that has this slot, if they do.
+    pub(crate) fn index(&self, slot: usize) -> usize {
+        self.noted(slot).index
     }
 
     /// Takes each name as one that isn't met yet, where all is to be compiled anew.
@@ -53,60 +108,56 @@ impl Order {
 
     /// Begins with the name that has this slot.
     pub(crate) fn begin(&mut self, slot: usize) -> Result<(), AllocError> {
-        reach(&mut self.rounds, slot, 0)?;
-        if let Some(round) = self.rounds.get_mut(slot) {
-            *round = self.round;
+        self.reach(slot)?;
+        let round = self.round;
+        if let Some(noted) = self.noted.get_mut(slot) {
+            noted.round = round;
         }
-        if self.left.push((slot, 0)).is_err() {
-            return Err(AllocError);
+        let from = self.noted(slot).from;
+        self.leave(slot, from)
+    }
+
+    /// Leaves the names in a text for later, from this place on.
+    fn leave(&mut self, slot: usize, from: usize) -> Result<(), AllocError> {
+        match self.left.push((slot, from)) {
+            Ok(()) => Ok(()),
+            Err(_) => Err(AllocError),
         }
-        Ok(())
     }
 
     /// The slot whose name is the next to be compiled; None where no name is left.
-    pub(crate) fn next(&mut self, definitions: &Definitions) -> Result<Option<usize>, AllocError> {
-        'part: for _ in 0..usize::MAX {
+    pub(crate) fn next(&mut self) -> Result<Option<usize>, AllocError> {
+        'name: for _ in 0..usize::MAX {
             let Some((slot, from)) = self.left.pop() else {
                 return Ok(None);
             };
-            let parts = definitions.parts_at(self.index(slot));
-            let Some((at, inner)) = self.unmet(parts, from) else {
+            let Some((at, inner)) = self.unmet(from, self.noted(slot).end) else {
                 return Ok(Some(slot));
             };
-            if self.left.push((slot, at.saturating_add(1))).is_err() {
-                return Err(AllocError);
-            }
+            self.leave(slot, at.saturating_add(1))?;
             self.begin(inner)?;
         }
         Ok(None)
     }
 
-    /// The first part from this one on that is a name which isn't met yet, and its slot.
-    fn unmet(&self, parts: &[Part], from: usize) -> Option<(usize, usize)> {
-        'part: for at in from..parts.len() {
-            let part = &parts[at];
-            if matches!(part.word, Word::Name(_)) && !self.is_met(part.slot) {
-                return Some((at, part.slot));
+    /// The first of these places in `slots` whose name isn't met yet, and its slot.
+    fn unmet(&self, from: usize, end: usize) -> Option<(usize, usize)> {
+        'place: for at in from..end {
+            let slot = *self.slots.get(at)?;
+            if self.noted(slot).round != self.round {
+                return Some((at, slot));
             }
         }
         None
     }
 
-    /// Whether the name with this slot was met in this round.
-    fn is_met(&self, slot: usize) -> bool {
-        match self.rounds.get(slot) {
-            Some(round) => *round == self.round,
-            None => false,
+    /// Makes room for what is known of the name that has this slot.
+    fn reach(&mut self, slot: usize) -> Result<(), AllocError> {
+        'place: for _ in self.noted.len()..=slot {
+            if self.noted.push(NOTHING).is_err() {
+                return Err(AllocError);
+            }
         }
+        Ok(())
     }
-}
-
-/// Makes the list so long that it has the slot.
-fn reach<T: Copy + Drop>(list: &mut Vec<T>, slot: usize, value: T) -> Result<(), AllocError> {
-    'place: for _ in list.len()..=slot {
-        if list.push(value).is_err() {
-            return Err(AllocError);
-        }
-    }
-    Ok(())
 }

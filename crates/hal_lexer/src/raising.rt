@@ -7,7 +7,7 @@ ghost use Rattle.hal_base.specs.declared.refusal.Place.{Place};
 ghost use Rattle.hal_words.specs.declared.word.Word.TheVariants as word;
 ghost use Rattle.hal_pieces.specs.Faults.{IsMemory};
 ghost use Rattle.hal_lexer.specs.declared.child.Child.TheVariants as child;
-ghost use Rattle.hal_lexer.specs.Compiled.{IsCompiled, IsReadAs, word_children};
+ghost use Rattle.hal_lexer.specs.Compiled.{IsCompiled, IsOrdered, IsReadAs, word_children};
 ghost use Rattle.hal_lexer.specs.Parts.{part_item};
 
 use crate::child::Child;
@@ -36,7 +36,7 @@ pub(crate) fn raise(
     let slot = compiled.slot(name).map_err(Fault::Memory)?;
     order.begin(slot).map_err(Fault::Memory)?;
     'name: for _ in 0..usize::MAX {
-        let Some(next) = order.next(definitions).map_err(Fault::Memory)? else {
+        let Some(next) = order.next().map_err(Fault::Memory)? else {
             return Ok(());
         };
         raise_slot(alloc, definitions, compiled, next, order.index(next))?;
@@ -57,12 +57,9 @@ fn raise_slot(
     ensures compiled { OnOk result (IsCompiled definitions.now compiled.new) }
     ensures memory { IfErr result IsMemory }
 {
-    let Some(name) = compiled.name_at(slot) else {
+    let Some(name) = compiled.uncompiled_at(slot) else {
         return Ok(());
     };
-    if compiled.number_at(slot, &name).is_some() {
-        return Ok(());
-    }
     let Some(text) = definitions.text_at(index, &name) else {
         return leave(alloc, compiled, slot, name);
     };
@@ -81,6 +78,7 @@ fn children_of(
     compiled: &Compiled,
     parts: &[Part],
 ) -> Result<Option<Vec<Child>>, Fault>
+    requires { IsOrdered compiled.now }
     ensures children { IfOk result (λ found. IfSome found (λ children. (place : Place) → IsReadAs compiled.now place (map (part_item place) parts.now) children.items)) }
     ensures memory { IfErr result IsMemory }
 {
@@ -100,6 +98,7 @@ fn part_child(
     compiled: &Compiled,
     part: &Part,
 ) -> Result<Option<Option<Child>>, Fault>
+    requires { IsOrdered compiled.now }
     ensures known { IfOk result (λ known. IfSome known (λ child. word_children compiled.now part.now.word ≡ Some (option_to_list child))) }
     ensures memory { IfErr result IsMemory }
 {
@@ -120,6 +119,7 @@ fn name_child(
     slot: usize,
     name: &Name,
 ) -> Result<Option<Option<Child>>, Fault>
+    requires { IsOrdered compiled.now }
     ensures known { IfOk result (λ known. IfSome known (λ child. word_children compiled.now (word.Name name.now) ≡ Some (option_to_list child))) }
     ensures memory { IfErr result IsMemory }
 {

@@ -60,10 +60,13 @@ impl<'a> Replacements<'a> {
     {
         let slot = self.compiled.slot(name).map_err(Fault::Memory)?;
         let cut = Text::cut(alloc, &mut self.compiled, text).map_err(Fault::Memory)?;
+        self.order
+            .note_text(slot, cut.parts().unwrap_or(&[]))
+            .map_err(Fault::Memory)?;
         forget_changed(&mut self.compiled, &self.definitions, &name, text);
         self.order.renew(self.compiled.is_empty());
         let index = self.definitions.push(name, cut).map_err(Fault::Memory)?;
-        self.order.note(slot, index).map_err(Fault::Memory)?;
+        self.order.note_index(slot, index).map_err(Fault::Memory)?;
         Ok(())
     }
 
