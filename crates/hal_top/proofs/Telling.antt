@@ -5,16 +5,17 @@ use Rattle.hal_core.specs.declared.tree.Declaration.{Declaration}
 use Rattle.hal_core.specs.Tree.{UnitTree}
 use Rattle.hal_values.specs.declared.answer.Answer.{Answer}
 use Rattle.hal_values.specs.declared.answer.Answer.TheVariants as answer
+use Rattle.hal_values.specs.declared.tables.ReportName.{ReportName}
 use Rattle.hal_values.specs.declared.value.Value.TheVariants as value
 use Rattle.hal_values.specs.Answers.{Answered, Begun, Told, Done, Wrong, Killed, StandsFor}
 use Rattle.hal_values.specs.Loads.{FitsNext}
 use Rattle.hal_meaning.specs.declared.heard.Heard.{Heard}
 use Rattle.hal_meaning.specs.UnitMeaning.{heard, next_heard, own_heard}
 use Rattle.hal_meaning.specs.Answering.{answers_of, next-answers, own-answers, answers-pushed}
-use Rattle.hal_meaning.specs.TreeLoad.{load_of, next_of, own_of, report_names}
+use Rattle.hal_meaning.specs.TreeLoad.{load_of, next_of, own_of, report_name, report_names}
 use Rattle.exec_model.specs.Moments.{answers_in, pushed_answer}
 use Rattle.exec_model.specs.Processes.{look_at, told_answer}
-use Rattle.hal_report.specs.Arrays.{AreArrays}
+use Rattle.hal_report.specs.Arrays.{AreArrays, IsArray}
 
 -- the one process asks what the unit asks for
 pub next-asked : (unit : UnitTree) (heards : List Heard) (p : ℕ) → p < 1 → next_of unit p (answers_in (answers_of unit heards ∷ []) p) ≡ next_heard unit heards
@@ -46,4 +47,5 @@ told-heard unit heards zero answer.Killed one there of fit = told_one unit heard
 -- the report names of a unit are those of single variables
 pub report_names-arrays : (unit : List ℕ) (cell : ℕ) (declarations : List Declaration) → AreArrays (report_names unit cell declarations)
 report_names-arrays unit cell [] = All-nil _
-report_names-arrays unit cell (declaration ∷ declarations) = All-cons _ _ _ tt (report_names-arrays unit (suc cell) declarations)
+report_names-arrays unit cell (declaration ∷ declarations) =
+    All-cons (λ (named : ReportName). IsArray named.dimensions) (report_name unit cell declaration.name) (report_names unit (suc cell) declarations) tt (report_names-arrays unit (suc cell) declarations)
