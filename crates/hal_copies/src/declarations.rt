@@ -4,7 +4,7 @@ ghost use Rattle.std.specs.Prelude.{◌≡◌, map, IfOk};
 ghost use Rattle.hal_tree.specs.SeenDeclarations.{seen_attribute, seen_declaration, seen_declared, seen_initial, seen_part, seen_type};
 
 use crate::expressions::{copy_expression, copy_expressions, copy_optional};
-use crate::pair::both;
+use crate::parts::{both, with_next};
 use hal_tree::{Attribute, Declaration, Declared, Initial, Part, Type};
 use std::alloc::{AllocError, Global};
 
@@ -90,7 +90,7 @@ fn copy_initials(alloc: Global, trees: &[Initial]) -> Result<Vec<Initial>, Alloc
 {
     let mut copied = Vec::new(alloc);
     for tree in trees {
-        copied.push(copy_initial(alloc, tree)?)?;
+        copied = with_next(copied, copy_initial(alloc, tree))?;
     }
     Ok(copied)
 }
@@ -132,7 +132,7 @@ pub fn copy_attributes(alloc: Global, trees: &[Attribute]) -> Result<Vec<Attribu
 {
     let mut copied = Vec::new(alloc);
     for tree in trees {
-        copied.push(copy_attribute(alloc, tree)?)?;
+        copied = with_next(copied, copy_attribute(alloc, tree))?;
     }
     Ok(copied)
 }
@@ -154,7 +154,7 @@ fn copy_items(alloc: Global, trees: &[Declared]) -> Result<Vec<Declared>, AllocE
 {
     let mut copied = Vec::new(alloc);
     for tree in trees {
-        copied.push(copy_declared(alloc, tree)?)?;
+        copied = with_next(copied, copy_declared(alloc, tree))?;
     }
     Ok(copied)
 }
@@ -178,7 +178,7 @@ fn copy_parts(alloc: Global, trees: &[Part]) -> Result<Vec<Part>, AllocError>
 {
     let mut copied = Vec::new(alloc);
     for tree in trees {
-        copied.push(copy_part(alloc, tree)?)?;
+        copied = with_next(copied, copy_part(alloc, tree))?;
     }
     Ok(copied)
 }
@@ -194,7 +194,7 @@ pub fn copy_declaration(alloc: Global, tree: &Declaration) -> Result<Declaration
             common,
             items,
         } => {
-            let common = copy_attributes(alloc, common)?;
+            let common = copy_attributes(alloc, common);
             let (common, items) = both(common, copy_items(alloc, items))?;
             Ok(Declaration::Declare {
                 place: *place,
@@ -219,7 +219,7 @@ pub fn copy_declarations(
 {
     let mut copied = Vec::new(alloc);
     for tree in trees {
-        copied.push(copy_declaration(alloc, tree)?)?;
+        copied = with_next(copied, copy_declaration(alloc, tree))?;
     }
     Ok(copied)
 }

@@ -4,6 +4,7 @@ ghost use Rattle.std.specs.Prelude.{◌≡◌, map, IfOk};
 ghost use Rattle.std.specs.Option.{option_map};
 ghost use Rattle.hal_tree.specs.SeenExpressions.{seen_expression, seen_position, seen_reference, seen_signed, seen_sub, seen_subscript};
 
+use crate::parts::{both, boxed, with_next};
 use hal_tree::{Expr, Identifier, Position, Reference, SignedTerm, Sub, Subscript};
 use std::alloc::{AllocError, Global};
 
@@ -27,69 +28,90 @@ pub fn copy_expression(alloc: Global, tree: &Expr) -> Result<Expr, AllocError>
             place,
             first,
             others,
-        } => Ok(Expr::Or {
-            place: *place,
-            first: copy_box(alloc, first)?,
-            others: copy_expressions(alloc, others)?,
-        }),
+        } => {
+            let (first, others) = both(copy_box(alloc, first), copy_expressions(alloc, others))?;
+            Ok(Expr::Or {
+                place: *place,
+                first,
+                others,
+            })
+        }
         Expr::And {
             place,
             first,
             others,
-        } => Ok(Expr::And {
-            place: *place,
-            first: copy_box(alloc, first)?,
-            others: copy_expressions(alloc, others)?,
-        }),
+        } => {
+            let (first, others) = both(copy_box(alloc, first), copy_expressions(alloc, others))?;
+            Ok(Expr::And {
+                place: *place,
+                first,
+                others,
+            })
+        }
         Expr::Compare {
             place,
             left,
             relation,
             right,
-        } => Ok(Expr::Compare {
-            place: *place,
-            left: copy_box(alloc, left)?,
-            relation: *relation,
-            right: copy_box(alloc, right)?,
-        }),
+        } => {
+            let (left, right) = both(copy_box(alloc, left), copy_box(alloc, right))?;
+            Ok(Expr::Compare {
+                place: *place,
+                left,
+                relation: *relation,
+                right,
+            })
+        }
         Expr::Cat {
             place,
             first,
             others,
-        } => Ok(Expr::Cat {
-            place: *place,
-            first: copy_box(alloc, first)?,
-            others: copy_expressions(alloc, others)?,
-        }),
+        } => {
+            let (first, others) = both(copy_box(alloc, first), copy_expressions(alloc, others))?;
+            Ok(Expr::Cat {
+                place: *place,
+                first,
+                others,
+            })
+        }
         Expr::Sum {
             place,
             opening,
             first,
             others,
-        } => Ok(Expr::Sum {
-            place: *place,
-            opening: *opening,
-            first: copy_box(alloc, first)?,
-            others: copy_terms(alloc, others)?,
-        }),
+        } => {
+            let (first, others) = both(copy_box(alloc, first), copy_terms(alloc, others))?;
+            Ok(Expr::Sum {
+                place: *place,
+                opening: *opening,
+                first,
+                others,
+            })
+        }
         Expr::Product {
             place,
             first,
             others,
-        } => Ok(Expr::Product {
-            place: *place,
-            first: copy_box(alloc, first)?,
-            others: copy_expressions(alloc, others)?,
-        }),
+        } => {
+            let (first, others) = both(copy_box(alloc, first), copy_expressions(alloc, others))?;
+            Ok(Expr::Product {
+                place: *place,
+                first,
+                others,
+            })
+        }
         Expr::Power {
             place,
             base,
             exponent,
-        } => Ok(Expr::Power {
-            place: *place,
-            base: copy_box(alloc, base)?,
-            exponent: copy_box(alloc, exponent)?,
-        }),
+        } => {
+            let (base, exponent) = both(copy_box(alloc, base), copy_box(alloc, exponent))?;
+            Ok(Expr::Power {
+                place: *place,
+                base,
+                exponent,
+            })
+        }
         Expr::Not { place, operand } => Ok(Expr::Not {
             place: *place,
             operand: copy_box(alloc, operand)?,
@@ -133,9 +155,7 @@ pub fn copy_expression(alloc: Global, tree: &Expr) -> Result<Expr, AllocError>
 fn copy_box(alloc: Global, tree: &Expr) -> Result<Box<Expr>, AllocError>
     ensures { IfOk result (λ copied. seen_expression copied.value ≡ seen_expression tree.now) }
 {
-    let copied = copy_expression(alloc, tree)?;
-    let copied = Box::new(alloc, copied)?;
-    Ok(copied)
+    boxed(alloc, copy_expression(alloc, tree))
 }
 
 /// Expressions like these, or an error where there is no memory.
@@ -145,7 +165,7 @@ pub fn copy_expressions(alloc: Global, trees: &[Expr]) -> Result<Vec<Expr>, Allo
 {
     let mut copied = Vec::new(alloc);
     for tree in trees {
-        copied.push(copy_expression(alloc, tree)?)?;
+        copied = with_next(copied, copy_expression(alloc, tree))?;
     }
     Ok(copied)
 }
@@ -170,7 +190,7 @@ fn copy_terms(alloc: Global, trees: &[SignedTerm]) -> Result<Vec<SignedTerm>, Al
 {
     let mut copied = Vec::new(alloc);
     for tree in trees {
-        copied.push(copy_term(alloc, tree)?)?;
+        copied = with_next(copied, copy_term(alloc, tree))?;
     }
     Ok(copied)
 }
@@ -181,11 +201,13 @@ fn copy_terms(alloc: Global, trees: &[SignedTerm]) -> Result<Vec<SignedTerm>, Al
 pub fn copy_reference(alloc: Global, tree: &Reference) -> Result<Reference, AllocError>
     ensures { IfOk result (λ copied. seen_reference copied ≡ seen_reference tree.now) }
 {
+    let further = copy_names(alloc, &tree.further);
+    let (further, subscript) = both(further, copy_subscript(alloc, &tree.subscript))?;
     Ok(Reference {
         place: tree.place,
         name: tree.name,
-        further: copy_names(alloc, &tree.further)?,
-        subscript: copy_subscript(alloc, &tree.subscript)?,
+        further,
+        subscript,
     })
 }
 
@@ -195,7 +217,7 @@ pub fn copy_references(alloc: Global, trees: &[Reference]) -> Result<Vec<Referen
 {
     let mut copied = Vec::new(alloc);
     for tree in trees {
-        copied.push(copy_reference(alloc, tree)?)?;
+        copied = with_next(copied, copy_reference(alloc, tree))?;
     }
     Ok(copied)
 }
@@ -206,7 +228,7 @@ pub fn copy_optional(alloc: Global, tree: &Option<Expr>) -> Result<Option<Expr>,
 {
     match tree {
         None => Ok(None),
-        Some(tree) => Ok(Some(copy_expression(alloc, tree)?)),
+        Some(tree) => copy_expression(alloc, tree).map(Some),
     }
 }
 
@@ -232,12 +254,16 @@ fn copy_subscript(alloc: Global, tree: &Subscript) -> Result<Subscript, AllocErr
             copies,
             arrays,
             components,
-        } => Ok(Subscript::Parts {
-            place: *place,
-            copies: copy_subs(alloc, copies)?,
-            arrays: copy_subs(alloc, arrays)?,
-            components: copy_subs(alloc, components)?,
-        }),
+        } => {
+            let first = both(copy_subs(alloc, copies), copy_subs(alloc, arrays));
+            let ((copies, arrays), components) = both(first, copy_subs(alloc, components))?;
+            Ok(Subscript::Parts {
+                place: *place,
+                copies,
+                arrays,
+                components,
+            })
+        }
     }
 }
 
@@ -248,7 +274,7 @@ fn copy_subs(alloc: Global, trees: &[Sub]) -> Result<Vec<Sub>, AllocError>
 {
     let mut copied = Vec::new(alloc);
     for tree in trees {
-        copied.push(copy_sub(alloc, tree)?)?;
+        copied = with_next(copied, copy_sub(alloc, tree))?;
     }
     Ok(copied)
 }
@@ -264,14 +290,14 @@ fn copy_sub(alloc: Global, tree: &Sub) -> Result<Sub, AllocError>
         Sub::One { position } => Ok(Sub::One {
             position: copy_position(alloc, position)?,
         }),
-        Sub::Range { first, last } => Ok(Sub::Range {
-            first: copy_position(alloc, first)?,
-            last: copy_position(alloc, last)?,
-        }),
-        Sub::Portion { count, first } => Ok(Sub::Portion {
-            count: copy_expression(alloc, count)?,
-            first: copy_position(alloc, first)?,
-        }),
+        Sub::Range { first, last } => {
+            let (first, last) = both(copy_position(alloc, first), copy_position(alloc, last))?;
+            Ok(Sub::Range { first, last })
+        }
+        Sub::Portion { count, first } => {
+            let (count, first) = both(copy_expression(alloc, count), copy_position(alloc, first))?;
+            Ok(Sub::Portion { count, first })
+        }
     }
 }
 

@@ -3,7 +3,7 @@
 
 mod declarations;
 mod expressions;
-mod pair;
+mod parts;
 mod simple_statements;
 mod statement_parts;
 mod statements;

@@ -8,7 +8,7 @@ ghost use Rattle.hal_tree.specs.SeenExpressions.{seen_expression, seen_reference
 ghost use Rattle.hal_tree.specs.SeenStatements.{seen_basic};
 
 use crate::expressions::{copy_expression, copy_expressions, copy_references};
-use crate::pair::both;
+use crate::parts::both;
 use hal_base::Place;
 use hal_tree::{Basic, Expr, Identifier, Reference};
 use std::alloc::{AllocError, Global};
@@ -23,7 +23,7 @@ pub(crate) fn copy_assignment(
 ) -> Result<Basic, AllocError>
     ensures { IfOk result (λ copied. seen_basic copied ≡ Assignment place (map seen_reference receivers.now) (seen_expression value.now)) }
 {
-    let receivers = copy_references(alloc, receivers)?;
+    let receivers = copy_references(alloc, receivers);
     let (receivers, value) = both(receivers, copy_expression(alloc, value))?;
     Ok(Basic::Assignment {
         place,
@@ -43,7 +43,7 @@ pub(crate) fn copy_call(
 ) -> Result<Basic, AllocError>
     ensures { IfOk result (λ copied. seen_basic copied ≡ Call place (seen_name name) (expressions (map seen_expression arguments.now)) (map seen_reference receivers.now)) }
 {
-    let arguments = copy_expressions(alloc, arguments)?;
+    let arguments = copy_expressions(alloc, arguments);
     let (arguments, receivers) = both(arguments, copy_references(alloc, receivers))?;
     Ok(Basic::Call {
         place,
@@ -63,7 +63,7 @@ pub(crate) fn copy_read(
 ) -> Result<Basic, AllocError>
     ensures { IfOk result (λ copied. seen_basic copied ≡ Read place (seen_expression channel.now) (map seen_reference receivers.now)) }
 {
-    let channel = copy_expression(alloc, channel)?;
+    let channel = copy_expression(alloc, channel);
     let (channel, receivers) = both(channel, copy_references(alloc, receivers))?;
     Ok(Basic::Read {
         place,
@@ -82,7 +82,7 @@ pub(crate) fn copy_write(
 ) -> Result<Basic, AllocError>
     ensures { IfOk result (λ copied. seen_basic copied ≡ Write place (seen_expression channel.now) (expressions (map seen_expression items.now))) }
 {
-    let channel = copy_expression(alloc, channel)?;
+    let channel = copy_expression(alloc, channel);
     let (channel, items) = both(channel, copy_expressions(alloc, items))?;
     Ok(Basic::Write {
         place,

@@ -5,7 +5,7 @@ ghost use Rattle.std.specs.Option.{option_map};
 ghost use Rattle.hal_tree.specs.SeenStatements.{seen_cycle, seen_guard, seen_schedule, seen_span, seen_start};
 
 use crate::expressions::{copy_expression, copy_expressions, copy_optional};
-use crate::pair::both;
+use crate::parts::both;
 use hal_tree::{Cycle, Guard, Schedule, Span, Start};
 use std::alloc::{AllocError, Global};
 
@@ -35,7 +35,7 @@ pub(crate) fn copy_optional_guard(
 {
     match tree {
         None => Ok(None),
-        Some(tree) => Ok(Some(copy_guard(alloc, tree)?)),
+        Some(tree) => copy_guard(alloc, tree).map(Some),
     }
 }
 
@@ -46,8 +46,7 @@ pub(crate) fn copy_span(alloc: Global, tree: &Span) -> Result<Span, AllocError>
 {
     match tree {
         Span::Range { first, last, step } => {
-            let first = copy_expression(alloc, first)?;
-            let ends = both(first, copy_expression(alloc, last))?;
+            let ends = both(copy_expression(alloc, first), copy_expression(alloc, last));
             let ((first, last), step) = both(ends, copy_optional(alloc, step))?;
             Ok(Span::Range { first, last, step })
         }
@@ -84,7 +83,7 @@ fn copy_optional_start(alloc: Global, tree: &Option<Start>) -> Result<Option<Sta
 {
     match tree {
         None => Ok(None),
-        Some(tree) => Ok(Some(copy_start(alloc, tree)?)),
+        Some(tree) => copy_start(alloc, tree).map(Some),
     }
 }
 
@@ -112,7 +111,7 @@ fn copy_optional_cycle(alloc: Global, tree: &Option<Cycle>) -> Result<Option<Cyc
 {
     match tree {
         None => Ok(None),
-        Some(tree) => Ok(Some(copy_cycle(alloc, tree)?)),
+        Some(tree) => copy_cycle(alloc, tree).map(Some),
     }
 }
 
@@ -121,11 +120,11 @@ fn copy_optional_cycle(alloc: Global, tree: &Option<Cycle>) -> Result<Option<Cyc
 pub(crate) fn copy_schedule(alloc: Global, tree: &Schedule) -> Result<Schedule, AllocError>
     ensures { IfOk result (λ copied. seen_schedule copied ≡ seen_schedule tree.now) }
 {
-    let start = copy_optional_start(alloc, &tree.start)?;
-    let parts = both(start, copy_optional(alloc, &tree.priority))?;
-    let parts = both(parts, copy_optional_cycle(alloc, &tree.cycle))?;
-    let (parts, guard) = both(parts, copy_optional_guard(alloc, &tree.guard))?;
-    let ((start, priority), cycle) = parts;
+    let start = copy_optional_start(alloc, &tree.start);
+    let begins = both(start, copy_optional(alloc, &tree.priority));
+    let cycle = copy_optional_cycle(alloc, &tree.cycle);
+    let goes_on = both(cycle, copy_optional_guard(alloc, &tree.guard));
+    let ((start, priority), (cycle, guard)) = both(begins, goes_on)?;
     Ok(Schedule {
         name: tree.name,
         start,

@@ -7,7 +7,7 @@ ghost use Rattle.hal_tree.specs.SeenLeaves.{seen_name};
 ghost use Rattle.hal_tree.specs.SeenStatements.{seen_alternative, seen_basic, seen_group, seen_guard, seen_span, seen_statement};
 
 use crate::expressions::{copy_expression, copy_names, copy_optional};
-use crate::pair::both;
+use crate::parts::{both, boxed, with_next};
 use crate::simple_statements::{copy_assignment, copy_call, copy_read, copy_write};
 use crate::statement_parts::{copy_guard, copy_optional_guard, copy_schedule, copy_span};
 use hal_base::Place;
@@ -20,7 +20,7 @@ use std::alloc::{AllocError, Global};
 pub fn copy_statement(alloc: Global, tree: &Statement) -> Result<Statement, AllocError>
     ensures { IfOk result (λ copied. seen_statement copied ≡ seen_statement tree.now) }
 {
-    let labels = copy_names(alloc, &tree.labels)?;
+    let labels = copy_names(alloc, &tree.labels);
     let (labels, basic) = both(labels, copy_basic(alloc, &tree.basic))?;
     Ok(Statement { labels, basic })
 }
@@ -32,7 +32,7 @@ pub fn copy_statements(alloc: Global, trees: &[Statement]) -> Result<Vec<Stateme
 {
     let mut copied = Vec::new(alloc);
     for tree in trees {
-        copied.push(copy_statement(alloc, tree)?)?;
+        copied = with_next(copied, copy_statement(alloc, tree))?;
     }
     Ok(copied)
 }
@@ -42,9 +42,7 @@ pub fn copy_statements(alloc: Global, trees: &[Statement]) -> Result<Vec<Stateme
 fn copy_box(alloc: Global, tree: &Statement) -> Result<Box<Statement>, AllocError>
     ensures { IfOk result (λ copied. seen_statement copied.value ≡ seen_statement tree.now) }
 {
-    let copied = copy_statement(alloc, tree)?;
-    let copied = Box::new(alloc, copied)?;
-    Ok(copied)
+    boxed(alloc, copy_statement(alloc, tree))
 }
 
 /// What stands after ELSE, where there is a statement.
@@ -57,7 +55,7 @@ fn copy_alternative(
 {
     match tree {
         None => Ok(None),
-        Some(tree) => Ok(Some(copy_box(alloc, tree)?)),
+        Some(tree) => copy_box(alloc, tree).map(Some),
     }
 }
 
@@ -87,9 +85,8 @@ fn copy_loop(
 ) -> Result<Basic, AllocError>
     ensures { IfOk result (λ copied. seen_basic copied ≡ DoFor place temporary (seen_name variable) (seen_span span.now) (option_map seen_guard guard.now) (seen_group group.now)) }
 {
-    let span = copy_span(alloc, span)?;
-    let parts = both(span, copy_optional_guard(alloc, guard))?;
-    let ((span, guard), group) = both(parts, copy_group(alloc, group))?;
+    let values = both(copy_span(alloc, span), copy_optional_guard(alloc, guard));
+    let ((span, guard), group) = both(values, copy_group(alloc, group))?;
     Ok(Basic::DoFor {
         place,
         temporary,
@@ -119,10 +116,10 @@ fn copy_basic(alloc: Global, tree: &Basic) -> Result<Basic, AllocError>
             consequence,
             alternative,
         } => {
-            let condition = copy_expression(alloc, condition)?;
-            let parts = both(condition, copy_box(alloc, consequence))?;
-            let (parts, alternative) = both(parts, copy_alternative(alloc, alternative))?;
-            let (condition, consequence) = parts;
+            let consequence = copy_box(alloc, consequence);
+            let branches = both(consequence, copy_alternative(alloc, alternative));
+            let parts = both(copy_expression(alloc, condition), branches)?;
+            let (condition, (consequence, alternative)) = parts;
             Ok(Basic::If {
                 place: *place,
                 condition,
@@ -140,9 +137,9 @@ fn copy_basic(alloc: Global, tree: &Basic) -> Result<Basic, AllocError>
             alternative,
             group,
         } => {
-            let selector = copy_expression(alloc, selector)?;
-            let parts = both(selector, copy_alternative(alloc, alternative))?;
-            let ((selector, alternative), group) = both(parts, copy_group(alloc, group))?;
+            let selector = copy_expression(alloc, selector);
+            let first = both(selector, copy_alternative(alloc, alternative));
+            let ((selector, alternative), group) = both(first, copy_group(alloc, group))?;
             Ok(Basic::DoCase {
                 place: *place,
                 selector,
@@ -155,8 +152,7 @@ fn copy_basic(alloc: Global, tree: &Basic) -> Result<Basic, AllocError>
             guard,
             group,
         } => {
-            let guard = copy_guard(alloc, guard)?;
-            let (guard, group) = both(guard, copy_group(alloc, group))?;
+            let (guard, group) = both(copy_guard(alloc, guard), copy_group(alloc, group))?;
             Ok(Basic::DoLoop {
                 place: *place,
                 guard,

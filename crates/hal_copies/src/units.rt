@@ -5,7 +5,7 @@ ghost use Rattle.hal_tree.specs.SeenUnits.{seen_element, seen_file, seen_head, s
 
 use crate::declarations::{copy_declarations, copy_type};
 use crate::expressions::copy_names;
-use crate::pair::both;
+use crate::parts::{both, with_next};
 use crate::statements::copy_statement;
 use hal_tree::{Element, File, Head, Preface, Returns, Template, Unit};
 use std::alloc::{AllocError, Global};
@@ -39,7 +39,7 @@ pub fn copy_head(alloc: Global, tree: &Head) -> Result<Head, AllocError>
             outputs,
             mode,
         } => {
-            let inputs = copy_names(alloc, inputs)?;
+            let inputs = copy_names(alloc, inputs);
             let (inputs, outputs) = both(inputs, copy_names(alloc, outputs))?;
             Ok(Head::Procedure {
                 place: *place,
@@ -54,7 +54,7 @@ pub fn copy_head(alloc: Global, tree: &Head) -> Result<Head, AllocError>
             returns,
             mode,
         } => {
-            let inputs = copy_names(alloc, inputs)?;
+            let inputs = copy_names(alloc, inputs);
             let (inputs, returns) = both(inputs, copy_returns(alloc, returns))?;
             Ok(Head::Function {
                 place: *place,
@@ -72,9 +72,9 @@ pub fn copy_head(alloc: Global, tree: &Head) -> Result<Head, AllocError>
 pub fn copy_unit(alloc: Global, tree: &Unit) -> Result<Unit, AllocError>
     ensures { IfOk result (λ copied. seen_unit copied ≡ seen_unit tree.now) }
 {
-    let head = copy_head(alloc, &tree.head)?;
-    let parts = both(head, copy_declarations(alloc, &tree.declarations))?;
-    let ((head, declarations), elements) = both(parts, copy_elements(alloc, &tree.elements))?;
+    let head = copy_head(alloc, &tree.head);
+    let front = both(head, copy_declarations(alloc, &tree.declarations));
+    let ((head, declarations), elements) = both(front, copy_elements(alloc, &tree.elements))?;
     Ok(Unit {
         name: tree.name,
         head,
@@ -91,7 +91,7 @@ fn copy_elements(alloc: Global, trees: &[Element]) -> Result<Vec<Element>, Alloc
 {
     let mut copied = Vec::new(alloc);
     for tree in trees {
-        copied.push(copy_element(alloc, tree)?)?;
+        copied = with_next(copied, copy_element(alloc, tree))?;
     }
     Ok(copied)
 }
@@ -113,7 +113,7 @@ fn copy_element(alloc: Global, tree: &Element) -> Result<Element, AllocError>
 pub fn copy_template(alloc: Global, tree: &Template) -> Result<Template, AllocError>
     ensures { IfOk result (λ copied. seen_template copied ≡ seen_template tree.now) }
 {
-    let head = copy_head(alloc, &tree.head)?;
+    let head = copy_head(alloc, &tree.head);
     let (head, declarations) = both(head, copy_declarations(alloc, &tree.declarations))?;
     Ok(Template {
         name: tree.name,
@@ -143,7 +143,7 @@ fn copy_prefaces(alloc: Global, trees: &[Preface]) -> Result<Vec<Preface>, Alloc
 {
     let mut copied = Vec::new(alloc);
     for tree in trees {
-        copied.push(copy_preface(alloc, tree)?)?;
+        copied = with_next(copied, copy_preface(alloc, tree))?;
     }
     Ok(copied)
 }
@@ -153,8 +153,7 @@ fn copy_prefaces(alloc: Global, trees: &[Preface]) -> Result<Vec<Preface>, Alloc
 pub fn copy_file(alloc: Global, file: &File) -> Result<File, AllocError>
     ensures { IfOk result (λ copied. seen_file copied ≡ seen_file file.now) }
 {
-    Ok(File {
-        prefaces: copy_prefaces(alloc, &file.prefaces)?,
-        unit: copy_unit(alloc, &file.unit)?,
-    })
+    let prefaces = copy_prefaces(alloc, &file.prefaces);
+    let (prefaces, unit) = both(prefaces, copy_unit(alloc, &file.unit))?;
+    Ok(File { prefaces, unit })
 }
