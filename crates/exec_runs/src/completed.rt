@@ -3,10 +3,10 @@
 use crate::loads::load;
 use crate::played::{has_made, has_stored};
 use crate::row_loads::HELD;
-use exec_model::{Event, Plain};
+use exec_model::Event;
 use exec_rows::ScriptedProcs;
 use hal_script::read_script;
-use script_run::run_script;
+use script_run::played;
 use std::alloc::{AllocError, Global};
 
 /// P makes its four events, and D begins and opens its block.
@@ -30,8 +30,7 @@ pub(crate) fn is_completed(alloc: Global) -> Result<bool, AllocError> {
         return Ok(false);
     }
     let procs = ScriptedProcs::start(alloc, load)?;
-    let mut plain = Plain::start(alloc, procs, &script, 1)?;
-    run_script(&mut plain, &script)?;
+    let plain = played(alloc, procs, &script)?;
     let made = has_made(alloc, &plain, &JOURNAL)?;
     let stored = has_stored(alloc, &plain, &[2])?;
     Ok(made && stored)

@@ -1,8 +1,6 @@
 -- With one lane the open UPDATE blocks are done in the order of the Ready rows.
-use Rattle.std.proofs.Common.{◌≡◌, ◌≢◌, ℕ, ◌+◌, ◌<◌, ◌≤◌, inl, inr, Bool, true, false, List, [], ◌∷◌, ◌++◌, length, filter, refl, sym, ◌∙◌, ap, subst, append_assoc, append-nil, length-append, arith}
+use Rattle.std.proofs.Common.{◌≡◌, ◌≢◌, ℕ, ◌+◌, ◌<◌, ◌≤◌, inl, inr, true, false, List, [], ◌∷◌, ◌++◌, length, refl, sym, ◌∙◌, ap, subst, append_assoc, append-nil, length-append, arith}
 use Rattle.std.proofs.lemmas.Bool.{cases_eq, cases_Bool, true≢false}
-use Rattle.hal_values.specs.declared.request.Request.{Request}
-use Rattle.hal_values.specs.declared.request.Request.TheVariants.{Begin}
 use Rattle.hal_values.specs.Loads.{Meaning, IsLoad, IsUpdate}
 use Rattle.hal_values.specs.Requests.{HasProcess}
 use Rattle.exec_model.specs.declared.event.Event.{Event}
@@ -13,14 +11,13 @@ use Rattle.exec_model.specs.Order.{goes_before, first, IsInFirst}
 use Rattle.exec_model.specs.Rows.{row_in, is_ready}
 use Rattle.exec_model.specs.Runs.{IsOfProcess, IsQuiet, Completes, open_blocks}
 use Rattle.exec_model.specs.Sound.{IsSound}
-use Rattle.exec_model.specs.Steps.{CanBlock, IsAllowed, IsStep, request_of, stepped}
+use Rattle.exec_model.specs.Steps.{CanBlock, IsAllowed, IsStep, stepped}
 use Rattle.exec_model.proofs.OneLane.{first-alone, inside-exists, inside-ready}
 use Rattle.exec_model.proofs.OneRun.{IsQuiet-unready}
 use Rattle.exec_model.proofs.Ordering.{first-ahead, first-few, first-finds, first-sorted, goes_before-irreflexive, goes_before-transitive}
 use Rattle.exec_model.proofs.SoundEvents.{stepped-sound}
 use Rattle.script_run.specs.Running.{IsClosed, RunsBlocks}
 use Rattle.script_run.proofs.OpenRows.{IsOpen, block-inside, block-left, block-open}
-use Rattle.script_run.proofs.Running.{KeepsClock-of_process}
 use Rattle.script_run.proofs.Sorting.{GoesFirst-Has, Has, Has-at, Has-filter, Has-filtered, IsSorted, IsSorted-filter, IsSorted-from, length-filtered, place_of-few}
 
 -- a process whose row is inside a block has begun a cycle

@@ -1,12 +1,11 @@
 -- Which rows are inside UPDATE blocks, after rows have settled and after a block is done.
-use Rattle.std.proofs.Common.{◌≡◌, ◌≢◌, ℕ, ◌<◌, Bool, true, false, not, ◌&&◌, inl, inr, List, length, slice_set, Option, Some, None, IsSome, refl, sym, ◌∙◌, ap, subst}
-use Rattle.std.proofs.lemmas.Bool.{and_parts, cases_eq, cases_Bool, cond_both, true≢false}
+use Rattle.std.proofs.Common.{◌≡◌, ◌≢◌, ℕ, ◌<◌, true, false, not, ◌&&◌, inl, inr, List, length, slice_set, Option, Some, None, IsSome, refl, sym, ◌∙◌, ap, subst}
+use Rattle.std.proofs.lemmas.Bool.{and_parts, cases_eq, cond_both, true≢false}
 use Rattle.std.proofs.lemmas.List.{get_or-set_same, get_or-set_other}
-use Rattle.hal_values.specs.declared.request.Request.{Request}
 use Rattle.hal_values.specs.declared.tables.Tables.{Tables}
 use Rattle.hal_values.specs.declared.value.Value.{Value}
 use Rattle.hal_values.specs.Answers.{Block}
-use Rattle.hal_values.specs.Loads.{Meaning, IsUpdate}
+use Rattle.hal_values.specs.Loads.{Meaning}
 use Rattle.exec_model.specs.declared.change.Change.{Change}
 use Rattle.exec_model.specs.declared.change.Change.TheVariants.{Cancels, Drops, Leaves, Readies}
 use Rattle.exec_model.specs.declared.event.Event.TheVariants as event

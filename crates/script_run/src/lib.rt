@@ -7,5 +7,4 @@ mod performed;
 mod run;
 
 pub use owners::Owners;
-pub use performed::{Performed, play};
-pub use run::run_script;
+pub use performed::{Performed, play, played};

@@ -31,8 +31,13 @@ fn copied(alloc: Global, events: &[Event]) -> Result<Journal, AllocError>
     Ok(journal)
 }
 
-/// The plain executive of these processes after a run of the script on one lane.
-fn played<P: Procs + Drop>(alloc: Global, procs: P, script: &Script) -> Result<Plain<P>, AllocError>
+/// The plain executive of these processes after a run of the script on one lane. UPDATE blocks that are
+/// open after the last line are done.
+pub fn played<P: Procs + Drop>(
+    alloc: Global,
+    procs: P,
+    script: &Script,
+) -> Result<Plain<P>, AllocError>
     requires { P.answers procs ≡ replicate (process_count (P.Of.tables (P.load procs))) [] }
     ensures run { IfOk result (λ plain. IsRunTo (meaning_of P.Of.tables P.Of.next P.Of.block P.Of.own (P.load procs)) script.now 1 plain.journal (running_moment P.answers plain)) }
     ensures load { IfOk result (λ plain. P.load plain.procs ≡ P.load procs) }

@@ -161,7 +161,10 @@ fn complete_blocks<P: Procs + Drop>(plain: &mut Plain<P>) -> Result<(), AllocErr
 }
 
 /// Runs a script to its end on one lane.
-pub fn run_script<P: Procs + Drop>(plain: &mut Plain<P>, script: &Script) -> Result<(), AllocError>
+pub(crate) fn run_script<P: Procs + Drop>(
+    plain: &mut Plain<P>,
+    script: &Script,
+) -> Result<(), AllocError>
     requires fresh { plain.old.journal ≡ [] }
     requires opening { running_moment P.answers plain.old ≡ opening (P.Of.tables (P.load plain.old.procs)) script.now }
     requires one_lane { plain.old.lanes ≡ 1 }

@@ -1,4 +1,4 @@
-use Rattle.std.proofs.Common.{◌≡◌, length, refl, sym, subst, ap, ◌∙◌, arith, true≢false}
+use Rattle.std.proofs.Common.{length, refl, sym, subst, ap, ◌∙◌, arith, true≢false}
 use Rattle.hal_values.specs.Loads.{meaning_of}
 use Rattle.exec_model.specs.declared.state.State.{State}
 use Rattle.exec_model.specs.Running.{running_moment}

@@ -1,4 +1,4 @@
-use Rattle.std.proofs.Common.{arith, true≢false, sym, ◌∙◌}
+use Rattle.std.proofs.Common.{arith}
 use Rattle.script_run.proofs.Completing.{IsClosed-from}
 use Rattle.script_run.proofs.run.has_no_open_block.Goals as goal
 
