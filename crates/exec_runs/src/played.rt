@@ -67,7 +67,7 @@ fn numbers(alloc: Global, numbers: &[i32]) -> Result<Vec<Value>, AllocError> {
 }
 
 /// The events are these, each so many times.
-pub(crate) fn has_made(
+fn has_made(
     alloc: Global,
     plain: &Plain<ScriptedProcs>,
     journal: &[(Event, u32)],
@@ -83,7 +83,7 @@ fn has_told(plain: &Plain<ScriptedProcs>, output: &str, ends: &[End]) -> bool {
 }
 
 /// The shared cells hold these numbers.
-pub(crate) fn has_stored(
+fn has_stored(
     alloc: Global,
     plain: &Plain<ScriptedProcs>,
     store: &[i32],
