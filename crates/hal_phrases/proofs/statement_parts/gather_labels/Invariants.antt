@@ -1,0 +1,10 @@
+use Rattle.std.proofs.Common.{◌≡◌, map, drop}
+use Rattle.hal_tree.specs.SeenLeaves.{seen_name}
+use Rattle.hal_phrases.specs.SeenPhrases.{seen_phrase}
+use Rattle.hal_phrases.specs.Phrases.{gathered_each}
+use Rattle.hal_phrases.specs.GatheredStatements.{gathered_label}
+use Rattle.hal_phrases.proofs.statement_parts.gather_labels.Given as goal
+
+abbrev pub invariant-loop-name : goal.invariant-loop-name
+invariant-loop-name l =
+    gathered_each (gathered_label l.around) (map seen_phrase l.into.items) (map seen_name (drop l.name-index l.labels)) ≡ gathered_each (gathered_label l.around) (map seen_phrase l.fn.into.items) (map seen_name l.labels)

@@ -1,0 +1,10 @@
+use Rattle.std.proofs.Common.{◌≡◌, map, drop}
+use Rattle.hal_tree.specs.SeenLeaves.{seen_name}
+use Rattle.hal_phrases.specs.SeenPhrases.{seen_phrase}
+use Rattle.hal_phrases.specs.Phrases.{gathered_each}
+use Rattle.hal_phrases.specs.GatheredUnits.{gathered_parameter}
+use Rattle.hal_phrases.proofs.units.gather_parameters.Given as goal
+
+abbrev pub invariant-loop-name : goal.invariant-loop-name
+invariant-loop-name l =
+    gathered_each (gathered_parameter l.around l.output) (map seen_phrase l.into.items) (map seen_name (drop l.name-index l.names)) ≡ gathered_each (gathered_parameter l.around l.output) (map seen_phrase l.fn.into.items) (map seen_name l.names)

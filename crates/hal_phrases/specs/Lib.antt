@@ -1,0 +1,9 @@
+pub mod Surroundings
+pub mod Roles
+pub mod Phrases
+pub mod GatheredExpressions
+pub mod GatheredDeclarations
+pub mod GatheredStatements
+pub mod GatheredUnits
+pub mod Members
+pub mod SeenPhrases
