@@ -1,0 +1,3 @@
+pub mod NameEquality
+pub mod KeyEquality
+pub mod Indexed

@@ -1,0 +1,4 @@
+pub mod Keys
+pub mod Means
+pub mod Index
+pub mod SeenNames

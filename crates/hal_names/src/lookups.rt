@@ -1,0 +1,54 @@
+//! How names are looked up.
+
+ghost use Rattle.std.specs.Prelude.{◌≡◌, map, IfOk, slice_get};
+ghost use Rattle.std.specs.Option.{option_map};
+ghost use Rattle.hal_phrases.specs.SeenPhrases.{seen_phrase};
+ghost use Rattle.hal_names.specs.Keys.{own};
+ghost use Rattle.hal_names.specs.Means.{means};
+ghost use Rattle.hal_names.specs.SeenNames.{seen_names};
+
+use crate::index::{index_of, number_of};
+use crate::key::Key;
+use crate::means::nearest;
+use crate::names::Names;
+use hal_phrases::Phrase;
+use hal_words::Name;
+use std::alloc::{AllocError, Global};
+
+impl<'a> Names<'a> {
+    /// The names of these phrases.
+    pub fn of(alloc: Global, phrases: Vec<Phrase<'a>>) -> Result<Names<'a>, AllocError>
+        ensures { IfOk result (λ names. seen_names names ≡ map seen_phrase phrases.entry.items) }
+    {
+        let index = index_of(alloc, phrases.as_slice())?;
+        Ok(Names { phrases, index })
+    }
+
+    /// The phrases.
+    pub fn phrases(&self) -> &[Phrase<'a>]
+        ensures { map seen_phrase result.now ≡ seen_names self.now }
+    {
+        self.phrases.as_slice()
+    }
+
+    /// The phrase with this number.
+    pub fn phrase(&self, number: usize) -> Option<Phrase<'a>>
+        ensures { option_map seen_phrase result ≡ slice_get (seen_names self.now) number }
+    {
+        self.phrases.get(number).copied()
+    }
+
+    /// The number of the first phrase that declares the key.
+    pub fn own(&self, key: &Key) -> Option<usize>
+        ensures { result ≡ own (seen_names self.now) key.now }
+    {
+        number_of(&self.index, key)
+    }
+
+    /// The number of the phrase that declares what the name means in the block with this number (language document, Names).
+    pub fn means(&self, block: usize, name: &Name) -> Option<usize>
+        ensures { result ≡ means (seen_names self.now) block name.now }
+    {
+        nearest(self, self.phrases.len(), block, name)
+    }
+}

@@ -1,0 +1,17 @@
+//! The names of a set of files.
+
+ghost use Rattle.std.specs.Prelude.{map};
+ghost use Rattle.hal_phrases.specs.SeenPhrases.{seen_phrase};
+ghost use Rattle.hal_names.specs.Index.{IsIndex};
+
+use crate::key::Key;
+use hal_phrases::Phrase;
+use indexmap::IndexMap;
+
+/// The phrases of a set of files, and which of them declares each name. A contract sees the list of the phrases.
+#[derive(Drop)]
+pub struct Names<'a> {
+    pub(crate) phrases: Vec<Phrase<'a>>,
+    pub(crate) index: IndexMap<Key, usize>,
+    ghost indexed: { IsIndex index.entries (map seen_phrase phrases.items) },
+}
