@@ -66,7 +66,7 @@ fn numbers(alloc: Global, numbers: &[i32]) -> Result<Vec<Value>, AllocError> {
 }
 
 /// The events are these, each so many times.
-fn has_made<P: Procs + Drop>(
+pub(crate) fn has_made<P: Procs + Drop>(
     alloc: Global,
     plain: &Plain<P>,
     journal: &[(Event, u32)],
@@ -82,7 +82,7 @@ fn has_told<P: Procs + Drop>(plain: &Plain<P>, output: &str, ends: &[End]) -> bo
 }
 
 /// The shared cells hold these numbers.
-fn has_stored<P: Procs + Drop>(
+pub(crate) fn has_stored<P: Procs + Drop>(
     alloc: Global,
     plain: &Plain<P>,
     store: &[i32],
