@@ -1,5 +1,5 @@
 /// What may become of a row by itself, in the order in which it is tried.
-#[derive(Clone, Copy, Debug, PartialEq, Eq)]
+#[derive(Clone, Copy)]
 pub enum Change {
     /// Its guard asks for a cancel.
     Cancels,

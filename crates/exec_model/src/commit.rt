@@ -107,9 +107,10 @@ pub(crate) fn commit<P: Procs>(
     put_all(&mut state.store, parts.writes.as_slice());
     take_all(alloc, &mut state.input, parts.taken.as_slice());
     state.clock = parts.clock;
-    state.rows = Listing::new(parts.rows);
-    state.events = Listing::new(parts.events);
     state.stamp = parts.stamp;
+    let (rows, events) = parts.into_rows();
+    state.rows = Listing::new(rows);
+    state.events = Listing::new(events);
     Ok(())
 }
 

@@ -11,7 +11,6 @@ use std::marker::Model;
 use std::snapshot::Snapshot;
 
 /// What a step changes: the rows and events as they are to be, and what is to be added to the rest.
-#[derive(Drop)]
 pub(crate) struct Parts {
     pub(crate) clock: u64,
     pub(crate) rows: Vec<Row>,
@@ -26,10 +25,50 @@ pub(crate) struct Parts {
     pub(crate) taken: Vec<u8>,
 }
 
+impl Drop for Parts {
+    fn drop(self) {
+        let Parts {
+            clock: _,
+            rows: _rows,
+            events: _events,
+            stamp: _,
+            closes: _,
+            told: _told,
+            ends: _ends,
+            line: _line,
+            writes: _writes,
+            taken: _taken,
+        } = self;
+    }
+}
+
+impl Parts {
+    ghost use Rattle.std.specs.Prelude.{◌≡◌};
+
+    /// The rows and the events, when the rest is done with.
+    pub(crate) fn into_rows(self) -> (Vec<Row>, Vec<bool>)
+        ensures rows { result.0 ≡ self.rows }
+        ensures events { result.1 ≡ self.events }
+    {
+        let Parts {
+            clock: _,
+            rows,
+            events,
+            stamp: _,
+            closes: _,
+            told: _told,
+            ends: _ends,
+            line: _line,
+            writes: _writes,
+            taken: _taken,
+        } = self;
+        (rows, events)
+    }
+}
+
 /// A step in the making, over a state and processes that it leaves alone: the rows and events as they
 /// are to be, and what is to be added to the rest. Where the step can't be made, it is thrown away. A
 /// contract sees what the executive was and what it is to be.
-#[derive(Drop)]
 pub(crate) struct Draft<P: Procs> {
     alloc: Global,
     state: Snapshot<State>,
@@ -44,6 +83,27 @@ pub(crate) struct Draft<P: Procs> {
     line: Vec<u8>,
     writes: Vec<(u16, Value)>,
     taken: Vec<u8>,
+}
+
+// A draft is let go wherever a step can't be made. Written here, that is one call there.
+impl<P: Procs> Drop for Draft<P> {
+    fn drop(self) {
+        let Draft {
+            alloc: _,
+            state: _,
+            procs: _,
+            clock: _,
+            rows: _rows,
+            events: _events,
+            stamp: _,
+            closes: _,
+            told: _told,
+            ends: _ends,
+            line: _line,
+            writes: _writes,
+            taken: _taken,
+        } = self;
+    }
 }
 
 impl<P: Procs> Model for Draft<P> {
@@ -274,17 +334,32 @@ impl<P: Procs> Draft<P> {
     pub(crate) fn into_parts(self) -> Parts
         ensures { IsMadeOf self result }
     {
+        let Draft {
+            alloc: _,
+            state: _,
+            procs: _,
+            clock,
+            rows,
+            events,
+            stamp,
+            closes,
+            told,
+            ends,
+            line,
+            writes,
+            taken,
+        } = self;
         Parts {
-            clock: self.clock,
-            rows: self.rows,
-            events: self.events,
-            stamp: self.stamp,
-            closes: self.closes,
-            told: self.told,
-            ends: self.ends,
-            line: self.line,
-            writes: self.writes,
-            taken: self.taken,
+            clock,
+            rows,
+            events,
+            stamp,
+            closes,
+            told,
+            ends,
+            line,
+            writes,
+            taken,
         }
     }
 }

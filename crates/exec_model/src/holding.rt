@@ -15,7 +15,7 @@ use hal_values::{Request, Spot, Tables};
 use std::alloc::AllocError;
 
 /// The lock groups that a request touches.
-#[derive(Clone, Copy, Debug)]
+#[derive(Clone, Copy)]
 pub(crate) enum Touch {
     Nothing,
     /// Those of an UPDATE block, a bit for each.

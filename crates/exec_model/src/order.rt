@@ -9,7 +9,7 @@ use crate::rows::{process_at, row_at};
 use std::alloc::AllocError;
 
 /// A process with its row.
-#[derive(Clone, Copy, Debug)]
+#[derive(Clone, Copy)]
 struct Placed {
     process: u8,
     row: Row,

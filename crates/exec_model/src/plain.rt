@@ -21,13 +21,24 @@ use std::marker::Model;
 
 /// A slow executive that computes the definitions, over any processes. A contract sees its processes,
 /// its state, the events so far, and the number of lanes.
-#[derive(Drop)]
 pub struct Plain<P: Procs + Drop> {
     alloc: Global,
     procs: P,
     state: State,
     journal: Journal,
     lanes: u8,
+}
+
+impl<P: Procs + Drop> Drop for Plain<P> {
+    fn drop(self) {
+        let Plain {
+            alloc: _,
+            procs: _procs,
+            state: _state,
+            journal: _journal,
+            lanes: _,
+        } = self;
+    }
 }
 
 impl<P: Procs + Drop> Model for Plain<P> {

@@ -4,7 +4,7 @@ use crate::status::End;
 use hal_values::{Listing, Value};
 
 /// The executive at a moment, but for the answers, which the processes have.
-#[derive(Debug, Drop)]
+#[derive(Debug)]
 pub struct State {
     /// What the shared cells hold.
     pub store: Listing<Value>,
@@ -22,4 +22,19 @@ pub struct State {
     pub input: Listing<Listing<Datum>>,
     /// The stamp of the next process that becomes Ready.
     pub stamp: u64,
+}
+
+impl Drop for State {
+    fn drop(self) {
+        let State {
+            store: _store,
+            clock: _,
+            rows: _rows,
+            events: _events,
+            output: _output,
+            ends: _ends,
+            input: _input,
+            stamp: _,
+        } = self;
+    }
 }

@@ -1,7 +1,7 @@
 use hal_values::{ErrNo, Value};
 
 /// An answer that the executive has for a process, but for that to an UPDATE block.
-#[derive(Debug, Drop)]
+#[derive(Drop)]
 pub(crate) enum Reply {
     Begun,
     Value(Value),
@@ -11,7 +11,7 @@ pub(crate) enum Reply {
 }
 
 /// An answer for a process that it hasn't been told yet.
-#[derive(Debug, Drop)]
+#[derive(Drop)]
 pub(crate) struct Told {
     pub(crate) process: u8,
     pub(crate) reply: Reply,

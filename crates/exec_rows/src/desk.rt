@@ -19,11 +19,20 @@ impl Model for Looked {
 }
 
 /// What is kept of a process: its answers, its room for further ones, and its last look.
-#[derive(Drop)]
 pub(crate) struct Desk {
     answers: Vec<Given>,
     room: usize,
     look: Option<Looked>,
+}
+
+impl Drop for Desk {
+    fn drop(self) {
+        let Desk {
+            answers: _answers,
+            room: _,
+            look: _look,
+        } = self;
+    }
 }
 
 impl Model for Desk {

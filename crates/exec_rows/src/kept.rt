@@ -2,7 +2,7 @@ use hal_values::{ErrNo, Listing, Value};
 use std::marker::Model;
 
 /// An answer that is kept.
-#[derive(Debug, Drop)]
+#[derive(Drop)]
 pub(crate) enum Kept {
     Begun,
     Value(Value),
@@ -14,7 +14,7 @@ pub(crate) enum Kept {
 }
 
 /// An answer that a process got. A contract sees what the definitions see.
-#[derive(Debug, Drop)]
+#[derive(Drop)]
 pub(crate) struct Given {
     kept: Kept,
 }

@@ -2,7 +2,7 @@ use crate::checking::{are_right_bodies, are_right_tables};
 use hal_values::{Listing, Load, Request, Tables, Value};
 
 /// What a process of a scripted load asks in a cycle, between Begin and Finish.
-#[derive(Debug, Drop)]
+#[derive(Debug)]
 pub enum Ask {
     /// A request, but none of Begin, Update, Finish, Look and Close.
     Plain(Request),
@@ -10,13 +10,32 @@ pub enum Ask {
     Update(u16, Listing<(u16, Value)>, u16),
 }
 
+// Written here, a drop is one call where such a value is let go.
+impl Drop for Ask {
+    fn drop(self) {
+        match self {
+            Ask::Plain(_request) => {}
+            Ask::Update(_, _writes, _) => {}
+        }
+    }
+}
+
 /// A load whose processes ask what lists say, whatever they are answered: for each process its cycles
 /// in order. Further cycles ask nothing, and a process that is killed goes on with its next cycle.
 /// Where the tables or a list aren't right it is the smallest load.
-#[derive(Debug, Drop)]
+#[derive(Debug)]
 pub struct Scripted {
     pub tables: Tables,
     pub bodies: Listing<Listing<Listing<Ask>>>,
+}
+
+impl Drop for Scripted {
+    fn drop(self) {
+        let Scripted {
+            tables: _tables,
+            bodies: _bodies,
+        } = self;
+    }
 }
 
 impl Scripted {

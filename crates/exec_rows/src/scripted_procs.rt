@@ -8,11 +8,20 @@ use std::alloc::{AllocError, Global};
 use std::marker::Model;
 
 /// The processes of a scripted load.
-#[derive(Drop)]
 pub struct ScriptedProcs {
     alloc: Global,
     load: Scripted,
     desks: Vec<Desk>,
+}
+
+impl Drop for ScriptedProcs {
+    fn drop(self) {
+        let ScriptedProcs {
+            alloc: _,
+            load: _load,
+            desks: _desks,
+        } = self;
+    }
 }
 
 impl Model for ScriptedProcs {

@@ -1,7 +1,7 @@
-use crate::loads::{Step, Unit, cycle, load};
+use crate::loads::{Maker, Step, Unit};
 use crate::plays::started;
 use exec_rows::Scripted;
-use hal_values::{Cycle, EventStart, Guard, Item, Listing, Pause, Plan, ReportBase, Spot, When};
+use hal_values::{Cycle, EventStart, Guard, Item, Pause, Plan, ReportBase, Spot, When};
 use std::alloc::{AllocError, Global};
 
 const TWO: Unit = Unit {
@@ -59,17 +59,18 @@ pub(crate) const WRONG: [Step; 11] = [
     Step::Update(2, 0, 1, -32_769),
 ];
 
-/// Adds a body that asks this.
-fn push_asking(alloc: Global, load: &mut Scripted, step: Step) -> Result<(), AllocError> {
-    let mut more = Listing::empty(alloc);
-    more.push(cycle(alloc, &[Step::Now, step])?)?;
-    load.bodies.push(more)
+/// The load with one body more, which asks this.
+fn load_with(alloc: Global, step: Step) -> Result<Scripted, AllocError> {
+    let mut maker = Maker::new(alloc);
+    let mut load = maker.load(&TWO);
+    let more = maker.body(&[&[Step::Now, step]]);
+    maker.add(&mut load.bodies, more);
+    maker.made(load)
 }
 
 /// Whether the load with one body more, which asks this, is right.
 fn is_right_with(alloc: Global, step: Step) -> Result<bool, AllocError> {
-    let mut load = load(alloc, &TWO)?;
-    push_asking(alloc, &mut load, step)?;
+    let load = load_with(alloc, step)?;
     Ok(load.is_right())
 }
 

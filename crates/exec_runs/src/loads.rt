@@ -49,13 +49,6 @@ fn line(bytes: &str) -> Line {
     line
 }
 
-fn block(alloc: Global, groups: u16, cell: u16, one: i32, two: i32) -> Result<Ask, AllocError> {
-    let mut writes = Listing::empty(alloc);
-    writes.push((cell, Value::Int(one)))?;
-    writes.push((cell, Value::Int(two)))?;
-    Ok(Ask::Update(groups, writes, 0))
-}
-
 fn request(step: Step) -> Request {
     match step {
         Step::Schedule(plan) => Request::Schedule(plan),
@@ -73,112 +66,166 @@ fn request(step: Step) -> Request {
     }
 }
 
-fn ask(alloc: Global, step: Step) -> Result<Ask, AllocError> {
-    match step {
-        Step::Update(groups, cell, one, two) => block(alloc, groups, cell, one, two),
-        _ => Ok(Ask::Plain(request(step))),
-    }
-}
-
-/// A cycle that asks this.
-pub(crate) fn cycle(alloc: Global, steps: &[Step]) -> Result<Listing<Ask>, AllocError> {
-    let mut asks = Listing::empty(alloc);
-    for step in steps {
-        asks.push(ask(alloc, *step)?)?;
-    }
-    Ok(asks)
-}
-
-fn body(alloc: Global, cycles: &[&[Step]]) -> Result<Listing<Listing<Ask>>, AllocError> {
-    let mut body = Listing::empty(alloc);
-    for steps in cycles {
-        body.push(cycle(alloc, steps)?)?;
-    }
-    Ok(body)
-}
-
-fn bodies(
+/// Makes loads. Where memory is wanting it notes that and goes on, and there is no load in the end: so what makes a part has nothing to ask after
+/// each item.
+#[derive(Drop)]
+pub(crate) struct Maker {
     alloc: Global,
-    given: &[&[&[Step]]],
-) -> Result<Listing<Listing<Listing<Ask>>>, AllocError> {
-    let mut bodies = Listing::empty(alloc);
-    for cycles in given {
-        bodies.push(body(alloc, cycles)?)?;
+    is_cut: bool,
+}
+
+impl Maker {
+    /// Nothing was wanting so far.
+    pub(crate) fn new(alloc: Global) -> Maker {
+        Maker {
+            alloc,
+            is_cut: false,
+        }
     }
-    Ok(bodies)
-}
 
-/// Integers of 16 bits in these lock groups.
-fn cells(alloc: Global, groups: &[u8]) -> Result<Listing<Cell>, AllocError> {
-    let mut cells = Listing::empty(alloc);
-    for group in groups {
-        cells.push(Cell {
-            kind: Kind::Single,
-            group: *group,
-            initial: Value::Int(0),
-        })?;
+    /// What was made, or an error where memory was wanting.
+    pub(crate) fn made(self, load: Scripted) -> Result<Scripted, AllocError> {
+        if self.is_cut {
+            return Err(AllocError);
+        }
+        Ok(load)
     }
-    Ok(cells)
-}
 
-fn processes(alloc: Global, names: &[&str]) -> Result<Listing<Text>, AllocError> {
-    let mut processes = Listing::empty(alloc);
-    for name in names {
-        processes.push(text(name))?;
+    /// Adds an item.
+    pub(crate) fn add<T: Drop>(&mut self, list: &mut Listing<T>, item: T) {
+        if list.push(item).is_err() {
+            self.is_cut = true;
+        }
     }
-    Ok(processes)
-}
 
-fn expressions(alloc: Global, given: &[&[Item]]) -> Result<Listing<Listing<Item>>, AllocError> {
-    let mut expressions = Listing::empty(alloc);
-    for items in given {
-        expressions.push(Listing::new(items.to_vec(alloc)?))?;
+    /// These items.
+    fn list<T: Copy>(&mut self, items: &[T]) -> Listing<T> {
+        match items.to_vec(self.alloc) {
+            Ok(items) => Listing::new(items),
+            Err(_) => {
+                self.is_cut = true;
+                Listing::empty(self.alloc)
+            }
+        }
     }
-    Ok(expressions)
-}
 
-fn report_name(
-    alloc: Global,
-    name: &str,
-    base: ReportBase,
-    first: u32,
-) -> Result<ReportName, AllocError> {
-    Ok(ReportName {
-        name: Listing::new(name.as_bytes().to_vec(alloc)?),
-        base,
-        first,
-        copies: 0,
-        stride: 0,
-        dimensions: Listing::empty(alloc),
-    })
-}
-
-fn report_names(
-    alloc: Global,
-    given: &[(&str, ReportBase, u32)],
-) -> Result<Listing<ReportName>, AllocError> {
-    let mut names = Listing::empty(alloc);
-    for (name, base, first) in given {
-        names.push(report_name(alloc, name, *base, *first)?)?;
+    fn block(&mut self, groups: u16, cell: u16, one: i32, two: i32) -> Ask {
+        let mut writes = Listing::empty(self.alloc);
+        self.add(&mut writes, (cell, Value::Int(one)));
+        self.add(&mut writes, (cell, Value::Int(two)));
+        Ask::Update(groups, writes, 0)
     }
-    Ok(names)
-}
 
-fn tables(alloc: Global, unit: &Unit) -> Result<Tables, AllocError> {
-    Ok(Tables {
-        cells: cells(alloc, unit.cells)?,
-        processes: processes(alloc, unit.names)?,
-        first: 0,
-        events: Listing::new(unit.events.to_vec(alloc)?),
-        expressions: expressions(alloc, unit.expressions)?,
-        names: report_names(alloc, unit.reports)?,
-    })
+    fn ask(&mut self, step: Step) -> Ask {
+        match step {
+            Step::Update(groups, cell, one, two) => self.block(groups, cell, one, two),
+            _ => Ask::Plain(request(step)),
+        }
+    }
+
+    /// A cycle that asks this.
+    fn cycle(&mut self, steps: &[Step]) -> Listing<Ask> {
+        let mut asks = Listing::empty(self.alloc);
+        for step in steps {
+            let ask = self.ask(*step);
+            self.add(&mut asks, ask);
+        }
+        asks
+    }
+
+    /// A body of these cycles.
+    pub(crate) fn body(&mut self, cycles: &[&[Step]]) -> Listing<Listing<Ask>> {
+        let mut body = Listing::empty(self.alloc);
+        for steps in cycles {
+            let cycle = self.cycle(steps);
+            self.add(&mut body, cycle);
+        }
+        body
+    }
+
+    fn bodies(&mut self, given: &[&[&[Step]]]) -> Listing<Listing<Listing<Ask>>> {
+        let mut bodies = Listing::empty(self.alloc);
+        for cycles in given {
+            let body = self.body(cycles);
+            self.add(&mut bodies, body);
+        }
+        bodies
+    }
+
+    /// Integers of 16 bits in these lock groups.
+    fn cells(&mut self, groups: &[u8]) -> Listing<Cell> {
+        let mut cells = Listing::empty(self.alloc);
+        for group in groups {
+            let cell = Cell {
+                kind: Kind::Single,
+                group: *group,
+                initial: Value::Int(0),
+            };
+            self.add(&mut cells, cell);
+        }
+        cells
+    }
+
+    fn processes(&mut self, names: &[&str]) -> Listing<Text> {
+        let mut processes = Listing::empty(self.alloc);
+        for name in names {
+            self.add(&mut processes, text(name));
+        }
+        processes
+    }
+
+    fn expressions(&mut self, given: &[&[Item]]) -> Listing<Listing<Item>> {
+        let mut expressions = Listing::empty(self.alloc);
+        for items in given {
+            let expression = self.list(items);
+            self.add(&mut expressions, expression);
+        }
+        expressions
+    }
+
+    fn report_name(&mut self, name: &str, base: ReportBase, first: u32) -> ReportName {
+        ReportName {
+            name: self.list(name.as_bytes()),
+            base,
+            first,
+            copies: 0,
+            stride: 0,
+            dimensions: Listing::empty(self.alloc),
+        }
+    }
+
+    fn report_names(&mut self, given: &[(&str, ReportBase, u32)]) -> Listing<ReportName> {
+        let mut names = Listing::empty(self.alloc);
+        for (name, base, first) in given {
+            let name = self.report_name(name, *base, *first);
+            self.add(&mut names, name);
+        }
+        names
+    }
+
+    fn tables(&mut self, unit: &Unit) -> Tables {
+        Tables {
+            cells: self.cells(unit.cells),
+            processes: self.processes(unit.names),
+            first: 0,
+            events: self.list(unit.events),
+            expressions: self.expressions(unit.expressions),
+            names: self.report_names(unit.reports),
+        }
+    }
+
+    /// The load that is made of this.
+    pub(crate) fn load(&mut self, unit: &Unit) -> Scripted {
+        Scripted {
+            tables: self.tables(unit),
+            bodies: self.bodies(unit.bodies),
+        }
+    }
 }
 
 /// The load that is made of this.
 pub(crate) fn load(alloc: Global, unit: &Unit) -> Result<Scripted, AllocError> {
-    Ok(Scripted {
-        tables: tables(alloc, unit)?,
-        bodies: bodies(alloc, unit.bodies)?,
-    })
+    let mut maker = Maker::new(alloc);
+    let load = maker.load(unit);
+    maker.made(load)
 }

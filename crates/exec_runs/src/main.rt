@@ -2,6 +2,7 @@
 #![tactic(auto)]
 
 mod checked;
+mod completed;
 mod loads;
 mod played;
 mod plays;
@@ -9,6 +10,7 @@ mod refused;
 mod row_loads;
 
 use checked::{WRONG, is_right, is_wrong};
+use completed::is_completed;
 use played::PLAYED;
 use refused::REFUSED;
 use std::io;
@@ -58,6 +60,8 @@ fn main(rt: HostRuntime) -> io::Result<()> {
     let played = count_played(&rt)?;
     let refused = count_refused(&rt)?;
     let wrong = count_wrong(&rt)?;
+    let completed = is_completed(rt.alloc())?;
+    println!(rt; "an open block is done after the last line: {completed}")?;
     println!(rt; "a right load: {right}; {wrong} wrong ones")?;
     println!(rt; "{played} runs kept; {refused} lists of events refused")?;
     Ok(())

@@ -5,8 +5,7 @@ use crate::plays::{Line, play, started};
 use crate::row_loads::{
     CANCELLED, COUNTING, GUARDED, PREEMPTED, SIGNALLED, STOPPED, TERMINATED, TWICE,
 };
-use exec_model::{End, Event, How, Plain};
-use exec_rows::ScriptedProcs;
+use exec_model::{End, Event, How, Plain, Procs};
 use hal_values::{ErrNo, Value};
 use std::alloc::{AllocError, Global};
 
@@ -67,9 +66,9 @@ fn numbers(alloc: Global, numbers: &[i32]) -> Result<Vec<Value>, AllocError> {
 }
 
 /// The events are these, each so many times.
-fn has_made(
+pub(crate) fn has_made<P: Procs + Drop>(
     alloc: Global,
-    plain: &Plain<ScriptedProcs>,
+    plain: &Plain<P>,
     journal: &[(Event, u32)],
 ) -> Result<bool, AllocError> {
     let journal = repeated(alloc, journal)?;
@@ -77,15 +76,15 @@ fn has_made(
 }
 
 /// The channel lines and the ends are these.
-fn has_told(plain: &Plain<ScriptedProcs>, output: &str, ends: &[End]) -> bool {
+fn has_told<P: Procs + Drop>(plain: &Plain<P>, output: &str, ends: &[End]) -> bool {
     let state = plain.state();
     state.output.as_slice() == output.as_bytes() && state.ends.as_slice() == ends
 }
 
 /// The shared cells hold these numbers.
-fn has_stored(
+pub(crate) fn has_stored<P: Procs + Drop>(
     alloc: Global,
-    plain: &Plain<ScriptedProcs>,
+    plain: &Plain<P>,
     store: &[i32],
 ) -> Result<bool, AllocError> {
     let store = numbers(alloc, store)?;
@@ -109,9 +108,9 @@ pub(crate) struct Played {
 }
 
 /// Whether each event of the script may come, and what comes of them is as it is to be.
-fn comes(
+fn comes<P: Procs + Drop>(
     alloc: Global,
-    plain: &mut Plain<ScriptedProcs>,
+    plain: &mut Plain<P>,
     row: &Played,
 ) -> Result<bool, AllocError> {
     let allowed = play(plain, row.script)?;

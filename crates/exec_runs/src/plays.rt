@@ -1,7 +1,11 @@
 //! Scripts on the plain executive over a scripted load.
 
+ghost use Rattle.std.specs.Prelude.{◌≡◌, ◌≤◌, [], replicate};
+ghost use Rattle.hal_base.specs.declared.limits.TheConstants.{LANE_LIMIT};
+ghost use Rattle.hal_values.specs.Tables.{process_count};
+
 use crate::loads::{Unit, load};
-use exec_model::{Event, Plain, Script};
+use exec_model::{Event, Plain, Procs, Script};
 use exec_rows::ScriptedProcs;
 use hal_base::{LANE_LIMIT, TICK_SUM_LIMIT};
 use std::alloc::{AllocError, Global};
@@ -15,6 +19,16 @@ pub enum Line {
     One(Event),
 }
 
+/// The plain executive at the beginning of a run of these processes, under a script with no line. Over any processes this is proved once, and asks
+/// less than over scripted ones, as all that follows here.
+fn begun<P: Procs + Drop>(alloc: Global, procs: P, lanes: u8) -> Result<Plain<P>, AllocError>
+    requires lanes { (1 ≤ lanes) × (lanes ≤ LANE_LIMIT) }
+    requires fresh { P.answers procs ≡ replicate (process_count (P.Of.tables (P.load procs))) [] }
+{
+    let no_lines = Script::new(Vec::new(alloc));
+    Plain::start(alloc, procs, &no_lines, lanes)
+}
+
 /// The plain executive at the beginning of a run of the load, if that is right.
 pub(crate) fn started(
     alloc: Global,
@@ -26,12 +40,11 @@ pub(crate) fn started(
         return Ok(None);
     }
     let procs = ScriptedProcs::start(alloc, load)?;
-    let no_lines = Script::new(Vec::new(alloc));
-    Ok(Some(Plain::start(alloc, procs, &no_lines, lanes)?))
+    begun(alloc, procs, lanes).map(Some)
 }
 
 /// The clock goes on, if it stays within the sum that scripts may have.
-pub fn tick(plain: &mut Plain<ScriptedProcs>, time: u64) -> Result<bool, AllocError> {
+pub fn tick<P: Procs + Drop>(plain: &mut Plain<P>, time: u64) -> Result<bool, AllocError> {
     let clock = plain.state().clock;
     if clock > TICK_SUM_LIMIT || time > TICK_SUM_LIMIT - clock {
         return Ok(false);
@@ -40,7 +53,7 @@ pub fn tick(plain: &mut Plain<ScriptedProcs>, time: u64) -> Result<bool, AllocEr
     Ok(made)
 }
 
-pub fn step(plain: &mut Plain<ScriptedProcs>, event: Event) -> Result<bool, AllocError> {
+pub fn step<P: Procs + Drop>(plain: &mut Plain<P>, event: Event) -> Result<bool, AllocError> {
     let made = match event {
         Event::Tick(time) => tick(plain, time)?,
         _ => plain.step(event)?,
@@ -49,7 +62,7 @@ pub fn step(plain: &mut Plain<ScriptedProcs>, event: Event) -> Result<bool, Allo
 }
 
 /// At most so many events come. Tells whether each of them was allowed.
-pub fn run(plain: &mut Plain<ScriptedProcs>, count: u32) -> Result<bool, AllocError> {
+pub fn run<P: Procs + Drop>(plain: &mut Plain<P>, count: u32) -> Result<bool, AllocError> {
     for _ in 0..count {
         let Some(event) = plain.next_event()? else {
             return Ok(true);
@@ -62,7 +75,7 @@ pub fn run(plain: &mut Plain<ScriptedProcs>, count: u32) -> Result<bool, AllocEr
 }
 
 /// The lines are done, one after the other. Tells whether each event was allowed.
-pub fn play(plain: &mut Plain<ScriptedProcs>, lines: &[Line]) -> Result<bool, AllocError> {
+pub fn play<P: Procs + Drop>(plain: &mut Plain<P>, lines: &[Line]) -> Result<bool, AllocError> {
     for line in lines {
         let allowed = match line {
             Line::Run(count) => run(plain, *count)?,

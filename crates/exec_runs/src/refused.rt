@@ -3,12 +3,11 @@
 use crate::loads::Unit;
 use crate::plays::{Line, play, started, step};
 use crate::row_loads::{HELD, PREEMPTED, TERMINATED};
-use exec_model::{Event, Plain};
-use exec_rows::ScriptedProcs;
+use exec_model::{Event, Plain, Procs};
 use std::alloc::{AllocError, Global};
 
 /// The events, the state, and what may come next.
-fn picture(alloc: Global, plain: &mut Plain<ScriptedProcs>) -> Result<String, AllocError> {
+fn picture<P: Procs + Drop>(alloc: Global, plain: &mut Plain<P>) -> Result<String, AllocError> {
     let next = plain.next_event()?;
     let journal = plain.journal();
     let state = plain.state();
@@ -16,7 +15,10 @@ fn picture(alloc: Global, plain: &mut Plain<ScriptedProcs>) -> Result<String, Al
 }
 
 /// Whether none of these events is made.
-fn makes_none(plain: &mut Plain<ScriptedProcs>, refused: &[Event]) -> Result<bool, AllocError> {
+fn makes_none<P: Procs + Drop>(
+    plain: &mut Plain<P>,
+    refused: &[Event],
+) -> Result<bool, AllocError> {
     for event in refused {
         if step(plain, *event)? {
             return Ok(false);
@@ -36,9 +38,9 @@ pub(crate) struct Refused {
 }
 
 /// Whether the executive refuses each of the events after the lines, and nothing changes.
-fn stays(
+fn stays<P: Procs + Drop>(
     alloc: Global,
-    plain: &mut Plain<ScriptedProcs>,
+    plain: &mut Plain<P>,
     row: &Refused,
 ) -> Result<bool, AllocError> {
     let allowed = play(plain, row.lines)?;

@@ -8,12 +8,13 @@ use hal_words::Token;
 use std::alloc::{AllocError, Global};
 
 /// Writes the longest expression that words begin with, and how many words are behind it.
-fn write_longest(alloc: Global, words: &[Token], pen: &mut Pen) -> Result<(), AllocError> {
-    match hal_parse_expr::expression(alloc, words)? {
-        None => pen.word("none"),
-        Some((tree, rest)) => {
-            expression(&tree, pen)?;
-            pen.number(rest.len() as u64)
+fn write_longest(alloc: Global, words: &[Token], pen: &mut Pen) {
+    match hal_parse_expr::expression(alloc, words) {
+        Err(_) => pen.cut(),
+        Ok(None) => pen.word("none"),
+        Ok(Some((tree, rest))) => {
+            expression(&tree, pen);
+            pen.number(rest.len() as u64);
         }
     }
 }
@@ -22,8 +23,8 @@ fn write_longest(alloc: Global, words: &[Token], pen: &mut Pen) -> Result<(), Al
 pub(crate) fn given(alloc: Global, text: &[u8]) -> Result<String, AllocError> {
     let mut pen = Pen::new(alloc, false);
     match tokens(alloc, text, UNIT) {
-        Err(fault) => write_fault(&fault, &mut pen)?,
-        Ok(words) => write_longest(alloc, words.as_slice(), &mut pen)?,
+        Err(fault) => write_fault(&fault, &mut pen),
+        Ok(words) => write_longest(alloc, words.as_slice(), &mut pen),
     }
-    Ok(pen.into_text())
+    pen.into_text()
 }

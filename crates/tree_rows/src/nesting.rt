@@ -20,10 +20,12 @@ struct Nest<'a> {
 
 /// What a notation says.
 fn nest_of(notation: &str) -> Option<Nest<'_>> {
-    let (before, rest) = notation.split_once("~")?;
-    let (opening, rest) = rest.split_once("~")?;
-    let (middle, rest) = rest.split_once("~")?;
-    let (closing, behind) = rest.split_once("~")?;
+    let mut parts = notation.split("~");
+    let before = parts.next().unwrap_or("");
+    let opening = parts.next().unwrap_or("");
+    let middle = parts.next().unwrap_or("");
+    let closing = parts.next().unwrap_or("");
+    let behind = parts.next()?;
     Some(Nest {
         before,
         opening,

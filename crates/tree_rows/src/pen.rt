@@ -9,7 +9,8 @@ use std::alloc::{AllocError, Global};
 /// The number of each file.
 pub(crate) const UNIT: u32 = 7;
 
-/// A text that grows part by part.
+/// A text that grows part by part. Where memory is wanting, the pen notes it and writes on, and there is no text in the end: so what writes a
+/// tree has nothing to ask after each part.
 #[derive(Debug, Drop)]
 pub(crate) struct Pen {
     alloc: Global,
@@ -17,6 +18,8 @@ pub(crate) struct Pen {
     has_places: bool,
     /// Whether the next part follows without a blank.
     is_joined: bool,
+    /// Whether memory was wanting.
+    is_cut: bool,
 }
 
 impl Pen {
@@ -27,12 +30,21 @@ impl Pen {
             text: String::new(alloc),
             has_places,
             is_joined: true,
+            is_cut: false,
         }
     }
 
-    /// What was written.
-    pub(crate) fn into_text(self) -> String {
-        self.text
+    /// What was written, or an error where memory was wanting.
+    pub(crate) fn into_text(self) -> Result<String, AllocError> {
+        if self.is_cut {
+            return Err(AllocError);
+        }
+        Ok(self.text)
+    }
+
+    /// Notes that memory is wanting.
+    pub(crate) fn cut(&mut self) {
+        self.is_cut = true;
     }
 
     /// Lets the next part follow without a blank.
@@ -40,121 +52,123 @@ impl Pen {
         self.is_joined = true;
     }
 
-    /// A blank before a part, unless it is the first one.
-    fn part(&mut self) -> Result<(), AllocError> {
-        if self.is_joined {
-            self.is_joined = false;
-            return Ok(());
+    /// What follows a part directly.
+    pub(crate) fn tail(&mut self, tail: &str) {
+        if self.text.push_str(tail).is_err() {
+            self.cut();
         }
-        self.text.push_str(" ")
+    }
+
+    /// A blank before a part, unless it is the first one.
+    fn part(&mut self) {
+        if !self.is_joined {
+            self.tail(" ");
+        }
+        self.is_joined = false;
     }
 
     /// A part.
-    pub(crate) fn word(&mut self, word: &str) -> Result<(), AllocError> {
-        self.part()?;
-        self.text.push_str(word)
+    pub(crate) fn word(&mut self, word: &str) {
+        self.part();
+        self.tail(word);
     }
 
-    /// What follows a part directly.
-    pub(crate) fn tail(&mut self, tail: &str) -> Result<(), AllocError> {
-        self.text.push_str(tail)
+    /// What follows directly, or a note that there was no memory for it.
+    fn made(&mut self, tail: Result<String, AllocError>) {
+        match tail {
+            Ok(tail) => self.tail(tail.as_str()),
+            Err(_) => self.cut(),
+        }
     }
 
     /// A number.
-    pub(crate) fn number(&mut self, number: u64) -> Result<(), AllocError> {
-        let number = format!(in self.alloc; "{number}")?;
-        self.word(number.as_str())
+    pub(crate) fn number(&mut self, number: u64) {
+        self.part();
+        self.made(format!(in self.alloc; "{number}"));
+    }
+
+    /// A byte of the source.
+    fn byte(&mut self, byte: u8) {
+        if self.text.push(char::from(byte)).is_err() {
+            self.cut();
+        }
     }
 
     /// Bytes of the source, as a part.
-    pub(crate) fn bytes(&mut self, bytes: &[u8]) -> Result<(), AllocError> {
-        self.part()?;
+    pub(crate) fn bytes(&mut self, bytes: &[u8]) {
+        self.part();
         for byte in bytes {
-            self.text.push(char::from(*byte))?;
+            self.byte(*byte);
         }
-        Ok(())
     }
 
     /// A place, where the rows want places.
-    pub(crate) fn place(&mut self, place: Place) -> Result<(), AllocError> {
-        if !self.has_places {
-            return Ok(());
-        }
-        let text = format!(in self.alloc; "<{}:{}>", place.line, place.column)?;
-        self.text.push_str(text.as_str())?;
-        if place.unit == UNIT {
-            return Ok(());
-        }
-        self.text.push_str("of another file")
-    }
-
-    /// A bracket, what kind of tree it holds, and the place of the tree.
-    pub(crate) fn open(&mut self, kind: &str, place: Place) -> Result<(), AllocError> {
-        self.word("(")?;
-        self.tail(kind)?;
-        self.place(place)
-    }
-
-    /// The end of a tree.
-    pub(crate) fn close(&mut self) -> Result<(), AllocError> {
-        self.is_joined = false;
-        self.tail(")")
-    }
-
-    /// The beginning of a list.
-    pub(crate) fn open_list(&mut self) -> Result<(), AllocError> {
-        self.word("[")?;
-        self.join();
-        Ok(())
-    }
-
-    /// The end of a list.
-    pub(crate) fn close_list(&mut self) -> Result<(), AllocError> {
-        self.is_joined = false;
-        self.tail("]")
-    }
-
-    /// A name and its place.
-    pub(crate) fn name_at(&mut self, name: &Name, place: Place) -> Result<(), AllocError> {
-        self.bytes(name.bytes())?;
-        self.place(place)
-    }
-
-    /// A name where it stands.
-    pub(crate) fn name(&mut self, name: &Identifier) -> Result<(), AllocError> {
-        self.name_at(&name.name, name.place)
-    }
-
-    /// Names.
-    pub(crate) fn names(&mut self, names: &[Identifier]) -> Result<(), AllocError> {
-        for name in names {
-            self.name(name)?;
-        }
-        Ok(())
-    }
-
-    /// A word and the name behind it, where there is a name.
-    pub(crate) fn optional_name(
-        &mut self,
-        word: &str,
-        name: &Option<Identifier>,
-    ) -> Result<(), AllocError> {
-        match name {
-            None => Ok(()),
-            Some(name) => {
-                self.word(word)?;
-                self.name(name)
+    pub(crate) fn place(&mut self, place: Place) {
+        if self.has_places {
+            self.made(format!(in self.alloc; "<{}:{}>", place.line, place.column));
+            if place.unit != UNIT {
+                self.tail("of another file");
             }
         }
     }
 
+    /// A bracket, what kind of tree it holds, and the place of the tree.
+    pub(crate) fn open(&mut self, kind: &str, place: Place) {
+        self.word("(");
+        self.tail(kind);
+        self.place(place);
+    }
+
+    /// The end of a tree.
+    pub(crate) fn close(&mut self) {
+        self.is_joined = false;
+        self.tail(")");
+    }
+
+    /// The beginning of a list.
+    pub(crate) fn open_list(&mut self) {
+        self.word("[");
+        self.join();
+    }
+
+    /// The end of a list.
+    pub(crate) fn close_list(&mut self) {
+        self.is_joined = false;
+        self.tail("]");
+    }
+
+    /// A name and its place.
+    pub(crate) fn name_at(&mut self, name: &Name, place: Place) {
+        self.bytes(name.bytes());
+        self.place(place);
+    }
+
+    /// A name where it stands.
+    pub(crate) fn name(&mut self, name: &Identifier) {
+        self.name_at(&name.name, name.place);
+    }
+
+    /// Names.
+    pub(crate) fn names(&mut self, names: &[Identifier]) {
+        for name in names {
+            self.name(name);
+        }
+    }
+
+    /// A word and the name behind it, where there is a name.
+    pub(crate) fn optional_name(&mut self, word: &str, name: &Option<Identifier>) {
+        if let Some(name) = name {
+            self.word(word);
+            self.name(name);
+        }
+    }
+
     /// A sign, which its term follows without a blank.
-    pub(crate) fn sign(&mut self, sign: Sign) -> Result<(), AllocError> {
+    pub(crate) fn sign(&mut self, sign: Sign) {
         match sign {
-            Sign::Plus => self.word("+")?,
-            Sign::Minus => self.word("-")?,
+            Sign::Plus => self.word("+"),
+            Sign::Minus => self.word("-"),
         }
         self.join();
-        Ok(())
     }
 }

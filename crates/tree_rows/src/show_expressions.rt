@@ -9,7 +9,6 @@ use hal_tree::{
     Conversion, Expr, Identifier, LiteralValue, Position, Reference, Relation, SignedTerm, Sub,
     Subscript,
 };
-use std::alloc::AllocError;
 
 fn word_of_relation(relation: Relation) -> &'static str {
     match relation {
@@ -33,41 +32,37 @@ fn word_of_conversion(conversion: Conversion) -> &'static str {
 }
 
 /// Bits.
-fn bits(len: u8, word: u32, pen: &mut Pen) -> Result<(), AllocError> {
-    pen.word("(bits")?;
-    pen.number(u64::from(len))?;
-    pen.number(u64::from(word))?;
-    pen.close()
+fn bits(len: u8, word: u32, pen: &mut Pen) {
+    pen.word("(bits");
+    pen.number(u64::from(len));
+    pen.number(u64::from(word));
+    pen.close();
 }
 
 /// A literal and its place.
-pub(crate) fn literal(
-    literal: &LiteralValue,
-    place: Place,
-    pen: &mut Pen,
-) -> Result<(), AllocError> {
+pub(crate) fn literal(literal: &LiteralValue, place: Place, pen: &mut Pen) {
     match literal {
-        LiteralValue::Integer(number) => pen.number(u64::from(*number))?,
+        LiteralValue::Integer(number) => pen.number(u64::from(*number)),
         LiteralValue::Text(text) => {
-            pen.word("'")?;
+            pen.word("'");
             pen.join();
-            pen.bytes(text.bytes())?;
-            pen.tail("'")?;
+            pen.bytes(text.bytes());
+            pen.tail("'");
         }
-        LiteralValue::Bits { len, word } => bits(*len, *word, pen)?,
-        LiteralValue::True => pen.word("TRUE")?,
-        LiteralValue::False => pen.word("FALSE")?,
-        LiteralValue::On => pen.word("ON")?,
-        LiteralValue::Off => pen.word("OFF")?,
+        LiteralValue::Bits { len, word } => bits(*len, *word, pen),
+        LiteralValue::True => pen.word("TRUE"),
+        LiteralValue::False => pen.word("FALSE"),
+        LiteralValue::On => pen.word("ON"),
+        LiteralValue::Off => pen.word("OFF"),
     }
-    pen.place(place)
+    pen.place(place);
 }
 
 /// A number of thousandths.
-fn decimal(thousandths: u64, place: Place, pen: &mut Pen) -> Result<(), AllocError> {
-    pen.number(thousandths)?;
-    pen.tail("t")?;
-    pen.place(place)
+fn decimal(thousandths: u64, place: Place, pen: &mut Pen) {
+    pen.number(thousandths);
+    pen.tail("t");
+    pen.place(place);
 }
 
 /// The kind of an expression that stands in brackets with its kind.
@@ -89,7 +84,7 @@ fn word_of(tree: &Expr) -> &'static str {
 
 /// An expression.
 #[cycle(showing)]
-pub(crate) fn expression(tree: &Expr, pen: &mut Pen) -> Result<(), AllocError> {
+pub(crate) fn expression(tree: &Expr, pen: &mut Pen) {
     match tree {
         Expr::Literal {
             place,
@@ -98,47 +93,47 @@ pub(crate) fn expression(tree: &Expr, pen: &mut Pen) -> Result<(), AllocError> {
         Expr::Decimal { place, thousandths } => decimal(*thousandths, *place, pen),
         Expr::Reference(inner) => reference(inner, pen),
         Expr::Parenthesis { place, inner } => {
-            pen.word("{")?;
-            pen.place(*place)?;
+            pen.word("{");
+            pen.place(*place);
             pen.join();
-            expression(inner, pen)?;
-            pen.tail("}")
+            expression(inner, pen);
+            pen.tail("}");
         }
         _ => {
-            pen.open(word_of(tree), tree.place())?;
-            parts_of(tree, pen)?;
-            pen.close()
+            pen.open(word_of(tree), tree.place());
+            parts_of(tree, pen);
+            pen.close();
         }
     }
 }
 
 /// The parts of an expression that stands in brackets with its kind: of one with two parts or more.
 #[cycle(showing)]
-fn parts_of(tree: &Expr, pen: &mut Pen) -> Result<(), AllocError> {
+fn parts_of(tree: &Expr, pen: &mut Pen) {
     match tree {
         Expr::Or { first, others, .. } => {
-            expression(first, pen)?;
-            expressions(others, pen)
+            expression(first, pen);
+            expressions(others, pen);
         }
         Expr::And { first, others, .. } => {
-            expression(first, pen)?;
-            expressions(others, pen)
+            expression(first, pen);
+            expressions(others, pen);
         }
         Expr::Cat { first, others, .. } => {
-            expression(first, pen)?;
-            expressions(others, pen)
+            expression(first, pen);
+            expressions(others, pen);
         }
         Expr::Product { first, others, .. } => {
-            expression(first, pen)?;
-            expressions(others, pen)
+            expression(first, pen);
+            expressions(others, pen);
         }
         Expr::Compare { left, right, .. } => {
-            expression(left, pen)?;
-            expression(right, pen)
+            expression(left, pen);
+            expression(right, pen);
         }
         Expr::Power { base, exponent, .. } => {
-            expression(base, pen)?;
-            expression(exponent, pen)
+            expression(base, pen);
+            expression(exponent, pen);
         }
         _ => other_parts_of(tree, pen),
     }
@@ -146,7 +141,7 @@ fn parts_of(tree: &Expr, pen: &mut Pen) -> Result<(), AllocError> {
 
 /// The parts of a sum, a call, or an expression with one part.
 #[cycle(showing)]
-fn other_parts_of(tree: &Expr, pen: &mut Pen) -> Result<(), AllocError> {
+fn other_parts_of(tree: &Expr, pen: &mut Pen) {
     match tree {
         Expr::Sum {
             opening,
@@ -155,90 +150,86 @@ fn other_parts_of(tree: &Expr, pen: &mut Pen) -> Result<(), AllocError> {
             ..
         } => {
             if let Some(sign) = opening {
-                pen.sign(*sign)?;
+                pen.sign(*sign);
             }
-            expression(first, pen)?;
-            terms(others, pen)
+            expression(first, pen);
+            terms(others, pen);
         }
         Expr::Call {
             name,
             arguments,
             ..
         } => {
-            pen.bytes(name.bytes())?;
-            expressions(arguments, pen)
+            pen.bytes(name.bytes());
+            expressions(arguments, pen);
         }
         Expr::Not { operand, .. } => expression(operand, pen),
         Expr::Convert { operand, .. } => expression(operand, pen),
-        _ => Ok(()),
+        _ => {}
     }
 }
 
 /// Expressions.
 #[cycle(showing)]
-pub(crate) fn expressions(trees: &[Expr], pen: &mut Pen) -> Result<(), AllocError> {
+pub(crate) fn expressions(trees: &[Expr], pen: &mut Pen) {
     for tree in trees {
-        expression(tree, pen)?;
+        expression(tree, pen);
     }
-    Ok(())
 }
 
 /// Terms with their signs.
 #[cycle(showing)]
-fn terms(trees: &[SignedTerm], pen: &mut Pen) -> Result<(), AllocError> {
+fn terms(trees: &[SignedTerm], pen: &mut Pen) {
     for tree in trees {
-        term(tree, pen)?;
+        term(tree, pen);
     }
-    Ok(())
 }
 
 /// A term with its sign.
 #[cycle(showing)]
-fn term(tree: &SignedTerm, pen: &mut Pen) -> Result<(), AllocError> {
-    pen.sign(tree.sign)?;
-    pen.place(tree.place)?;
-    expression(&tree.term, pen)
+fn term(tree: &SignedTerm, pen: &mut Pen) {
+    pen.sign(tree.sign);
+    pen.place(tree.place);
+    expression(&tree.term, pen);
 }
 
 /// The further names of a reference.
-fn further(names: &[Identifier], pen: &mut Pen) -> Result<(), AllocError> {
+fn further(names: &[Identifier], pen: &mut Pen) {
     for name in names {
-        pen.tail(".")?;
+        pen.tail(".");
         pen.join();
-        pen.name(name)?;
+        pen.name(name);
     }
-    Ok(())
 }
 
 /// A reference.
 #[cycle(showing)]
-pub(crate) fn reference(tree: &Reference, pen: &mut Pen) -> Result<(), AllocError> {
-    pen.name_at(&tree.name, tree.place)?;
-    further(&tree.further, pen)?;
-    subscript(&tree.subscript, pen)
+pub(crate) fn reference(tree: &Reference, pen: &mut Pen) {
+    pen.name_at(&tree.name, tree.place);
+    further(&tree.further, pen);
+    subscript(&tree.subscript, pen);
 }
 
 /// References.
-pub(crate) fn references(trees: &[Reference], pen: &mut Pen) -> Result<(), AllocError> {
+pub(crate) fn references(trees: &[Reference], pen: &mut Pen) {
     for tree in trees {
-        reference(tree, pen)?;
+        reference(tree, pen);
     }
-    Ok(())
 }
 
 /// A subscript, or nothing.
 #[cycle(showing)]
-fn subscript(tree: &Subscript, pen: &mut Pen) -> Result<(), AllocError> {
+fn subscript(tree: &Subscript, pen: &mut Pen) {
     match tree {
-        Subscript::None => Ok(()),
+        Subscript::None => {}
         Subscript::Name { place, name } => {
-            dollar(*place, pen)?;
-            pen.name(name)
+            dollar(*place, pen);
+            pen.name(name);
         }
         Subscript::Integer { place, at, number } => {
-            dollar(*place, pen)?;
-            pen.number(u64::from(*number))?;
-            pen.place(*at)
+            dollar(*place, pen);
+            pen.number(u64::from(*number));
+            pen.place(*at);
         }
         Subscript::Parts {
             place,
@@ -246,70 +237,68 @@ fn subscript(tree: &Subscript, pen: &mut Pen) -> Result<(), AllocError> {
             arrays,
             components,
         } => {
-            dollar(*place, pen)?;
-            pen.open_list()?;
-            subs(copies, pen)?;
-            pen.tail(";")?;
+            dollar(*place, pen);
+            pen.open_list();
+            subs(copies, pen);
+            pen.tail(";");
             pen.join();
-            subs(arrays, pen)?;
-            pen.tail(":")?;
+            subs(arrays, pen);
+            pen.tail(":");
             pen.join();
-            subs(components, pen)?;
-            pen.close_list()
+            subs(components, pen);
+            pen.close_list();
         }
     }
 }
 
 /// What a subscript begins with.
-fn dollar(place: Place, pen: &mut Pen) -> Result<(), AllocError> {
-    pen.tail("$")?;
-    pen.place(place)?;
+fn dollar(place: Place, pen: &mut Pen) {
+    pen.tail("$");
+    pen.place(place);
     pen.join();
-    Ok(())
 }
 
 /// The subscripts of one part.
 #[cycle(showing)]
-fn subs(trees: &[Sub], pen: &mut Pen) -> Result<(), AllocError> {
+fn subs(trees: &[Sub], pen: &mut Pen) {
     for tree in trees {
-        sub(tree, pen)?;
+        sub(tree, pen);
     }
-    Ok(())
 }
 
 /// One subscript.
 #[cycle(showing)]
-fn sub(tree: &Sub, pen: &mut Pen) -> Result<(), AllocError> {
+fn sub(tree: &Sub, pen: &mut Pen) {
     match tree {
         Sub::Every { place } => {
-            pen.word("*")?;
-            pen.place(*place)
+            pen.word("*");
+            pen.place(*place);
         }
         Sub::One { position: only } => position(only, pen),
         Sub::Range { first, last } => {
-            pen.word("(to")?;
-            position(first, pen)?;
-            position(last, pen)?;
-            pen.close()
+            pen.word("(to");
+            position(first, pen);
+            position(last, pen);
+            pen.close();
         }
         Sub::Portion { count, first } => {
-            pen.word("(portion")?;
-            expression(count, pen)?;
-            position(first, pen)?;
-            pen.close()
+            pen.word("(portion");
+            expression(count, pen);
+            position(first, pen);
+            pen.close();
         }
     }
 }
 
 /// A position.
 #[cycle(showing)]
-fn position(tree: &Position, pen: &mut Pen) -> Result<(), AllocError> {
+fn position(tree: &Position, pen: &mut Pen) {
     match tree {
         Position::FromBeginning { position } => expression(position, pen),
         Position::FromEnd { place, terms: more } => {
-            pen.open("#", *place)?;
-            terms(more, pen)?;
-            pen.close()
+            pen.open("#", *place);
+            terms(more, pen);
+            pen.close();
         }
     }
 }

@@ -7,17 +7,16 @@ use hal_base::Place;
 use hal_tree::{
     Cycle, EventAction, EventChange, Expr, Guard, Response, Schedule, Selector, Span, Start,
 };
-use std::alloc::AllocError;
 
 /// A word, its place and an expression.
-fn with_word(word: &str, place: Place, tree: &Expr, pen: &mut Pen) -> Result<(), AllocError> {
-    pen.word(word)?;
-    pen.place(place)?;
-    expression(tree, pen)
+fn with_word(word: &str, place: Place, tree: &Expr, pen: &mut Pen) {
+    pen.word(word);
+    pen.place(place);
+    expression(tree, pen);
 }
 
 /// How long a loop goes on.
-pub(crate) fn guard(tree: &Guard, pen: &mut Pen) -> Result<(), AllocError> {
+pub(crate) fn guard(tree: &Guard, pen: &mut Pen) {
     match tree {
         Guard::While { place, condition } => with_word("while", *place, condition, pen),
         Guard::Until { place, condition } => with_word("until", *place, condition, pen),
@@ -25,42 +24,42 @@ pub(crate) fn guard(tree: &Guard, pen: &mut Pen) -> Result<(), AllocError> {
 }
 
 /// The same, or nothing.
-pub(crate) fn optional_guard(tree: &Option<Guard>, pen: &mut Pen) -> Result<(), AllocError> {
+pub(crate) fn optional_guard(tree: &Option<Guard>, pen: &mut Pen) {
     match tree {
-        None => Ok(()),
+        None => {}
         Some(tree) => guard(tree, pen),
     }
 }
 
 /// The values of a loop's variable.
-pub(crate) fn span(tree: &Span, pen: &mut Pen) -> Result<(), AllocError> {
+pub(crate) fn span(tree: &Span, pen: &mut Pen) {
     match tree {
         Span::Range { first, last, step } => {
-            pen.word("(to")?;
-            expression(first, pen)?;
-            expression(last, pen)?;
+            pen.word("(to");
+            expression(first, pen);
+            expression(last, pen);
             if let Some(step) = step {
-                expression(step, pen)?;
+                expression(step, pen);
             }
         }
         Span::List { values } => {
-            pen.word("(list")?;
-            expressions(values, pen)?;
+            pen.word("(list");
+            expressions(values, pen);
         }
     }
-    pen.close()
+    pen.close();
 }
 
 /// What a selector begins with.
-fn group(place: Place, number: u32, pen: &mut Pen) -> Result<(), AllocError> {
-    pen.word("$")?;
-    pen.place(place)?;
+fn group(place: Place, number: u32, pen: &mut Pen) {
+    pen.word("$");
+    pen.place(place);
     pen.join();
-    pen.number(u64::from(number))
+    pen.number(u64::from(number));
 }
 
 /// The errors that are meant.
-pub(crate) fn selector(tree: &Selector, pen: &mut Pen) -> Result<(), AllocError> {
+pub(crate) fn selector(tree: &Selector, pen: &mut Pen) {
     match tree {
         Selector::Every => pen.word("every"),
         Selector::Group {
@@ -72,27 +71,27 @@ pub(crate) fn selector(tree: &Selector, pen: &mut Pen) -> Result<(), AllocError>
             group: first,
             number,
         } => {
-            group(*place, *first, pen)?;
-            pen.tail(":")?;
+            group(*place, *first, pen);
+            pen.tail(":");
             pen.join();
-            pen.number(u64::from(*number))
+            pen.number(u64::from(*number));
         }
     }
 }
 
 /// What happens to an event, and the event.
-pub(crate) fn event(tree: &EventChange, pen: &mut Pen) -> Result<(), AllocError> {
+pub(crate) fn event(tree: &EventChange, pen: &mut Pen) {
     match tree.action {
-        EventAction::Signal => pen.word("signal")?,
-        EventAction::Set => pen.word("set")?,
-        EventAction::Reset => pen.word("reset")?,
+        EventAction::Signal => pen.word("signal"),
+        EventAction::Set => pen.word("set"),
+        EventAction::Reset => pen.word("reset"),
     }
-    pen.place(tree.place)?;
-    pen.name(&tree.name)
+    pen.place(tree.place);
+    pen.name(&tree.name);
 }
 
 /// What answers an error.
-pub(crate) fn response(tree: Response, pen: &mut Pen) -> Result<(), AllocError> {
+pub(crate) fn response(tree: Response, pen: &mut Pen) {
     match tree {
         Response::System => pen.word("system"),
         Response::Ignore => pen.word("ignore"),
@@ -100,7 +99,7 @@ pub(crate) fn response(tree: Response, pen: &mut Pen) -> Result<(), AllocError> 
 }
 
 /// When a process starts.
-fn start(tree: &Start, pen: &mut Pen) -> Result<(), AllocError> {
+fn start(tree: &Start, pen: &mut Pen) {
     match tree {
         Start::At { place, time } => with_word("at", *place, time, pen),
         Start::In { place, time } => with_word("in", *place, time, pen),
@@ -109,43 +108,43 @@ fn start(tree: &Start, pen: &mut Pen) -> Result<(), AllocError> {
 }
 
 /// The word REPEAT.
-fn repeat(place: Place, pen: &mut Pen) -> Result<(), AllocError> {
-    pen.word("repeat")?;
-    pen.place(place)
+fn repeat(place: Place, pen: &mut Pen) {
+    pen.word("repeat");
+    pen.place(place);
 }
 
 /// When a process runs again.
-fn cycle(tree: &Cycle, pen: &mut Pen) -> Result<(), AllocError> {
+fn cycle(tree: &Cycle, pen: &mut Pen) {
     match tree {
         Cycle::Repeat { place } => repeat(*place, pen),
         Cycle::Every { place, time } => {
-            repeat(*place, pen)?;
-            pen.word("every")?;
-            expression(time, pen)
+            repeat(*place, pen);
+            pen.word("every");
+            expression(time, pen);
         }
         Cycle::After { place, time } => {
-            repeat(*place, pen)?;
-            pen.word("after")?;
-            expression(time, pen)
+            repeat(*place, pen);
+            pen.word("after");
+            expression(time, pen);
         }
     }
 }
 
 /// What SCHEDULE says.
-pub(crate) fn schedule(tree: &Schedule, pen: &mut Pen) -> Result<(), AllocError> {
-    pen.name(&tree.name)?;
+pub(crate) fn schedule(tree: &Schedule, pen: &mut Pen) {
+    pen.name(&tree.name);
     if let Some(when) = &tree.start {
-        start(when, pen)?;
+        start(when, pen);
     }
     if let Some(priority) = &tree.priority {
-        pen.word("priority")?;
-        expression(priority, pen)?;
+        pen.word("priority");
+        expression(priority, pen);
     }
     if tree.dependent {
-        pen.word("dependent")?;
+        pen.word("dependent");
     }
     if let Some(again) = &tree.cycle {
-        cycle(again, pen)?;
+        cycle(again, pen);
     }
-    optional_guard(&tree.guard, pen)
+    optional_guard(&tree.guard, pen);
 }

@@ -9,56 +9,54 @@ use crate::show_expressions::{expression, expressions, reference, references};
 use crate::show_parts::{event, guard, optional_guard, response, schedule, selector, span};
 use hal_base::Place;
 use hal_tree::{Basic, EventChange, Expr, Group, Guard, Identifier, Reference, Span, Statement};
-use std::alloc::AllocError;
 
 /// The labels of a statement.
-fn labels(names: &[Identifier], pen: &mut Pen) -> Result<(), AllocError> {
+fn labels(names: &[Identifier], pen: &mut Pen) {
     for name in names {
-        pen.name(name)?;
-        pen.tail(":")?;
+        pen.name(name);
+        pen.tail(":");
     }
-    Ok(())
 }
 
 /// A statement.
 #[cycle(showing_statements)]
-pub(crate) fn statement(tree: &Statement, pen: &mut Pen) -> Result<(), AllocError> {
-    labels(&tree.labels, pen)?;
-    basic(&tree.basic, pen)
+pub(crate) fn statement(tree: &Statement, pen: &mut Pen) {
+    labels(&tree.labels, pen);
+    basic(&tree.basic, pen);
 }
 
 /// Statements in a list.
 #[cycle(showing_statements)]
-fn list(trees: &[Statement], pen: &mut Pen) -> Result<(), AllocError> {
-    pen.open_list()?;
+fn list(trees: &[Statement], pen: &mut Pen) {
+    pen.open_list();
     for tree in trees {
-        statement(tree, pen)?;
+        statement(tree, pen);
     }
-    pen.close_list()
+    pen.close_list();
 }
 
 /// The statements of a group, and the name at its end.
 #[cycle(showing_statements)]
-fn group(tree: &Group, pen: &mut Pen) -> Result<(), AllocError> {
-    list(&tree.statements, pen)?;
-    pen.optional_name("end", &tree.end)
+fn group(tree: &Group, pen: &mut Pen) {
+    list(&tree.statements, pen);
+    pen.optional_name("end", &tree.end);
 }
 
 /// ELSE and a statement, or nothing.
 #[cycle(showing_statements)]
-fn alternative(tree: &Option<Box<Statement>>, pen: &mut Pen) -> Result<(), AllocError> {
+fn alternative(tree: &Option<Box<Statement>>, pen: &mut Pen) {
     match tree {
-        None => Ok(()),
+        None => {}
         Some(inner) => {
-            pen.word("else")?;
-            statement(inner, pen)
+            pen.word("else");
+            statement(inner, pen);
         }
     }
 }
 
 /// A statement without its labels: IF, DO, or another one.
 #[cycle(showing_statements)]
-fn basic(tree: &Basic, pen: &mut Pen) -> Result<(), AllocError> {
+fn basic(tree: &Basic, pen: &mut Pen) {
     match tree {
         Basic::If {
             place,
@@ -66,26 +64,26 @@ fn basic(tree: &Basic, pen: &mut Pen) -> Result<(), AllocError> {
             consequence,
             alternative: other,
         } => {
-            pen.open("if", *place)?;
-            expression(condition, pen)?;
-            statement(consequence, pen)?;
-            alternative(other, pen)?;
+            pen.open("if", *place);
+            expression(condition, pen);
+            statement(consequence, pen);
+            alternative(other, pen);
         }
         Basic::Do {
             place,
             group: inner,
         } => {
-            pen.open("do", *place)?;
-            group(inner, pen)?;
+            pen.open("do", *place);
+            group(inner, pen);
         }
         _ => return other_group(tree, pen),
     }
-    pen.close()
+    pen.close();
 }
 
 /// A DO with a head, or any statement but IF and DO.
 #[cycle(showing_statements)]
-fn other_group(tree: &Basic, pen: &mut Pen) -> Result<(), AllocError> {
+fn other_group(tree: &Basic, pen: &mut Pen) {
     match tree {
         Basic::DoCase {
             place,
@@ -93,19 +91,19 @@ fn other_group(tree: &Basic, pen: &mut Pen) -> Result<(), AllocError> {
             alternative: other,
             group: inner,
         } => {
-            pen.open("case", *place)?;
-            expression(chosen, pen)?;
-            alternative(other, pen)?;
-            group(inner, pen)?;
+            pen.open("case", *place);
+            expression(chosen, pen);
+            alternative(other, pen);
+            group(inner, pen);
         }
         Basic::DoLoop {
             place,
             guard: how_long,
             group: inner,
         } => {
-            pen.open("loop", *place)?;
-            guard(how_long, pen)?;
-            group(inner, pen)?;
+            pen.open("loop", *place);
+            guard(how_long, pen);
+            group(inner, pen);
         }
         Basic::DoFor {
             place,
@@ -115,35 +113,35 @@ fn other_group(tree: &Basic, pen: &mut Pen) -> Result<(), AllocError> {
             guard: how_long,
             group: inner,
         } => {
-            for_head(*place, *temporary, variable, values, how_long, pen)?;
-            group(inner, pen)?;
+            for_head(*place, *temporary, variable, values, how_long, pen);
+            group(inner, pen);
         }
         _ => return other_holder(tree, pen),
     }
-    pen.close()
+    pen.close();
 }
 
 /// A statement that holds other ones and is neither IF nor DO, or one that holds none.
 #[cycle(showing_statements)]
-fn other_holder(tree: &Basic, pen: &mut Pen) -> Result<(), AllocError> {
+fn other_holder(tree: &Basic, pen: &mut Pen) {
     match tree {
         Basic::Update { place, body, close } => {
-            pen.open("update", *place)?;
-            list(body, pen)?;
-            pen.optional_name("close", close)?;
+            pen.open("update", *place);
+            list(body, pen);
+            pen.optional_name("close", close);
         }
         Basic::OnErrorStatement {
             place,
             selector: which,
             handler,
         } => {
-            pen.open("on", *place)?;
-            selector(which, pen)?;
-            statement(handler, pen)?;
+            pen.open("on", *place);
+            selector(which, pen);
+            statement(handler, pen);
         }
         _ => return simple(tree, pen),
     }
-    pen.close()
+    pen.close();
 }
 
 /// DO FOR without its group.
@@ -154,43 +152,43 @@ fn for_head(
     values: &Span,
     how_long: &Option<Guard>,
     pen: &mut Pen,
-) -> Result<(), AllocError> {
-    pen.open("for", place)?;
+) {
+    pen.open("for", place);
     if temporary {
-        pen.word("temporary")?;
+        pen.word("temporary");
     }
-    pen.name(variable)?;
-    span(values, pen)?;
-    optional_guard(how_long, pen)
+    pen.name(variable);
+    span(values, pen);
+    optional_guard(how_long, pen);
 }
 
 /// A statement that holds no other one.
-fn simple(tree: &Basic, pen: &mut Pen) -> Result<(), AllocError> {
+fn simple(tree: &Basic, pen: &mut Pen) {
     match tree {
-        Basic::Null { place } => pen.open("null", *place)?,
+        Basic::Null { place } => pen.open("null", *place),
         Basic::Assignment {
             place,
             receivers,
             value,
         } => {
-            pen.open("assign", *place)?;
-            receiver_list(receivers, pen)?;
-            expression(value, pen)?;
+            pen.open("assign", *place);
+            receiver_list(receivers, pen);
+            expression(value, pen);
         }
         _ => return other_simple(tree, pen),
     }
-    pen.close()
+    pen.close();
 }
 
 /// A statement that holds no other one and is neither null nor an assignment.
-fn other_simple(tree: &Basic, pen: &mut Pen) -> Result<(), AllocError> {
+fn other_simple(tree: &Basic, pen: &mut Pen) {
     match tree {
-        Basic::Exit { place, label } => label_jump("exit", *place, label, pen)?,
-        Basic::Repeat { place, label } => label_jump("repeat", *place, label, pen)?,
+        Basic::Exit { place, label } => label_jump("exit", *place, label, pen),
+        Basic::Repeat { place, label } => label_jump("repeat", *place, label, pen),
         Basic::Return { place, value } => {
-            pen.open("return", *place)?;
+            pen.open("return", *place);
             if let Some(value) = value {
-                expression(value, pen)?;
+                expression(value, pen);
             }
         }
         Basic::Call {
@@ -198,49 +196,44 @@ fn other_simple(tree: &Basic, pen: &mut Pen) -> Result<(), AllocError> {
             name,
             arguments,
             receivers,
-        } => call(*place, name, arguments, receivers, pen)?,
+        } => call(*place, name, arguments, receivers, pen),
         Basic::Read {
             place,
             channel,
             receivers,
         } => {
-            pen.open("read", *place)?;
-            expression(channel, pen)?;
-            references(receivers, pen)?;
+            pen.open("read", *place);
+            expression(channel, pen);
+            references(receivers, pen);
         }
         Basic::Write {
             place,
             channel,
             items,
         } => {
-            pen.open("write", *place)?;
-            expression(channel, pen)?;
-            expressions(items, pen)?;
+            pen.open("write", *place);
+            expression(channel, pen);
+            expressions(items, pen);
         }
         _ => return of_processes(tree, pen),
     }
-    pen.close()
+    pen.close();
 }
 
 /// References in a list.
-fn receiver_list(trees: &[Reference], pen: &mut Pen) -> Result<(), AllocError> {
-    pen.open_list()?;
+fn receiver_list(trees: &[Reference], pen: &mut Pen) {
+    pen.open_list();
     for tree in trees {
-        reference(tree, pen)?;
+        reference(tree, pen);
     }
-    pen.close_list()
+    pen.close_list();
 }
 
 /// EXIT or REPEAT.
-fn label_jump(
-    kind: &str,
-    place: Place,
-    label: &Option<Identifier>,
-    pen: &mut Pen,
-) -> Result<(), AllocError> {
-    pen.open(kind, place)?;
+fn label_jump(kind: &str, place: Place, label: &Option<Identifier>, pen: &mut Pen) {
+    pen.open(kind, place);
     match label {
-        None => Ok(()),
+        None => {}
         Some(label) => pen.name(label),
     }
 }
@@ -252,88 +245,88 @@ fn call(
     arguments: &[Expr],
     receivers: &[Reference],
     pen: &mut Pen,
-) -> Result<(), AllocError> {
-    pen.open("call", place)?;
-    pen.name(name)?;
-    pen.open_list()?;
-    expressions(arguments, pen)?;
-    pen.close_list()?;
-    receiver_list(receivers, pen)
+) {
+    pen.open("call", place);
+    pen.name(name);
+    pen.open_list();
+    expressions(arguments, pen);
+    pen.close_list();
+    receiver_list(receivers, pen);
 }
 
 /// A statement about processes, events and times, or errors.
-fn of_processes(tree: &Basic, pen: &mut Pen) -> Result<(), AllocError> {
+fn of_processes(tree: &Basic, pen: &mut Pen) {
     match tree {
         Basic::Schedule {
             place,
             schedule: what,
         } => {
-            pen.open("schedule", *place)?;
-            schedule(what, pen)?;
+            pen.open("schedule", *place);
+            schedule(what, pen);
         }
         Basic::Cancel { place, names } => {
-            pen.open("cancel", *place)?;
-            pen.names(names)?;
+            pen.open("cancel", *place);
+            pen.names(names);
         }
         Basic::Terminate { place, names } => {
-            pen.open("terminate", *place)?;
-            pen.names(names)?;
+            pen.open("terminate", *place);
+            pen.names(names);
         }
         Basic::Event(change) => {
-            pen.word("(")?;
+            pen.word("(");
             pen.join();
-            event(change, pen)?;
+            event(change, pen);
         }
         Basic::UpdatePriority {
             place,
             name,
             priority,
         } => {
-            pen.open("priority", *place)?;
-            pen.optional_name("of", name)?;
-            expression(priority, pen)?;
+            pen.open("priority", *place);
+            pen.optional_name("of", name);
+            expression(priority, pen);
         }
         _ => return wait(tree, pen),
     }
-    pen.close()
+    pen.close();
 }
 
 /// WAIT, or a statement about errors.
-fn wait(tree: &Basic, pen: &mut Pen) -> Result<(), AllocError> {
+fn wait(tree: &Basic, pen: &mut Pen) {
     match tree {
         Basic::Wait { place, time } => {
-            pen.open("wait", *place)?;
-            expression(time, pen)?;
+            pen.open("wait", *place);
+            expression(time, pen);
         }
         Basic::WaitUntil { place, time } => {
-            pen.open("wait", *place)?;
-            pen.word("until")?;
-            expression(time, pen)?;
+            pen.open("wait", *place);
+            pen.word("until");
+            expression(time, pen);
         }
         Basic::WaitForDependent { place } => {
-            pen.open("wait", *place)?;
-            pen.word("dependent")?;
+            pen.open("wait", *place);
+            pen.word("dependent");
         }
         Basic::WaitFor { place, event: when } => {
-            pen.open("wait", *place)?;
-            pen.word("for")?;
-            expression(when, pen)?;
+            pen.open("wait", *place);
+            pen.word("for");
+            expression(when, pen);
         }
         _ => return of_errors(tree, pen),
     }
-    pen.close()
+    pen.close();
 }
 
 /// AND and what happens to an event, or nothing.
-fn optional_event(tree: &Option<EventChange>, pen: &mut Pen) -> Result<(), AllocError> {
+fn optional_event(tree: &Option<EventChange>, pen: &mut Pen) {
     match tree {
-        None => Ok(()),
+        None => {}
         Some(change) => event(change, pen),
     }
 }
 
 /// A statement about errors.
-fn of_errors(tree: &Basic, pen: &mut Pen) -> Result<(), AllocError> {
+fn of_errors(tree: &Basic, pen: &mut Pen) {
     match tree {
         Basic::OnErrorResponse {
             place,
@@ -341,30 +334,30 @@ fn of_errors(tree: &Basic, pen: &mut Pen) -> Result<(), AllocError> {
             response: what,
             event: change,
         } => {
-            pen.open("on", *place)?;
-            selector(which, pen)?;
-            response(*what, pen)?;
-            optional_event(change, pen)?;
+            pen.open("on", *place);
+            selector(which, pen);
+            response(*what, pen);
+            optional_event(change, pen);
         }
         Basic::OffError {
             place,
             selector: which,
         } => {
-            pen.open("off", *place)?;
-            selector(which, pen)?;
+            pen.open("off", *place);
+            selector(which, pen);
         }
         Basic::SendError {
             place,
             group: first,
             number,
         } => {
-            pen.open("send", *place)?;
-            pen.number(u64::from(*first))?;
-            pen.tail(":")?;
+            pen.open("send", *place);
+            pen.number(u64::from(*first));
+            pen.tail(":");
             pen.join();
-            pen.number(u64::from(*number))?;
+            pen.number(u64::from(*number));
         }
-        _ => pen.word("(another statement")?,
+        _ => pen.word("(another statement"),
     }
-    pen.close()
+    pen.close();
 }

@@ -9,55 +9,54 @@ use hal_base::Place;
 use hal_tree::{
     Element, File, Head, Identifier, Mode, Precision, Preface, Returns, Template, Unit,
 };
-use std::alloc::AllocError;
 
 /// Names in a list.
-fn name_list(names: &[Identifier], pen: &mut Pen) -> Result<(), AllocError> {
-    pen.open_list()?;
-    pen.names(names)?;
-    pen.close_list()
+fn name_list(names: &[Identifier], pen: &mut Pen) {
+    pen.open_list();
+    pen.names(names);
+    pen.close_list();
 }
 
 /// A word and its place.
-fn plain(word: &str, place: Place, pen: &mut Pen) -> Result<(), AllocError> {
-    pen.word(word)?;
-    pen.place(place)
+fn plain(word: &str, place: Place, pen: &mut Pen) {
+    pen.word(word);
+    pen.place(place);
 }
 
 /// How a block is shared, or nothing.
-fn mode(tree: &Option<Mode>, pen: &mut Pen) -> Result<(), AllocError> {
+fn mode(tree: &Option<Mode>, pen: &mut Pen) {
     match tree {
-        None => Ok(()),
+        None => {}
         Some(Mode::Reentrant { place }) => plain("reentrant", *place, pen),
         Some(Mode::Exclusive { place }) => plain("exclusive", *place, pen),
     }
 }
 
 /// The precision of a result, or nothing.
-fn precision(tree: &Option<Precision>, pen: &mut Pen) -> Result<(), AllocError> {
+fn precision(tree: &Option<Precision>, pen: &mut Pen) {
     match tree {
-        None => Ok(()),
+        None => {}
         Some(Precision::Single { place }) => plain("single", *place, pen),
         Some(Precision::Double { place }) => plain("double", *place, pen),
     }
 }
 
 /// The type of a result, or nothing.
-fn returns(tree: &Returns, pen: &mut Pen) -> Result<(), AllocError> {
+fn returns(tree: &Returns, pen: &mut Pen) {
     match tree {
-        Returns::Untyped => Ok(()),
+        Returns::Untyped => {}
         Returns::Typed {
             kind,
             precision: how,
         } => {
-            type_of(kind, pen)?;
-            precision(how, pen)
+            type_of(kind, pen);
+            precision(how, pen);
         }
     }
 }
 
 /// The head of a unit.
-fn head(tree: &Head, pen: &mut Pen) -> Result<(), AllocError> {
+fn head(tree: &Head, pen: &mut Pen) {
     match tree {
         Head::Program { place } => plain("program", *place, pen),
         Head::Compool { place } => plain("compool", *place, pen),
@@ -68,11 +67,11 @@ fn head(tree: &Head, pen: &mut Pen) -> Result<(), AllocError> {
             outputs,
             mode: shared,
         } => {
-            pen.open("procedure", *place)?;
-            name_list(inputs, pen)?;
-            name_list(outputs, pen)?;
-            mode(shared, pen)?;
-            pen.close()
+            pen.open("procedure", *place);
+            name_list(inputs, pen);
+            name_list(outputs, pen);
+            mode(shared, pen);
+            pen.close();
         }
         Head::Function {
             place,
@@ -80,34 +79,34 @@ fn head(tree: &Head, pen: &mut Pen) -> Result<(), AllocError> {
             returns: result,
             mode: shared,
         } => {
-            pen.open("function", *place)?;
-            name_list(inputs, pen)?;
-            returns(result, pen)?;
-            mode(shared, pen)?;
-            pen.close()
+            pen.open("function", *place);
+            name_list(inputs, pen);
+            returns(result, pen);
+            mode(shared, pen);
+            pen.close();
         }
     }
 }
 
 /// A unit.
 #[cycle(showing_units)]
-fn unit(tree: &Unit, pen: &mut Pen) -> Result<(), AllocError> {
-    pen.word("(unit")?;
-    pen.name(&tree.name)?;
-    head(&tree.head, pen)?;
-    pen.open_list()?;
-    declarations(&tree.declarations, pen)?;
-    pen.close_list()?;
-    pen.open_list()?;
-    elements(&tree.elements, pen)?;
-    pen.close_list()?;
-    pen.optional_name("close", &tree.close)?;
-    pen.close()
+fn unit(tree: &Unit, pen: &mut Pen) {
+    pen.word("(unit");
+    pen.name(&tree.name);
+    head(&tree.head, pen);
+    pen.open_list();
+    declarations(&tree.declarations, pen);
+    pen.close_list();
+    pen.open_list();
+    elements(&tree.elements, pen);
+    pen.close_list();
+    pen.optional_name("close", &tree.close);
+    pen.close();
 }
 
 /// A statement or a unit.
 #[cycle(showing_units)]
-fn element(tree: &Element, pen: &mut Pen) -> Result<(), AllocError> {
+fn element(tree: &Element, pen: &mut Pen) {
     match tree {
         Element::Statement(inner) => statement(inner, pen),
         Element::Unit(inner) => unit(inner, pen),
@@ -116,41 +115,40 @@ fn element(tree: &Element, pen: &mut Pen) -> Result<(), AllocError> {
 
 /// Statements and units.
 #[cycle(showing_units)]
-pub(crate) fn elements(trees: &[Element], pen: &mut Pen) -> Result<(), AllocError> {
+pub(crate) fn elements(trees: &[Element], pen: &mut Pen) {
     for tree in trees {
-        element(tree, pen)?;
+        element(tree, pen);
     }
-    Ok(())
 }
 
 /// A template.
-fn template(tree: &Template, pen: &mut Pen) -> Result<(), AllocError> {
-    pen.word("(template")?;
-    pen.name(&tree.name)?;
-    head(&tree.head, pen)?;
-    pen.open_list()?;
-    declarations(&tree.declarations, pen)?;
-    pen.close_list()?;
-    pen.optional_name("close", &tree.close)?;
-    pen.close()
+fn template(tree: &Template, pen: &mut Pen) {
+    pen.word("(template");
+    pen.name(&tree.name);
+    head(&tree.head, pen);
+    pen.open_list();
+    declarations(&tree.declarations, pen);
+    pen.close_list();
+    pen.optional_name("close", &tree.close);
+    pen.close();
 }
 
 /// INCLUDE or a template.
-fn preface(tree: &Preface, pen: &mut Pen) -> Result<(), AllocError> {
+fn preface(tree: &Preface, pen: &mut Pen) {
     match tree {
         Preface::Include { place, name } => {
-            pen.open("include", *place)?;
-            pen.name(name)?;
-            pen.close()
+            pen.open("include", *place);
+            pen.name(name);
+            pen.close();
         }
         Preface::Template(inner) => template(inner, pen),
     }
 }
 
 /// A file.
-pub(crate) fn file(tree: &File, pen: &mut Pen) -> Result<(), AllocError> {
+pub(crate) fn file(tree: &File, pen: &mut Pen) {
     for one in &tree.prefaces {
-        preface(one, pen)?;
+        preface(one, pen);
     }
-    unit(&tree.unit, pen)
+    unit(&tree.unit, pen);
 }

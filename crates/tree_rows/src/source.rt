@@ -64,12 +64,12 @@ fn returned(tree: &File) -> Option<&Expr> {
 }
 
 /// As much of a file's tree as a row holds.
-fn write_tree(source: Source, tree: &File, pen: &mut Pen) -> Result<(), AllocError> {
+fn write_tree(source: Source, tree: &File, pen: &mut Pen) {
     match source {
         Source::File => file(tree, pen),
         Source::Inside => {
-            declarations(&tree.unit.declarations, pen)?;
-            elements(&tree.unit.elements, pen)
+            declarations(&tree.unit.declarations, pen);
+            elements(&tree.unit.elements, pen);
         }
         Source::Value => match returned(tree) {
             Some(value) => expression(value, pen),
@@ -79,21 +79,20 @@ fn write_tree(source: Source, tree: &File, pen: &mut Pen) -> Result<(), AllocErr
 }
 
 /// A broken rule, and where it is broken.
-pub(crate) fn write_fault(fault: &Fault, pen: &mut Pen) -> Result<(), AllocError> {
+pub(crate) fn write_fault(fault: &Fault, pen: &mut Pen) {
     match fault {
         Fault::Broken(refusal) => {
-            pen.word("rule")?;
-            pen.number(u64::from(refusal.rule.0))?;
-            pen.number(refusal.place.line)?;
-            pen.tail(":")?;
+            pen.word("rule");
+            pen.number(u64::from(refusal.rule.0));
+            pen.number(refusal.place.line);
+            pen.tail(":");
             pen.join();
-            pen.number(refusal.place.column)?;
+            pen.number(refusal.place.column);
             if refusal.place.unit != UNIT {
-                pen.word("of another file")?;
+                pen.word("of another file");
             }
-            Ok(())
         }
-        Fault::Memory(_) => Err(AllocError),
+        Fault::Memory(_) => pen.cut(),
     }
 }
 
@@ -116,18 +115,15 @@ fn tree_of(alloc: Global, source: Source, text: &[u8]) -> Result<File, Fault> {
 }
 
 /// Writes a copy of a tree, so that each row tries copies too.
-fn write_copy(alloc: Global, source: Source, tree: &File, pen: &mut Pen) -> Result<(), AllocError> {
-    let copied = copy_file(alloc, tree)?;
-    write_tree(source, &copied, pen)
+fn write_copy(alloc: Global, source: Source, tree: &File, pen: &mut Pen) {
+    match copy_file(alloc, tree) {
+        Ok(copied) => write_tree(source, &copied, pen),
+        Err(_) => pen.cut(),
+    }
 }
 
 /// Writes what a source gives.
-fn write_given(
-    alloc: Global,
-    source: Source,
-    text: &[u8],
-    pen: &mut Pen,
-) -> Result<(), AllocError> {
+fn write_given(alloc: Global, source: Source, text: &[u8], pen: &mut Pen) {
     match tree_of(alloc, source, text) {
         Err(fault) => write_fault(&fault, pen),
         Ok(tree) => write_copy(alloc, source, &tree, pen),
@@ -142,8 +138,8 @@ pub(crate) fn given(
     text: &[u8],
 ) -> Result<String, AllocError> {
     let mut pen = Pen::new(alloc, has_places);
-    write_given(alloc, source, text, &mut pen)?;
-    Ok(pen.into_text())
+    write_given(alloc, source, text, &mut pen);
+    pen.into_text()
 }
 
 /// The rule that a source breaks, and its place.
@@ -156,6 +152,7 @@ pub(crate) fn broken(
         return Ok(None);
     };
     let mut pen = Pen::new(alloc, false);
-    write_fault(&fault, &mut pen)?;
-    Ok(Some(pen.into_text()))
+    write_fault(&fault, &mut pen);
+    let broken = pen.into_text()?;
+    Ok(Some(broken))
 }

@@ -18,14 +18,24 @@ impl Rows for TreeRows {
         let Some((notation, said)) = row.split_once(ARROW) else {
             return String::from_str(alloc, "a row with no source");
         };
-        let given = match Way::named(way) {
-            None => String::from_str(alloc, "a way in which nothing is tried")?,
-            Some(Way::Nest(source)) => nesting::given(alloc, source, notation, said)?,
-            Some(Way::Longest) => of_longest(alloc, notation)?,
-            Some(Way::Tree(source)) => of_tree(alloc, source, false, notation)?,
-            Some(Way::Places(source)) => of_tree(alloc, source, true, notation)?,
-        };
+        let given = given(alloc, Way::named(way), notation, said)?;
         format!(in alloc; "{notation}{ARROW}{given}")
+    }
+}
+
+/// What a source gives that is tried so.
+fn given(
+    alloc: Global,
+    way: Option<Way>,
+    notation: &str,
+    said: &str,
+) -> Result<String, AllocError> {
+    match way {
+        None => String::from_str(alloc, "a way in which nothing is tried"),
+        Some(Way::Nest(source)) => nesting::given(alloc, source, notation, said),
+        Some(Way::Longest) => of_longest(alloc, notation),
+        Some(Way::Tree(source)) => of_tree(alloc, source, false, notation),
+        Some(Way::Places(source)) => of_tree(alloc, source, true, notation),
     }
 }
 

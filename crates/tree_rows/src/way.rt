@@ -1,4 +1,4 @@
-//! How rows are tried, each way under the name that files of rows give it.
+//! How rows are tried. Files of rows write `tree: file`: what is looked at, and what the row's source is.
 
 use crate::source::Source;
 
@@ -15,26 +15,35 @@ pub(crate) enum Way {
     Longest,
 }
 
-const WAYS: [(&str, Way); 9] = [
-    ("file", Way::Tree(Source::File)),
-    ("inside a program", Way::Tree(Source::Inside)),
-    ("returned value", Way::Tree(Source::Value)),
-    ("file with places", Way::Places(Source::File)),
-    ("inside a program with places", Way::Places(Source::Inside)),
-    ("returned value with places", Way::Places(Source::Value)),
-    ("nest in a file", Way::Nest(Source::File)),
-    ("nest inside a program", Way::Nest(Source::Inside)),
-    ("longest expression", Way::Longest),
-];
+fn source_named(name: &str) -> Option<Source> {
+    match name {
+        "file" => Some(Source::File),
+        "inside a program" => Some(Source::Inside),
+        "returned value" => Some(Source::Value),
+        _ => None,
+    }
+}
+
+/// The way that looks at this of a source.
+fn way_of(what: &str, source: Source) -> Option<Way> {
+    match what {
+        "tree" => Some(Way::Tree(source)),
+        "places" => Some(Way::Places(source)),
+        "nest" => Some(Way::Nest(source)),
+        _ => None,
+    }
+}
 
 impl Way {
     /// The way that has this name.
     pub(crate) fn named(name: &str) -> Option<Way> {
-        for (named, way) in WAYS {
-            if named == name {
-                return Some(way);
-            }
+        if name == "longest: expression" {
+            return Some(Way::Longest);
         }
-        None
+        let (what, source) = name.split_once(": ").unwrap_or((name, ""));
+        match source_named(source) {
+            None => None,
+            Some(source) => way_of(what, source),
+        }
     }
 }

@@ -1,15 +1,8 @@
-//! What files of rows and cases can't say of `hal`: laws that follow from the definitions alone, and tests of devices that fail, of
-//! files that are absent or too long, and of the adapters to the outside. Every expected text was worked out by hand
+//! Laws that follow from the definitions alone: what a text means, which runs it has, and what they report. Every expected text was worked out by hand
 //! from docs/LANGUAGE.md and docs/EXECUTIVE.md.
 #![tactic(auto)]
 
-#[cfg(test)]
-mod adapters;
-#[cfg(test)]
-mod answer;
 mod laws;
-#[cfg(test)]
-mod outside;
 
 pub use laws::{
     count_has_its_meaning, count_is_closed, hello_has_its_meaning, hello_is_begun, hello_is_built,
