@@ -1,4 +1,4 @@
-use Rattle.std.proofs.Common.{◌≡◌, length, get_or, rules, arith}
+use Rattle.std.proofs.Common.{rules, arith}
 use Rattle.hal_lexer.specs.Nothing.{IsNothing}
 use Rattle.hal_lexer.proofs.Raised.{nothing_more, nothing_all}
 use Rattle.hal_lexer.proofs.nothing.are_nothing.Goals as goal

@@ -1,4 +1,4 @@
-use Rattle.std.proofs.Common.{◌≡◌, ◌∙◌, sym, ap, rules}
+use Rattle.std.proofs.Common.{◌≡◌, ◌∙◌, sym, ap}
 use Rattle.hal_words.specs.declared.word.Word.TheVariants as word
 use Rattle.hal_lexer.proofs.NameEquality.{eq-same}
 use Rattle.hal_lexer.proofs.Tables.{same_name}
