@@ -1,5 +1,5 @@
 -- The texts between two `"` of a file have no end of a line and no `"`.
-use Rattle.std.proofs.Common.{◌≡◌, ◌≢◌, ◌+◌, ℕ, zero, suc, pred, inl, inr, Bool, true, false, not, ◌||◌, List, [], ◌∷◌, length, drop, Option, Some, None, All, arith}
+use Rattle.std.proofs.Common.{◌≢◌, ◌+◌, ℕ, zero, suc, pred, inl, inr, Bool, true, false, not, ◌||◌, ◌&&◌, List, [], ◌∷◌, ◌++◌, length, drop, Option, Some, None, All, arith}
 use Rattle.std.specs.Prelude.{if◌then◌else◌, ◌==◌, nat_le, take_while, ⊤}
 use Rattle.std.proofs.lemmas.Bool.{cases_Bool}
 use Rattle.std.proofs.lemmas.Bool.Decides.{nat_tests}
@@ -11,9 +11,9 @@ use Rattle.hal_words.specs.declared.reserved.Reserved.TheVariants as reserved
 use Rattle.hal_words.specs.declared.word.Word.TheVariants as word
 use Rattle.hal_words.specs.Letters.{is_blank}
 use Rattle.hal_words.specs.Numbers.{begins}
-use Rattle.hal_words.specs.Pieces.{Piece, Is, Replacement, Wrong, replacement, piece}
+use Rattle.hal_words.specs.Pieces.{Piece, Is, Replacement, Wrong, replacement, piece, piece_or_text}
 use Rattle.hal_words.specs.Lines.{Item, item, Cell, Byte, Given, place_at, main_cells, included, include_cells, directive_cells, line_cells, lines_cells, file_cells}
-use Rattle.hal_words.specs.Items.{line_of, begins_comment, main_item, comment_rest, behind, fault_if_open, begun, items, file_items}
+use Rattle.hal_words.specs.Items.{line_of, begins_comment, main_item, comment_rest, behind, fault_if_open, opens_text, begun, items, file_items}
 use Rattle.hal_lexer.specs.Texts.{IsTextByte, IsText, IsTextOf, HoldsText, IsNoMark}
 use Rattle.hal_lexer.proofs.Marks.{piece_no_mark}
 
@@ -43,14 +43,11 @@ replacement_text text all = elim (cases_Bool (begins (λ b. b == 34) (drop (leng
   | inr opened ↦ rw opened tt
 ]
 
-marked_text : (b : ℕ) (text : List ℕ) → b ≡ 34 → All IsPlain text → IsTextOf (piece (b ∷ text)).0
-marked_text b text is all = rw is (replacement_text text all)
-
-piece_text : (line : List ℕ) → All IsPlain line → IsTextOf (piece line).0
-piece_text [] all = tt
-piece_text (b ∷ text) all = elim (cases_Bool (b == 34)) [
-  | inl mark ↦ let is : b ≡ 34 = grind (arith, nat_tests) in marked_text b text is (All-drop IsPlain 1 (b ∷ text) all)
-  | inr other ↦ let no_mark : b ≢ 34 = grind (arith, nat_tests) in text_of_piece (piece (b ∷ text)).0 (piece_no_mark b text no_mark)
+piece_text : (opens : Bool) (line : List ℕ) → All IsPlain line → IsTextOf (piece_or_text opens line).0
+piece_text opens [] all = tt
+piece_text opens (b ∷ text) all = elim (cases_Bool (b == 34 && opens)) [
+  | inl mark ↦ rw mark (replacement_text text (All-drop IsPlain 1 (b ∷ text) all))
+  | inr other ↦ rw other (text_of_piece (piece (b ∷ text)).0 (piece_no_mark (b ∷ text)))
 ]
 
 main_text : (one : Piece) (place : Place) → IsTextOf one → HoldsText (main_item one place)
@@ -80,23 +77,24 @@ open_text : (size : Option ℕ) (place : Place) → All HoldsText (fault_if_open
 open_text None place = one_text (item (Wrong 202) place) tt
 open_text (Some size) place = All-nil HoldsText
 
-begun_texts : (b : ℕ) (place : Place) (line : List ℕ) (cells : List Cell) → All IsPlain line → All HoldsText (begun b place line cells).0
-begun_texts b place line cells all = elim (cases_Bool (is_blank b || b == 10)) [
+begun_texts : (before : List Item) (b : ℕ) (place : Place) (line : List ℕ) (cells : List Cell) → All IsPlain line → All HoldsText (begun before b place line cells).0
+begun_texts before b place line cells all = elim (cases_Bool (is_blank b || b == 10)) [
   | inl blank ↦ rw blank (All-nil HoldsText)
   | inr other ↦ elim (cases_Bool (begins_comment line)) [
     | inl comment ↦ rw (other, comment) (open_text (comment_rest false (behind cells)) place)
-    | inr no_comment ↦ rw (other, no_comment) (one_text (main_item (piece line).0 place) (main_text (piece line).0 place (piece_text line all)))
+    | inr no_comment ↦ rw (other, no_comment) (one_text (main_item (piece_or_text (opens_text before) line).0 place) (main_text (piece_or_text (opens_text before) line).0 place (piece_text (opens_text before) line all)))
   ]
 ]
 
-items_texts : (n : ℕ) (cells : List Cell) → All GivenHolds cells → All HoldsText (items n cells)
-items_texts n [] all = All-nil HoldsText
-items_texts n (Given one ∷ cells) all = All-cons HoldsText one (items (pred n) cells) (all 0 (Given one) (omega arith)) (items_texts (pred n) cells (All-drop GivenHolds 1 (Given one ∷ cells) all))
-items_texts (suc n) (Byte b place ∷ cells) all = items_texts n cells (All-drop GivenHolds 1 (Byte b place ∷ cells) all)
-items_texts zero (Byte b place ∷ cells) all =
+items_texts : (before : List Item) (n : ℕ) (cells : List Cell) → All GivenHolds cells → All HoldsText (items before n cells)
+items_texts before n [] all = All-nil HoldsText
+items_texts before n (Given one ∷ cells) all = All-cons HoldsText one (items (before ++ one ∷ []) (pred n) cells) (all 0 (Given one) (omega arith)) (items_texts (before ++ one ∷ []) (pred n) cells (All-drop GivenHolds 1 (Given one ∷ cells) all))
+items_texts before (suc n) (Byte b place ∷ cells) all = items_texts before n cells (All-drop GivenHolds 1 (Byte b place ∷ cells) all)
+items_texts before zero (Byte b place ∷ cells) all =
     let line = line_of (Byte b place ∷ cells) in
-    All-append HoldsText (begun b place line cells).0 (items (begun b place line cells).1 cells) (begun_texts b place line cells (line_plain (Byte b place ∷ cells)))
-    (items_texts (begun b place line cells).1 cells (All-drop GivenHolds 1 (Byte b place ∷ cells) all))
+    let found = begun before b place line cells in
+    All-append HoldsText found.0 (items (before ++ found.0) found.1 cells) (begun_texts before b place line cells (line_plain (Byte b place ∷ cells)))
+    (items_texts (before ++ found.0) found.1 cells (All-drop GivenHolds 1 (Byte b place ∷ cells) all))
 
 -- cells of lines
 no_cells : Holds []
@@ -141,4 +139,4 @@ lines_hold unit line (text ∷ texts) =
 
 -- each text of a definition in a file
 pub file_texts : (unit : ℕ) (text : List ℕ) → All HoldsText (file_items unit text)
-file_texts unit text = items_texts 0 (file_cells unit text) (lines_hold unit 1 (lines text)).is
+file_texts unit text = items_texts [] 0 (file_cells unit text) (lines_hold unit 1 (lines text)).is

@@ -1,7 +1,6 @@
 -- Which pieces begin with a `"`.
-use Rattle.std.proofs.Common.{◌≡◌, ◌≢◌, ◌<◌, ℕ, Bool, true, false, List, [], ◌∷◌, length, get_or, map, drop, nat_le, Option, Some, None, All, sym, ap, ◌∙◌, subst, arith}
+use Rattle.std.proofs.Common.{◌≡◌, ◌<◌, ℕ, Bool, true, false, List, [], ◌∷◌, length, get_or, map, drop, nat_le, Option, Some, None, All, sym, ap, ◌∙◌, subst, arith}
 use Rattle.std.specs.Prelude.{if◌then◌else◌, ◌==◌}
-use Rattle.std.proofs.lemmas.Bool.Decides.{nat_tests}
 use Rattle.std.proofs.lemmas.List.{length-map, get_or-map}
 use Rattle.hal_words.specs.declared.reserved.Reserved.{Reserved}
 use Rattle.hal_words.specs.declared.word.Word.{Word}
@@ -77,12 +76,13 @@ signs_no_mark : (b : ℕ) (text : List ℕ) → NoMark (signs b text).0
 signs_no_mark b [] = sign_no_mark b
 signs_no_mark b (c ∷ text) = longer_no_mark (pair b c) b
 
--- a piece that doesn't begin with a `"`
-begun_no_mark : (b : ℕ) (text : List ℕ) → (b == 34) ≡ false → NoMark (piece (b ∷ text)).0
-begun_no_mark b text other = rw other (either_size (is_letter b) (letters (b ∷ text)) _
+-- no piece begins with a `"` but where a text may be opened
+begun_no_mark : (b : ℕ) (text : List ℕ) → NoMark (piece (b ∷ text)).0
+begun_no_mark b text = either_size (is_letter b) (letters (b ∷ text)) _
     (letters_no_mark (base_of (run_of (b ∷ text))) (run_of (b ∷ text)) (drop (length (run_of (b ∷ text))) (b ∷ text)))
     (either_size (begins_number (b ∷ text)) (number (b ∷ text)) _ (number_no_mark (b ∷ text))
-    (either_size (b == 39) (literal text) (signs b text) (literal_no_mark (length text) (inside text)) (signs_no_mark b text))))
+    (either_size (b == 39) (literal text) (signs b text) (literal_no_mark (length text) (inside text)) (signs_no_mark b text)))
 
-pub piece_no_mark : (b : ℕ) (text : List ℕ) → b ≢ 34 → IsNoMark (piece (b ∷ text)).0
-piece_no_mark b text other = let not_mark : (b == 34) ≡ false = grind (arith, nat_tests) in (begun_no_mark b text not_mark).is
+pub piece_no_mark : (text : List ℕ) → IsNoMark (piece text).0
+piece_no_mark [] = tt
+piece_no_mark (b ∷ text) = (begun_no_mark b text).is

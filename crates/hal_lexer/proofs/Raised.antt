@@ -1,10 +1,9 @@
 -- A name is compiled from the words of its text.
-use Rattle.std.proofs.Common.{◌≡◌, ℕ, List, [], ◌∷◌, ◌++◌, length, map, drop, Some, None, refl, sym, ap, subst, ◌∙◌, append_assoc, append-nil}
-use Rattle.std.proofs.lemmas.List.Elements.{All-cons, All-nil}
-use Rattle.std.specs.Option.{option_to_list}
+use Rattle.std.proofs.Common.{◌≡◌, ℕ, List, [], ◌∷◌, ◌++◌, ◌+◌, ◌<◌, ◌≤◌, length, get_or, map, take, Some, None, refl, sym, ap, subst, ◌∙◌, append_assoc, append-nil}
+use Rattle.std.proofs.lemmas.List.Elements.{All-append, All-cons, All-head, All-nil, All-tail}
+use Rattle.std.proofs.lemmas.List.{take_all, take_more}
 use Rattle.hal_base.specs.declared.refusal.Place.{Place}
 use Rattle.hal_words.specs.declared.word.Word.TheVariants as word
-use Rattle.hal_words.specs.Lines.{Item}
 use Rattle.hal_words.specs.Replacing.{Definitions, text_items}
 use Rattle.hal_words.specs.Reserved.{look_up}
 use Rattle.hal_lexer.specs.declared.child.Child.{Child}
@@ -12,6 +11,7 @@ use Rattle.hal_lexer.specs.declared.child.Child.TheVariants as child
 use Rattle.hal_lexer.specs.declared.text.Part.{Part}
 use Rattle.hal_lexer.specs.Compiled.{Table, number_of, word_children, IsBelow, IsReadAs, IsCompiled}
 use Rattle.hal_lexer.specs.Parts.{part_item, AreParts}
+use Rattle.hal_lexer.specs.Nothing.{AreNothing, IsNothing, IsSpent}
 use Rattle.hal_lexer.proofs.Readings.{read_below}
 
 -- the children of the other parts stand behind those of the first ones
@@ -35,14 +35,36 @@ behind_end table parts rest children none behind place =
     subst (λ (list : List Child). IsReadAs table place (map (part_item place) parts) list) (append-nil children) (behind place [] ends)
 
 -- one more name
+pub read_compiled : (definitions : Definitions) (old new : Table) (name text : List ℕ) (children : List Child) → new ≡ (name, children) ∷ old → IsCompiled definitions old → number_of old name ≡ None
+    → look_up definitions name ≡ Some text → ((place : Place) → IsReadAs old place (text_items place text) children) → IsCompiled definitions new
+read_compiled definitions old new name text children added compiled uncompiled defined whole =
+    let somewhere : Place = record { unit = 0; line = 0; column = 0 } in
+    rw added ((read_below old somewhere (text_items somewhere text) children compiled.0 (whole somewhere), uncompiled, compiled.0), (rw defined whole, compiled.1))
+
 pub raised_compiled : (definitions : Definitions) (old new : Table) (name text : List ℕ) (parts : List Part) (children : List Child) → new ≡ (name, children) ∷ old → IsCompiled definitions old → number_of old name ≡ None
     → look_up definitions name ≡ Some text → AreParts text parts → ((place : Place) → IsReadAs old place (map (part_item place) parts) children) → IsCompiled definitions new
 raised_compiled definitions old new name text parts children added compiled uncompiled defined are read =
-    let somewhere : Place = record { unit = 0; line = 0; column = 0 } in
-    let whole : (place : Place) → IsReadAs old place (text_items place text) children = λ place. rw (are place) (read place) in
-    rw added ((read_below old somewhere (text_items somewhere text) children compiled.0 (whole somewhere), uncompiled, compiled.0), (rw defined whole, compiled.1))
+    read_compiled definitions old new name text children added compiled uncompiled defined (λ place. rw (are place) (read place))
 
 pub left_compiled : (definitions : Definitions) (old new : Table) (name : List ℕ) → new ≡ (name, child.Word (word.Name name) ∷ []) ∷ old → IsCompiled definitions old → number_of old name ≡ None
     → look_up definitions name ≡ None → IsCompiled definitions new
 left_compiled definitions old new name added compiled uncompiled none =
     rw added ((All-cons (IsBelow (length old)) (child.Word (word.Name name)) [] tt (All-nil (IsBelow (length old))), uncompiled, compiled.0), (rw none refl, compiled.1))
+
+-- words that come to nothing
+nothing_read : (table : Table) (place : Place) (parts : List Part) → AreNothing table parts → IsReadAs table place (map (part_item place) parts) []
+nothing_read table place [] none = refl
+nothing_read table place (one ∷ parts) none =
+    (one.word, [], [], refl, All-head (IsNothing table) one parts none, nothing_read table place parts (All-tail (IsNothing table) one parts none), refl)
+
+pub spent : (text : List ℕ) (names parts : List Part) → AreParts text parts → ((table : Table) → AreNothing table names → AreNothing table parts) → IsSpent text names
+spent text names parts are all = λ table none place. rw (are place) (nothing_read table place parts (all table none))
+
+-- one more of them
+pub nothing_more : (table : Table) (parts : List Part) (i : ℕ) (one : Part) → i < length parts → one ≡ get_or parts i one → AreNothing table (take i parts) → IsNothing table one → AreNothing table (take (i + 1) parts)
+nothing_more table parts i one within is before here =
+    rw (take_more parts i one within, ← is)
+    (All-append (IsNothing table) (take i parts) (one ∷ []) before (All-cons (IsNothing table) one [] here (All-nil (IsNothing table))))
+
+pub nothing_all : (table : Table) (parts : List Part) (i : ℕ) → length parts ≤ i → AreNothing table (take i parts) → AreNothing table parts
+nothing_all table parts i past all = subst (AreNothing table) (take_all i parts past) all

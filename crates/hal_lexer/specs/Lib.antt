@@ -5,4 +5,5 @@ pub mod Numbers
 pub mod Opened
 pub mod Walks
 pub mod Parts
+pub mod Nothing
 pub mod Faults

@@ -1,10 +1,11 @@
 //! Names are compiled from words that were cut before, each behind those in its text. A name that
 //! can't be compiled so, since its text breaks a rule or is its own, is left out.
 
-ghost use Rattle.std.specs.Prelude.{◌≡◌, ◌∷◌, [], Some, map, OnOk, IfOk, IfErr, IfSome};
+ghost use Rattle.std.specs.Prelude.{◌≡◌, ◌∷◌, [], Some, map, OnOk, IfOk, IfErr, IfSome, IsTrue};
 ghost use Rattle.std.specs.Option.{option_to_list};
 ghost use Rattle.hal_base.specs.declared.refusal.Place.{Place};
 ghost use Rattle.hal_words.specs.declared.word.Word.TheVariants as word;
+ghost use Rattle.hal_words.specs.Replacing.{text_items};
 ghost use Rattle.hal_pieces.specs.Faults.{IsMemory};
 ghost use Rattle.hal_lexer.specs.declared.child.Child.TheVariants as child;
 ghost use Rattle.hal_lexer.specs.Compiled.{IsCompiled, IsOrdered, IsReadAs, word_children};
@@ -14,8 +15,9 @@ use crate::child::Child;
 use crate::compiled::Compiled;
 use crate::compiling::{add, as_child};
 use crate::definitions::Definitions;
+use crate::nothing::are_nothing;
 use crate::order::Order;
-use crate::text::Part;
+use crate::text::{Part, Text};
 use crate::text_words::is_replace;
 use hal_base::Fault;
 use hal_words::{Name, Word};
@@ -63,6 +65,9 @@ fn raise_slot(
     let Some(text) = definitions.text_at(index, &name) else {
         return leave(alloc, compiled, slot, name);
     };
+    if comes_to_nothing(compiled, text) {
+        return close(compiled, slot, name, Vec::new(alloc));
+    }
     let Some(parts) = text.parts() else {
         return Ok(());
     };
@@ -70,6 +75,17 @@ fn raise_slot(
         return Ok(());
     };
     close(compiled, slot, name, children)
+}
+
+/// Whether a text has names alone that are compiled and come to nothing.
+fn comes_to_nothing(compiled: &Compiled, text: &Text) -> bool
+    requires { IsOrdered compiled.now }
+    ensures { IsTrue result → (place : Place) → IsReadAs compiled.now place (text_items place text.now) [] }
+{
+    match text.names() {
+        Some(names) => are_nothing(compiled, names),
+        None => false,
+    }
 }
 
 /// The children that stand for these words; None where one of them is a name that isn't compiled.

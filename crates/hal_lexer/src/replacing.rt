@@ -19,6 +19,7 @@ use crate::compiled::Compiled;
 use crate::compiling::number;
 use crate::definitions::Definitions;
 use crate::order::Order;
+use crate::places::Places;
 use crate::text::Text;
 use crate::text_words::is_replace;
 use crate::token_list::Tokens;
@@ -34,6 +35,7 @@ pub(crate) struct Replacements<'a> {
     definitions: Definitions<'a>,
     compiled: Compiled,
     order: Order,
+    places: Places,
 }
 
 impl<'a> Replacements<'a> {
@@ -46,6 +48,7 @@ impl<'a> Replacements<'a> {
             definitions: Definitions::new(alloc),
             compiled: Compiled::new(alloc),
             order: Order::new(alloc),
+            places: Places::new(alloc),
         }
     }
 
@@ -59,7 +62,9 @@ impl<'a> Replacements<'a> {
         ensures memory { IfErr result IsMemory }
     {
         let slot = self.compiled.slot(name).map_err(Fault::Memory)?;
-        let cut = Text::cut(alloc, &mut self.compiled, text).map_err(Fault::Memory)?;
+        let cut = Text::cut(alloc, &mut self.compiled, &mut self.places, text).map_err(
+            Fault::Memory,
+        )?;
         self.order
             .note_text(slot, cut.parts().unwrap_or(&[]))
             .map_err(Fault::Memory)?;

@@ -1,12 +1,15 @@
 //! The text of a definition, and its words.
 
-ghost use Rattle.std.specs.Prelude.{◌≡◌, ◌<◌, ◌∷◌, [], ◌++◌, length, OnOk, IfOk, IfSome, IfNone};
+ghost use Rattle.std.specs.Prelude.{◌≡◌, ◌<◌, ◌∷◌, [], ◌++◌, ℕ, List, length, OnOk, IfOk, IfSome, IfNone};
 ghost use Rattle.hal_base.specs.declared.refusal.Place.{Place};
 ghost use Rattle.hal_words.specs.Replacing.{text_items};
+ghost use Rattle.hal_lexer.specs.Nothing.{IsSpent};
 ghost use Rattle.hal_lexer.specs.Parts.{AreParts, GoOn};
 ghost use Rattle.hal_lexer.specs.Texts.{IsText};
 
 use crate::compiled::Compiled;
+use crate::nothing::names_of;
+use crate::places::Places;
 use crate::text_words::next_word;
 use hal_base::{Fault, Place};
 use hal_words::Word;
@@ -33,10 +36,13 @@ pub(crate) struct Part {
 pub(crate) struct Text<'a> {
     bytes: &'a [u8],
     parts: Option<Vec<Part>>,
+    /// Where all words are names, these, each once.
+    names: Option<Vec<Part>>,
 }
 
 impl<'a> Model for Text<'a> {
     ghost use Rattle.std.specs.Prelude.{List, ℕ, IfSome};
+    ghost use Rattle.hal_lexer.specs.Nothing.{IsSpent};
     ghost use Rattle.hal_lexer.specs.Parts.{AreParts};
     ghost use Rattle.hal_lexer.specs.Texts.{IsText};
 
@@ -44,7 +50,7 @@ impl<'a> Model for Text<'a> {
 
     ghost view = { λ t. t.bytes.now };
 
-    ghost invariant = { λ t. IsText t.bytes.now × IfSome t.parts (λ parts. AreParts t.bytes.now parts.items) };
+    ghost invariant = { λ t. IsText t.bytes.now × IfSome t.parts (λ parts. AreParts t.bytes.now parts.items) × IfSome t.names (λ names. IsSpent t.bytes.now names.items) };
 }
 
 impl<'a> Text<'a> {
@@ -52,6 +58,7 @@ impl<'a> Text<'a> {
     pub(crate) fn cut(
         alloc: Global,
         compiled: &mut Compiled,
+        places: &mut Places,
         bytes: &'a [u8],
     ) -> Result<Text<'a>, AllocError>
         requires { IsText bytes.now }
@@ -59,7 +66,12 @@ impl<'a> Text<'a> {
         ensures same { OnOk result (compiled.new ≡ compiled.old) }
     {
         let parts = parts_of(alloc, compiled, bytes)?;
-        Ok(Text { bytes, parts })
+        let names = names_of_text(alloc, places, &parts)?;
+        Ok(Text {
+            bytes,
+            parts,
+            names,
+        })
     }
 
     /// The text.
@@ -78,6 +90,30 @@ impl<'a> Text<'a> {
             Some(parts) => Some(parts.as_slice()),
             None => None,
         }
+    }
+
+    /// Where all words are names, these, each once; None where one is no name, or it isn't kept.
+    pub(crate) fn names(&self) -> Option<&[Part]>
+        ensures { IfSome result (λ names. IsSpent self.now names.now) }
+    {
+        match &self.names {
+            Some(names) => Some(names.as_slice()),
+            None => None,
+        }
+    }
+}
+
+/// The names of a text with these words, where it has names alone.
+fn names_of_text(
+    alloc: Global,
+    places: &mut Places,
+    parts: &Option<Vec<Part>>,
+) -> Result<Option<Vec<Part>>, AllocError>
+    ensures { IfOk result (λ found. IfSome found (λ names. (text : List ℕ) → IfSome parts.now (λ parts. AreParts text parts.items) → IsSpent text names.items)) }
+{
+    match parts {
+        Some(parts) => names_of(alloc, places, parts.as_slice()),
+        None => Ok(None),
     }
 }
 

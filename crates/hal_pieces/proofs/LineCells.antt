@@ -58,16 +58,16 @@ pub Reads-given : (one : Item) (later : List Cell) (state : Option Place) (old :
 Reads-given one later state old right = record {
   here = one ∷ [];
   put = refl;
-  follows = λ more. Follows-given state one (later ++ more) right;
+  follows = λ more. Follows-given state old one (later ++ more) right;
 }
 
 -- a fault that a line gives as a whole
-pub TellsOf-given : (rule : ℕ) (place : Place) (later : List Cell) (state : Option Place) (told : Fault) → IsBrokenAt rule place told → TellsOf (Given (item (Wrong rule) place) ∷ later) state told
-TellsOf-given rule place later state (fault.Broken refusal) tells = λ more.
+pub TellsOf-given : (rule : ℕ) (place : Place) (later : List Cell) (state : Option Place) (old : List Item) (told : Fault) → IsBrokenAt rule place told → TellsOf (Given (item (Wrong rule) place) ∷ later) state old told
+TellsOf-given rule place later state old (fault.Broken refusal) tells = λ more.
     let cells : List Cell = Given (item (Wrong rule) place) ∷ (later ++ more) in
-    subst (λ (r : ℕ). Contains (left state cells) (item (Wrong r) refusal.place)) (sym tells.0)
-    (subst (λ (p : Place). Contains (left state cells) (item (Wrong rule) p)) (sym tells.1) (HasFault-given state (item (Wrong rule) place) (later ++ more)))
-TellsOf-given rule place later state (fault.Memory error) tells = tt
+    subst (λ (r : ℕ). Contains (left state old cells) (item (Wrong r) refusal.place)) (sym tells.0)
+    (subst (λ (p : Place). Contains (left state old cells) (item (Wrong rule) p)) (sym tells.1) (HasFault-given state old (item (Wrong rule) place) (later ++ more)))
+TellsOf-given rule place later state old (fault.Memory error) tells = tt
 
 -- an empty line
 pub line_cells-empty : (unit line column : ℕ) (text : List ℕ) → length text ≡ 0 → column ≡ 1 → line_cells unit line text ≡ main_cells unit line column text

@@ -1,5 +1,5 @@
 -- How many bytes a piece takes: at least one, and none behind the line.
-use Rattle.std.proofs.Common.{◌≡◌, ◌==◌, ℕ, suc, ◌+◌, ◌-◌, ◌≤◌, ◌<◌, ◌||◌, not, Bool, true, false, List, [], ◌∷◌, length, map, drop, take_while, Option, Some, None, refl, ap, ◌∙◌, subst, arith, eqb}
+use Rattle.std.proofs.Common.{◌≡◌, ◌==◌, ℕ, suc, ◌+◌, ◌-◌, ◌≤◌, ◌<◌, ◌||◌, ◌&&◌, not, Bool, true, false, List, [], ◌∷◌, length, map, drop, take_while, Option, Some, None, refl, ap, ◌∙◌, subst, arith, eqb}
 use Rattle.std.proofs.lemmas.Bool.{cond_both, or_left, and_parts}
 use Rattle.std.proofs.lemmas.List.{length-take, length-drop, length-map}
 use Rattle.std.proofs.lemmas.List.Sums.{take_while-cons}
@@ -8,7 +8,7 @@ use Rattle.hal_words.specs.Letters.{is_blank, is_letter, is_digit, is_name_byte,
 use Rattle.hal_words.specs.Numbers.{begins, front_digits, after_digits, has_point, number_size, begins_number}
 use Rattle.hal_words.specs.Literals.{Base, base_of, with_byte, inside, closing}
 use Rattle.hal_words.specs.declared.word.Word.{Word}
-use Rattle.hal_words.specs.Pieces.{Sized, run_of, after_blanks, up_to_quote, bits, with_base, letters, number, literal_piece, replacement, longer, pair, signs, piece}
+use Rattle.hal_words.specs.Pieces.{Sized, run_of, after_blanks, up_to_quote, bits, with_base, letters, number, literal_piece, replacement, longer, pair, signs, piece, piece_or_text}
 
 -- the piece has at least one byte, and at most so many
 abbrev Fits : ℕ → Sized → Type 0
@@ -147,5 +147,10 @@ piece-within [] some = absurd (omega (arith, some))
 piece-within (b ∷ text) some =
     cond_both (is_letter b) _ _ (Fits (suc (length text))) (λ letter. letters-fits b text letter) (λ other.
     cond_both (begins_number (b ∷ text)) _ _ (Fits (suc (length text))) (λ digit. (number_size-some b text digit, number_size-within (b ∷ text))) (λ none.
-    cond_both (eqb b 39) _ _ (Fits (suc (length text))) (λ quote. literal_piece-fits (length text) (inside text) (inside-fits text).0) (λ plain.
-    cond_both (eqb b 34) _ _ (Fits (suc (length text))) (λ double. replacement-fits text) (λ sign. signs-fits b text))))
+    cond_both (eqb b 39) _ _ (Fits (suc (length text))) (λ quote. literal_piece-fits (length text) (inside text) (inside-fits text).0) (λ sign. signs-fits b text)))
+
+-- the same where a text may be opened
+pub text-within : (opens : Bool) (text : List ℕ) → 0 < length text → (1 ≤ (piece_or_text opens text).1) × ((piece_or_text opens text).1 ≤ length text)
+text-within opens [] some = absurd (omega (arith, some))
+text-within opens (b ∷ text) some =
+    cond_both (eqb b 34 && opens) _ _ (Fits (suc (length text))) (λ double. replacement-fits text) (λ other. piece-within (b ∷ text) some)

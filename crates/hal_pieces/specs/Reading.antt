@@ -17,14 +17,16 @@ abbrev pub size_within : Option ℕ → ℕ → ℕ
 size_within None all = all
 size_within (Some size) all = size
 
--- what cells inside a comment give that began at this place. `after` tells that the byte before was `*`
-abbrev pub inside : Bool → Place → List Cell → List Item
-inside after place cells = fault_if_open (comment_rest after cells) place ++ items (size_within (comment_rest after cells) (length cells)) cells
+-- what cells inside a comment give that began at this place behind the items that are done. `after` tells that the byte before was `*`
+abbrev pub inside : Bool → Place → List Item → List Cell → List Item
+inside after place done cells =
+    fault_if_open (comment_rest after cells) place
+    ++ items (done ++ fault_if_open (comment_rest after cells) place) (size_within (comment_rest after cells) (length cells)) cells
 
--- what the cells from here on give: between words, or in a comment that began at this place
-abbrev pub left : Option Place → List Cell → List Item
-left None cells = items 0 cells
-left (Some place) cells = inside false place cells
+-- what the cells from here on give behind the items that are done: between words, or in a comment that began at this place
+abbrev pub left : Option Place → List Item → List Cell → List Item
+left None done cells = items done 0 cells
+left (Some place) done cells = inside false place done cells
 
 -- items that are read to these, of which none is a fault: what follows gives the rest, or a fault
 pub record Follows (whole done rest : List Item) : Type 0 where
@@ -36,13 +38,13 @@ pub record Follows (whole done rest : List Item) : Type 0 where
 pub record Reads (cells later : List Cell) (before after : Option Place) (old new : List Item) : Type 0 where
   pub here : List Item
   pub put : new ≡ old ++ here
-  pub follows : (more : List Cell) → Follows (left before (cells ++ more)) here (left after (later ++ more))
+  pub follows : (more : List Cell) → Follows (left before old (cells ++ more)) here (left after new (later ++ more))
 
--- the cells have this fault, whatever follows
-abbrev pub IsBrokenBy : List Cell → Option Place → Refusal → Type 0
-IsBrokenBy cells before refusal = (more : List Cell) → HasFault (left before (cells ++ more)) refusal
+-- the cells have this fault behind the old items, whatever follows
+abbrev pub IsBrokenBy : List Cell → Option Place → List Item → Refusal → Type 0
+IsBrokenBy cells before old refusal = (more : List Cell) → HasFault (left before old (cells ++ more)) refusal
 
 -- an error tells a fault of the cells
-abbrev pub TellsOf : List Cell → Option Place → Fault → Type 0
-TellsOf cells before (fault.Broken refusal) = IsBrokenBy cells before refusal
-TellsOf cells before (fault.Memory error) = Unit {0}
+abbrev pub TellsOf : List Cell → Option Place → List Item → Fault → Type 0
+TellsOf cells before old (fault.Broken refusal) = IsBrokenBy cells before old refusal
+TellsOf cells before old (fault.Memory error) = Unit {0}

@@ -35,7 +35,7 @@ pub fn push_directive<'a>(items: &mut Vec<Item<'a>>, text: &[u8], start: Place) 
     requires first { start.column ≡ 1 }
     ensures read { IfOk result (λ _. (comment : Option Place) → Reads (directive_cells start.unit start.line text.now) []
         comment comment (map seen_item items.old.items) (map seen_item items.new.items)) }
-    ensures broken { IfErr result (λ fault. (comment : Option Place) → TellsOf (directive_cells start.unit start.line text.now) comment fault) }
+    ensures broken { IfErr result (λ fault. (comment : Option Place) → TellsOf (directive_cells start.unit start.line text.now) comment (map seen_item items.old.items) fault) }
 {
     match directive_at(text, start) {
         Directive::Other => Ok(()),

@@ -35,7 +35,7 @@ fn push_lines<'a>(
 ) -> Result<Option<Place>, Fault>
     ensures read { IfOk result (λ after. Reads (file_cells unit text.now) []
         None after (map seen_item items.old.items) (map seen_item items.new.items)) }
-    ensures broken { IfErr result (TellsOf (file_cells unit text.now) None) }
+    ensures broken { IfErr result (TellsOf (file_cells unit text.now) None (map seen_item items.old.items)) }
 {
     let mut comment = None;
     let mut rest = text;

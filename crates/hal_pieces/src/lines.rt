@@ -13,7 +13,7 @@ use crate::comments::comment_end;
 use crate::directives::push_directive;
 use crate::item::{Item, broken, refusal_of};
 use crate::kinds::{Kind, line_kind};
-use crate::piece::first_piece;
+use crate::replacements::piece_behind;
 use hal_base::{Fault, Place};
 use std::alloc::AllocError;
 
@@ -37,7 +37,7 @@ pub fn push_line<'a>(
     requires plain { All (λ b. b ≢ 10) line.now }
     ensures read { IfOk result (λ after. Reads (line_cells start.unit start.line line.now) []
         comment after (map seen_item items.old.items) (map seen_item items.new.items)) }
-    ensures broken { IfErr result (TellsOf (line_cells start.unit start.line line.now) comment) }
+    ensures broken { IfErr result (TellsOf (line_cells start.unit start.line line.now) comment (map seen_item items.old.items)) }
 {
     match line_kind(line) {
         Kind::Comment => Ok(comment),
@@ -63,7 +63,7 @@ fn push_main_line<'a>(
     requires main { kind_of line.now ≡ kind.Main }
     ensures read { IfOk result (λ after. Reads (line_cells start.unit start.line line.now) []
         comment after (map seen_item items.old.items) (map seen_item items.new.items)) }
-    ensures broken { IfErr result (TellsOf (line_cells start.unit start.line line.now) comment) }
+    ensures broken { IfErr result (TellsOf (line_cells start.unit start.line line.now) comment (map seen_item items.old.items)) }
 {
     if line.is_empty() {
         push_main(items, line, start, comment)
@@ -89,7 +89,7 @@ fn push_main<'a>(
     requires plain { All (λ b. b ≢ 10) text.now }
     ensures read { IfOk result (λ after. Reads (main_cells from.unit from.line from.column text.now) []
         comment after (map seen_item items.old.items) (map seen_item items.new.items)) }
-    ensures broken { IfErr result (TellsOf (main_cells from.unit from.line from.column text.now) comment) }
+    ensures broken { IfErr result (TellsOf (main_cells from.unit from.line from.column text.now) comment (map seen_item items.old.items)) }
 {
     let mut rest = text;
     let mut column = from.column;
@@ -116,7 +116,7 @@ fn push_front<'a>(
     ensures read { IfOk result (λ step. Reads (main_cells place.unit place.line place.column text.now)
         (main_cells place.unit place.line (place.column + step.size) (drop step.size text.now))
         comment step.comment (map seen_item items.old.items) (map seen_item items.new.items)) }
-    ensures broken { IfErr result (TellsOf (main_cells place.unit place.line place.column text.now) comment) }
+    ensures broken { IfErr result (TellsOf (main_cells place.unit place.line place.column text.now) comment (map seen_item items.old.items)) }
 {
     match comment {
         None => push_word(items, text, place),
@@ -152,7 +152,7 @@ fn push_word<'a>(items: &mut Vec<Item<'a>>, text: &'a [u8], place: Place) -> Res
     ensures read { IfOk result (λ step. Reads (main_cells place.unit place.line place.column text.now)
         (main_cells place.unit place.line (place.column + step.size) (drop step.size text.now))
         None step.comment (map seen_item items.old.items) (map seen_item items.new.items)) }
-    ensures broken { IfErr result (TellsOf (main_cells place.unit place.line place.column text.now) None) }
+    ensures broken { IfErr result (TellsOf (main_cells place.unit place.line place.column text.now) None (map seen_item items.old.items)) }
 {
     match text {
         [b' ' | b'\t', ..] => Ok(Step {
@@ -180,9 +180,9 @@ fn push_piece<'a>(items: &mut Vec<Item<'a>>, text: &'a [u8], place: Place) -> Re
     ensures read { IfOk result (λ size. Reads (main_cells place.unit place.line place.column text.now)
         (main_cells place.unit place.line (place.column + size) (drop size text.now))
         None None (map seen_item items.old.items) (map seen_item items.new.items)) }
-    ensures broken { IfErr result (TellsOf (main_cells place.unit place.line place.column text.now) None) }
+    ensures broken { IfErr result (TellsOf (main_cells place.unit place.line place.column text.now) None (map seen_item items.old.items)) }
 {
-    let (piece, size) = first_piece(text);
+    let (piece, size) = piece_behind(items.as_slice(), text);
     if let Some(refusal) = refusal_of(&piece, place) {
         return Err(Fault::Broken(refusal));
     }

@@ -6,7 +6,6 @@ use crate::bytes::is_letter;
 use crate::letters::letters;
 use crate::literals::literal;
 use crate::numbers::{begins_number, number};
-use crate::replacements::replacement;
 use crate::signs::signs;
 use hal_base::Rule;
 use hal_words::{Literal, Word};
@@ -18,16 +17,16 @@ pub enum Piece<'a> {
     Word(Word),
     /// A text literal, which is not on the heap yet.
     Text(Literal),
-    /// The bytes between two `"`.
+    /// The text of a definition, between two `"`.
     Replacement(&'a [u8]),
-    /// A `"` without another one on the line.
+    /// A `"` that opens such a text, without another one on the line.
     Open,
     /// A broken rule.
     Wrong(Rule),
 }
 
 /// What the text, which doesn't begin with a blank or a comment, begins with, and how many bytes that
-/// takes.
+/// takes. A `"` begins no word here: whether it opens a text depends on what stands before it.
 pub fn first_piece(text: &[u8]) -> (Piece<'_>, usize)
     ensures what { seen result.0 ≡ (piece text.now).0 }
     ensures size { result.1 ≡ (piece text.now).1 }
@@ -41,8 +40,6 @@ pub fn first_piece(text: &[u8]) -> (Piece<'_>, usize)
                 number(text)
             } else if *first == b'\'' {
                 literal(rest)
-            } else if *first == b'"' {
-                replacement(rest)
             } else {
                 signs(*first, rest)
             }

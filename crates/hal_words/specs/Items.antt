@@ -1,10 +1,11 @@
--- The pieces of a file in order: at each byte of its main lines a word goes on, or there is a blank, or the longest word begins.
-use Rattle.std.specs.Prelude.{ℕ, zero, suc, pred, ◌==◌, Bool, false, ◌&&◌, ◌||◌, List, [], ◌∷◌, ◌++◌, length, Option, Some, None, option_map, if◌then◌else◌}
+-- The pieces of a file in order: at each byte of its main lines a word goes on, or there is a blank, or the longest word begins. What was read before tells
+-- whether a `"` opens the text of a definition.
+use Rattle.std.specs.Prelude.{ℕ, zero, suc, pred, ◌-◌, ◌==◌, Bool, true, false, ◌&&◌, ◌||◌, List, [], ◌∷◌, ◌++◌, length, drop, Option, Some, None, option_map, if◌then◌else◌}
 use Rattle.hal_base.specs.declared.refusal.Place.{Place}
 use Rattle.hal_words.specs.declared.reserved.Reserved.TheVariants as reserved
 use Rattle.hal_words.specs.declared.word.Word.TheVariants as word
 use Rattle.hal_words.specs.Letters.{is_blank}
-use Rattle.hal_words.specs.Pieces.{Piece, Is, Wrong, piece}
+use Rattle.hal_words.specs.Pieces.{Piece, Is, Wrong, piece_or_text}
 use Rattle.hal_words.specs.Lines.{Item, item, Cell, Byte, Given, file_cells}
 
 -- the bytes from here to the end of the line
@@ -51,20 +52,33 @@ comment_size cells = size_or_all (comment_rest false (behind cells)) (length cel
 abbrev pub comment_items : Place → List Cell → List Item
 comment_items place cells = fault_if_open (comment_rest false (behind cells)) place
 
--- what begins at a byte: the items that it gives, and how many cells it goes on for
-abbrev pub begun : ℕ → Place → List ℕ → List Cell → List Item × ℕ
-begun b place line cells =
+-- REPLACE, a name and BY
+abbrev pub are_opening : Piece → Piece → Piece → Bool
+are_opening (Is (word.Reserved reserved.Replace)) (Is (word.Name name)) (Is (word.Reserved reserved.By)) = true
+are_opening a b c = false
+
+abbrev pub are_three : List Item → Bool
+are_three (a ∷ b ∷ c ∷ []) = are_opening a.piece b.piece c.piece
+are_three rest = false
+
+-- a `"` behind these items opens the text of a definition: the last three are REPLACE, a name and BY
+abbrev pub opens_text : List Item → Bool
+opens_text before = are_three (drop (length before - 3) before)
+
+-- what begins at a byte behind these items: the items that it gives, and how many cells it goes on for
+abbrev pub begun : List Item → ℕ → Place → List ℕ → List Cell → List Item × ℕ
+begun before b place line cells =
     if is_blank b || b == 10 then ([], 0)
     else if begins_comment line then (comment_items place cells, comment_size cells)
-    else (main_item (piece line).0 place ∷ [], pred (piece line).1)
+    else (main_item (piece_or_text (opens_text before) line).0 place ∷ [], pred (piece_or_text (opens_text before) line).1)
 
--- the items of cells, of which the first `skipped` belong to what began before. Items that lines give as a whole stand in nothing
-abbrev pub items : ℕ → List Cell → List Item
-items skipped [] = []
-items skipped (Given one ∷ cells) = one ∷ items (pred skipped) cells
-items (suc skipped) (Byte b place ∷ cells) = items skipped cells
-items zero (Byte b place ∷ cells) = let found = begun b place (line_of (Byte b place ∷ cells)) cells in found.0 ++ items found.1 cells
+-- the items of cells behind the items before, of which the first `skipped` belong to what began before. Items that lines give as a whole stand in nothing
+abbrev pub items : List Item → ℕ → List Cell → List Item
+items before skipped [] = []
+items before skipped (Given one ∷ cells) = one ∷ items (before ++ one ∷ []) (pred skipped) cells
+items before (suc skipped) (Byte b place ∷ cells) = items before skipped cells
+items before zero (Byte b place ∷ cells) = let found = begun before b place (line_of (Byte b place ∷ cells)) cells in found.0 ++ items (before ++ found.0) found.1 cells
 
 -- the items of a file
 abbrev pub file_items : ℕ → List ℕ → List Item
-file_items unit text = items 0 (file_cells unit text)
+file_items unit text = items [] 0 (file_cells unit text)

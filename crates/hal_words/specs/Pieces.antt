@@ -1,5 +1,5 @@
 -- What stands at a byte of a line: the longest word that begins there, or what is wrong there.
-use Rattle.std.specs.Prelude.{ℕ, ◌+◌, nat_le, ◌==◌, not, ◌&&◌, List, [], ◌∷◌, length, map, drop, take_while, Option, Some, None, if◌then◌else◌}
+use Rattle.std.specs.Prelude.{ℕ, ◌+◌, nat_le, ◌==◌, Bool, not, ◌&&◌, List, [], ◌∷◌, length, map, drop, take_while, Option, Some, None, if◌then◌else◌}
 use Rattle.std.specs.List.{list_all}
 use Rattle.hal_words.specs.declared.reserved.Reserved.{Reserved}
 use Rattle.hal_words.specs.declared.reserved.Reserved.TheVariants as reserved
@@ -11,7 +11,7 @@ use Rattle.hal_words.specs.Numbers.{written, begins, front_digits, has_point, nu
 use Rattle.hal_words.specs.Literals.{Base, base_of, bits_between, inside, blank_for_tab}
 use Rattle.hal_words.specs.Reserved.{reserved_words, left_out_words, look_up}
 
--- what stands there, and how many bytes it takes: a word, the bytes between two `"`, a `"` that is open at the line's end, or a broken rule
+-- what stands there, and how many bytes it takes: a word, the text of a definition between two `"`, a `"` that opens one and is open at the line's end, or a broken rule
 pub data Piece : Type 0 where
   Is : Word → Piece
   Replacement : List ℕ → Piece
@@ -130,5 +130,9 @@ piece (b ∷ text) =
     if is_letter b then letters (b ∷ text)
     else if begins_number (b ∷ text) then number (b ∷ text)
     else if b == 39 then literal text
-    else if b == 34 then replacement text
     else signs b text
+
+-- the same, where a `"` may open the text of a definition; elsewhere it begins no word
+abbrev pub piece_or_text : Bool → List ℕ → Sized
+piece_or_text opens [] = piece []
+piece_or_text opens (b ∷ text) = if b == 34 && opens then replacement text else piece (b ∷ text)

@@ -34,7 +34,7 @@ has_parameters rest = false
 
 -- the words of a text that is used at this place, which is the place of each of them
 abbrev pub text_items : Place → List ℕ → List Item
-text_items place text = items 0 (map (λ b. Byte b place) text ++ Byte 10 place ∷ [])
+text_items place text = items [] 0 (map (λ b. Byte b place) text ++ Byte 10 place ∷ [])
 
 abbrev pub is_among : List (List ℕ) → List ℕ → Bool
 is_among [] name = false
@@ -81,7 +81,7 @@ within (suc deep) definitions opened one =
 abbrev pub replaced_word : Definitions → Item → List Item
 replaced_word definitions one = within (length definitions) definitions [] one
 
--- a `"` that begins no text of a definition begins no word
+-- a `"` behind REPLACE, a name and BY whose text no definition has begins no word
 abbrev pub as_word : Piece → Place → Item
 as_word (Replacement text) place = item (Wrong 201) place
 as_word Open place = item (Wrong 201) place

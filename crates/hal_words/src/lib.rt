@@ -12,5 +12,5 @@ pub use boxed_literal::BoxedLiteral;
 pub use literal::Literal;
 pub use name::Name;
 pub use reserved::{Reserved, left_out, reserved_word};
-pub use rows::{items_of_a_file, pieces_of_texts, words_of_files};
+pub use rows::{items_of_a_file, marks_that_open_no_text, pieces_of_texts, words_of_files};
 pub use word::{Symbol, Token, Word};

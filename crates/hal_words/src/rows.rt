@@ -62,6 +62,18 @@ pub fn words_of_files()
         item (Wrong 207) (place_at 0 1 2)
         ∷ item (Is (word.Name (codes "A"))) (place_at 0 1 10)
         ∷ item (Wrong 201) (place_at 0 1 12)
+        ∷ item (Is (word.Name (codes "B"))) (place_at 0 1 13)
+        ∷ item (Wrong 201) (place_at 0 1 14)
         ∷ item (Is (word.Symbol symbol.Semicolon)) (place_at 0 1 15)
+        ∷ [] }
+{}
+
+/// A `"` that opens no text of a definition begins no word, and hides no comment and no literal behind it.
+#[tactic(auto, unfolding(crate::specs::Reserved::reserved_words, crate::specs::Reserved::left_out_words))]
+pub fn marks_that_open_no_text()
+    ensures comment { file_items 0 (codes " \"/*\"*/") ≡ item (Wrong 201) (place_at 0 1 2) ∷ [] }
+    ensures literal { file_items 0 (codes " \"'\"1A") ≡
+        item (Wrong 201) (place_at 0 1 2)
+        ∷ item (Wrong 202) (place_at 0 1 3)
         ∷ [] }
 {}

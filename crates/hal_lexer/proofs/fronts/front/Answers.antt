@@ -11,14 +11,14 @@ blank-preserved c =
     let found : closing false inside ≡ Some c.in-Some.size = search rules in
     let cut : c.without-rest.result.now ≡ drop c.in-Some.size inside = search rules in
     record {
-      same = λ place. c.blank.invariant.same place ∙ closed_comment c.blank.rest.now inside c.without-rest.result.now c.in-Some.size (search rules) c.without-inside.ensures found cut place;
+      same = λ place. c.blank.invariant.same place ∙ closed_comment c.blank.rest.now inside c.without-rest.result.now c.in-Some.size c.blank.invariant.text (search rules) c.without-inside.ensures found cut place;
       text = rw (cut, c.without-inside.ensures) (All-drop IsTextByte c.in-Some.size (drop 2 c.blank.rest.now) (All-drop IsTextByte 2 c.blank.rest.now c.blank.invariant.text));
       within = omega (arith, ap length cut, ap length c.without-inside.ensures, length-drop 2 c.blank.rest.now, length-drop c.in-Some.size inside);
     }
 
 pub returns-in_default-comment_end-clause-found : goal.returns-in_default-comment_end-clause-found
 returns-in_default-comment_end-clause-found c = λ place.
-    c.blank.invariant.same place ∙ open_comment c.blank.rest.now c.without-inside.result.now (search rules) c.without-inside.ensures (search rules) place
+    c.blank.invariant.same place ∙ open_comment c.blank.rest.now c.without-inside.result.now c.blank.invariant.text (search rules) c.without-inside.ensures (search rules) place
 
 pub returns-else-begins_comment-clause-found : goal.returns-else-begins_comment-clause-found
 returns-else-begins_comment-clause-found c = λ place.

@@ -16,6 +16,6 @@ returns-clause-compiled c =
     let defined : look_up c.args.definitions.now c.in-Some.name ≡ Some text = search rules in
     let are : AreParts text parts = search rules in
     let read : (place : Place) → IsReadAs c.args.compiled.now place (map (part_item place) parts) children = search rules in
-    IfOk-weaker c.close.result _ _
-    (λ _ closed. raised_compiled c.args.definitions.now c.args.compiled.now c.close.new.compiled c.in-Some.name text parts children closed c.requires new defined are read)
-    c.close.ensures.closed
+    IfOk-weaker c.close-2.result _ _
+    (λ _ closed. raised_compiled c.args.definitions.now c.args.compiled.now c.close-2.new.compiled c.in-Some.name text parts children closed c.requires new defined are read)
+    c.close-2.ensures.closed

@@ -1,16 +1,17 @@
-use Rattle.std.proofs.Common.{List, [], map, None, Option, ap, subst}
+use Rattle.std.proofs.Common.{List, [], map, None, Some, Option, ap, subst}
 use Rattle.std.proofs.lemmas.Result.{err_from_is_err_and}
 use Rattle.hal_base.specs.declared.refusal.Place.{Place}
 use Rattle.hal_words.specs.Lines.{Item, file_cells}
 use Rattle.hal_pieces.specs.Faults.{seen_item}
-use Rattle.hal_pieces.specs.Reading.{Reads}
+use Rattle.hal_pieces.specs.Reading.{Reads, TellsOf}
 use Rattle.hal_pieces.proofs.Whole.{Reads-whole, Reads-open_end, Tells-whole}
 use Rattle.hal_pieces.proofs.file.items.Goals as goal
 
 pub returns-in_err-comment-clause-broken : goal.returns-in_err-comment-clause-broken
 returns-in_err-comment-clause-broken c =
+    let cells = file_cells c.args.unit c.args.text.now in
     let p = err_from_is_err_and c.from_residual.result c.from_residual.ensures.1 in
-    rw (p.1, p.2) (Tells-whole (file_cells c.args.unit c.args.text.now) c.in_err-comment.field-0.0 c.in_err-comment.ensures.broken)
+    rw (p.1, p.2) (Tells-whole cells c.in_err-comment.field-0.0 (subst (λ (old : List Item). TellsOf cells None old c.in_err-comment.field-0.0) (ap (map seen_item) c.new-items.ensures.items) c.in_err-comment.ensures.broken))
 
 whole_of : (c : goal.In-None) → Reads (file_cells c.args.unit c.args.text.now) [] None None [] (map seen_item c.push_lines.new.items.items)
 whole_of c =
@@ -28,6 +29,7 @@ returns-in-None-clause-whole c = (Reads-whole (file_cells c.args.unit c.args.tex
 pub returns-clause-broken : goal.returns-clause-broken
 returns-clause-broken c =
     let cells = file_cells c.args.unit c.args.text.now in
-    let old = map seen_item c.new-items.result.items in
     let new = map seen_item c.push_lines.new.items.items in
-    Reads-open_end cells old new c.in-Some.place (subst (λ (state : Option Place). Reads cells [] None state old new) c.in-Some.is c.in_ok-comment.ensures.read)
+    Reads-open_end cells new c.in-Some.place
+    (subst (λ (old : List Item). Reads cells [] None (Some c.in-Some.place) old new) (ap (map seen_item) c.new-items.ensures.items)
+    (subst (λ (state : Option Place). Reads cells [] None state (map seen_item c.new-items.result.items) new) c.in-Some.is c.in_ok-comment.ensures.read))

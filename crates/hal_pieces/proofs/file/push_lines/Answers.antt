@@ -22,7 +22,7 @@ returns-in_err-comment-clause-broken c =
     let p = err_from_is_err_and c.from_residual.result c.from_residual.ensures.1 in
     rw (p.1, p.2)
     (TellsOf-then (file_cells unit c.args.text.now) (lines_cells unit number (lines c.loop-line.rest.now)) None c.loop-line.comment (map seen_item c.args.items.now.items) (map seen_item c.loop-line.items.items) told c.loop-line.invariant.reads
-    (subst (λ (cells : List Cell). TellsOf cells c.loop-line.comment told) (sym same) (TellsOf-before here later c.loop-line.comment told c.in_err-comment.ensures.broken)))
+    (subst (λ (cells : List Cell). TellsOf cells c.loop-line.comment (map seen_item c.loop-line.items.items) told) (sym same) (TellsOf-before here later c.loop-line.comment (map seen_item c.loop-line.items.items) told c.in_err-comment.ensures.broken)))
 
 pub loop-line-preserved : goal.loop-line-preserved
 loop-line-preserved c =

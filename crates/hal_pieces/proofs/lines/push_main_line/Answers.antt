@@ -14,7 +14,7 @@ returns-then-is_empty-clause-broken c =
     let line = c.args.line.now in
     let none : length line ≡ 0 = search rules in
     let same : line_cells start.unit start.line line ≡ main_cells start.unit start.line start.column line = line_cells-empty start.unit start.line start.column line none c.requires.first in
-    subst (λ (cells : List Cell). IfErr c.push_main.result (TellsOf cells c.args.comment)) (sym same) c.push_main.ensures.broken
+    subst (λ (cells : List Cell). IfErr c.push_main.result (TellsOf cells c.args.comment (map seen_item c.args.items.now.items))) (sym same) c.push_main.ensures.broken
 
 same_cells : (unit line : ℕ) (text back : List ℕ) → kind_of text ≡ kind.Main → 0 < length text → back ≡ drop 1 text → main_cells unit line 2 back ≡ line_cells unit line text
 same_cells unit line text back main some split = ap (main_cells unit line 2) split ∙ sym (line_cells-kind unit line text kind.Main main some)
@@ -35,4 +35,4 @@ returns-else-is_empty-clause-broken c =
     let some : 0 < length line = grind (arith, nat_tests, c.if-is_empty.ensures) in
     let call = c.push_main-else-is_empty in
     let same = same_cells start.unit start.line line c.split_at.result.1.now c.requires.main some c.split_at.ensures.back in
-    subst (λ (cells : List Cell). IfErr call.result (TellsOf cells c.args.comment)) same call.ensures.broken
+    subst (λ (cells : List Cell). IfErr call.result (TellsOf cells c.args.comment (map seen_item c.args.items.now.items))) same call.ensures.broken
