@@ -20,7 +20,8 @@ use Rattle.hal_values.specs.Kinds.{IsInteger, IsDatum, IsBits}
 use Rattle.hal_values.specs.Loads.{IsWritten}
 use Rattle.hal_values.specs.Requests.{IsForCell, HasSpot, IsOfSpot}
 use Rattle.hal_values.specs.Tables.{IsSnapshot}
-use Rattle.exec_model.specs.Data.{is_digit, is_bit, number_in, is_number, plus_number, minus_number, integer_datum, is_bits, integer_value, datum_value}
+use Rattle.hal_base.specs.Digits.{is_digit}
+use Rattle.exec_model.specs.Data.{is_bit, number_in, is_number, plus_number, minus_number, integer_datum, is_bits, integer_value, datum_value}
 use Rattle.exec_model.specs.Effects.{bit_value, value_at}
 use Rattle.exec_model.specs.Moments.{Moment, event_of}
 use Rattle.exec_model.specs.Steps.{written}

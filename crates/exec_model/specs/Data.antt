@@ -1,13 +1,11 @@
 -- What a datum of a script is for a receiver.
 use Rattle.std.specs.Prelude.{ℕ, ◌+◌, ◌-◌, ◌*◌, ◌==◌, nat_le, Bool, false, ◌&&◌, ◌||◌, List, [], ◌∷◌, length, fold, Option, Some, None, ℤ, pos, neg_ℤ, if◌then◌else◌}
 use Rattle.std.specs.List.{list_all}
+use Rattle.hal_base.specs.Digits.{is_digit}
 use Rattle.hal_values.specs.declared.value.Kind.{Kind}
 use Rattle.hal_values.specs.declared.value.Kind.TheVariants as kind
 use Rattle.hal_values.specs.declared.value.Value.{Value}
 use Rattle.hal_values.specs.declared.value.Value.TheVariants as value
-
-abbrev pub is_digit : ℕ → Bool
-is_digit byte = nat_le 48 byte && nat_le byte 57
 
 abbrev pub is_bit : ℕ → Bool
 is_bit byte = byte == 48 || byte == 49

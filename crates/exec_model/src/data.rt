@@ -2,7 +2,8 @@
 
 ghost use Rattle.std.specs.Prelude.{◌≡◌, ◌<◌, ◌≤◌, nat_le, length, min, if◌then◌else◌};
 ghost use Rattle.std.specs.List.{list_all};
-ghost use Rattle.exec_model.specs.Data.{is_digit, is_bit, is_bits, is_number, number_in, plus_number, minus_number, integer_datum, integer_value, datum_value};
+ghost use Rattle.hal_base.specs.Digits.{is_digit};
+ghost use Rattle.exec_model.specs.Data.{is_bit, is_bits, is_number, number_in, plus_number, minus_number, integer_datum, integer_value, datum_value};
 
 use hal_values::{Kind, Text, Value};
 

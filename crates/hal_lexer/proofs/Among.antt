@@ -10,7 +10,7 @@ use Rattle.hal_words.specs.Replacing.{is_among}
 use Rattle.hal_lexer.specs.Opened.{Opened, Entry, AreTexts, opened_of, names_of}
 use Rattle.hal_lexer.specs.Texts.{IsText}
 use Rattle.hal_words.specs.contracts.name.NamePartialEq.TheImpl as derived
-use Rattle.hal_lexer.proofs.NameEquality.{eq-flipped}
+use Rattle.hal_words.proofs.NameEquality.{eq-flipped}
 
 or_moved : (a b c : Bool) → (a || (b || c)) ≡ (b || (a || c))
 or_moved true true c = refl

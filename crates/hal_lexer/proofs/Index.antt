@@ -10,7 +10,7 @@ use Rattle.std.proofs.lemmas.Option.{slice_get-get_or, slice_get_within, get_or_
 use Rattle.hal_words.specs.Replacing.{Definitions}
 use Rattle.hal_words.specs.Reserved.{look_up}
 use Rattle.hal_words.specs.contracts.name.NamePartialEq.TheImpl as derived
-use Rattle.hal_lexer.proofs.NameEquality.{eq-same, eq-flipped, lookup-same}
+use Rattle.hal_words.proofs.NameEquality.{eq-same, eq-flipped, lookup-same}
 use Rattle.hal_lexer.specs.declared.definitions.Definition.{Definition}
 use Rattle.hal_lexer.specs.Texts.{IsText}
 use Rattle.hal_lexer.specs.Defined.{pair_of, found, Names, IsIndex}

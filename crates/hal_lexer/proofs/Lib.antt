@@ -1,6 +1,5 @@
 pub mod Among
 pub mod Explained
-pub mod NameEquality
 pub mod TextFronts
 pub mod FileTexts
 pub mod Index

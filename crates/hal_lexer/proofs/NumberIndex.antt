@@ -13,7 +13,7 @@ use Rattle.hal_lexer.specs.declared.compiled.Entry.{Entry}
 use Rattle.hal_lexer.specs.Compiled.{Table, entry_of, number_of, children_at, IsOrdered}
 use Rattle.hal_lexer.specs.Defined.{found}
 use Rattle.hal_lexer.specs.Numbers.{Numbers, has_at, still}
-use Rattle.hal_lexer.proofs.NameEquality.{eq-same}
+use Rattle.hal_words.proofs.NameEquality.{eq-same}
 use Rattle.hal_lexer.proofs.Index.{lookup-found}
 use Rattle.hal_lexer.proofs.Tables.{same_name, number_before}
 

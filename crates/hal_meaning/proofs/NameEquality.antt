@@ -1,34 +1,18 @@
 -- Names are equal where their texts are, so a map finds a name by its text.
-use Rattle.std.proofs.Common.{◌≡◌, ℕ, List, [], ◌∷◌, length, take, Bool, true, false, cond, Option, Some, nat_eq, refl, sym, ◌∙◌, ap, Decides}
+use Rattle.std.proofs.Common.{◌≡◌, ℕ, List, Bool, true, false, cond, Option, Some, nat_eq, refl, sym, ◌∙◌, ap, Decides}
 use Rattle.std.specs.Map.{lookup}
 use Rattle.std.specs.Cmp.Lexicographic.{pointwise, bytes_decides}
-use Rattle.std.proofs.Math.Seq.{take-append_seam}
-use Rattle.std.proofs.lemmas.Bool.Decides.{same_from_decides, Decides-and, Decides-eqb, Decides-like}
-use Rattle.hal_words.specs.Rooms.{filled}
+use Rattle.std.proofs.lemmas.Bool.Decides.{same_from_decides, Decides-like}
+use Rattle.hal_words.proofs.NameEquality.{eq-Decides, lookup-same}
 use Rattle.hal_words.specs.contracts.name.NamePartialEq.TheImpl as derived
 use Rattle.hal_meaning.specs.declared.names.Entry.{Entry}
 use Rattle.hal_meaning.specs.NameTable.{entry_of, found, noted, IsTable, IsNoted}
-
--- names with the same room and the same length
-same_text : (a b : List ℕ) → (filled 32 a ≡ filled 32 b) × (length a ≡ length b) → a ≡ b
-same_text a b same =
-    sym (take-append_seam a _) ∙ ap (λ room. take (length a) room) same.0 ∙ ap (λ n. take n (filled 32 b)) same.1 ∙ take-append_seam b _
-
-eq-Decides : (a b : List ℕ) → Decides ((derived.eq-value).it a b) (a ≡ b)
-eq-Decides a b =
-    Decides-like _ (same_text a b) (λ e. (ap (filled 32) e, ap length e))
-    (Decides-and _ _ (bytes_decides (filled 32 a) (filled 32 b)) (Decides-eqb (length a) (length b)))
 
 pub eq-pointwise : (a b : List ℕ) → (derived.eq-value).it a b ≡ pointwise nat_eq a b
 eq-pointwise a b = same_from_decides _ _ (eq-Decides a b) (bytes_decides a b)
 
 eq-flipped : (a b : List ℕ) → (derived.eq-value).it a b ≡ pointwise nat_eq b a
 eq-flipped a b = same_from_decides _ _ (eq-Decides a b) (Decides-like _ sym sym (bytes_decides b a))
-
-lookup-same : (f g : List ℕ → Bool) → ((key : List ℕ) → f key ≡ g key) → (entries : List (List ℕ × Entry)) → lookup f entries ≡ lookup g entries
-lookup-same f g same [] = refl
-lookup-same f g same (entry ∷ entries) =
-    ap (λ b. cond b (Some entry.1) (lookup f entries)) (same entry.0) ∙ ap (λ rest. cond (g entry.0) (Some entry.1) rest) (lookup-same f g same entries)
 
 pub lookup-found : (entries : List (List ℕ × Entry)) (name : List ℕ) → lookup ((derived.eq-value).it name) entries ≡ found entries name
 lookup-found entries name = lookup-same _ _ (eq-flipped name) entries

@@ -1,10 +1,10 @@
 -- Keys are equal where their parts are.
-use Rattle.std.proofs.Common.{◌≡◌, ℕ, Bool, cond, List, [], ◌∷◌, Some, refl, sym, ◌∙◌, ap, Decides}
+use Rattle.std.proofs.Common.{◌≡◌, ℕ, Bool, cond, List, refl, sym, ◌∙◌, ap, Decides}
 use Rattle.std.specs.Map.{lookup}
 use Rattle.std.proofs.lemmas.Bool.{false≢true}
 use Rattle.std.proofs.lemmas.Bool.Decides.{same_from_decides, Decides-and, Decides-eqb, Decides-like}
 use Rattle.std.proofs.lemmas.Slice.Eq.{bytes_eq-Decides}
-use Rattle.hal_names.proofs.NameEquality.{eq-Decides}
+use Rattle.hal_words.proofs.NameEquality.{eq-Decides, lookup-same}
 use Rattle.hal_names.specs.declared.key.Space.{Space}
 use Rattle.hal_names.specs.declared.key.Space.TheVariants as space
 use Rattle.hal_names.specs.declared.key.Key.{Key}
@@ -72,11 +72,6 @@ derived-same a b = same_from_decides _ _ (derived-Decides a b) (same_key-Decides
 
 pub derived-flipped : (a b : Key) → (derived.eq-value).it a b ≡ same_key b a
 derived-flipped a b = same_from_decides _ _ (derived-Decides a b) (Decides-like _ sym sym (same_key-Decides b a))
-
-lookup-same : (f g : Key → Bool) → ((k : Key) → f k ≡ g k) → (entries : List (Key × ℕ)) → lookup f entries ≡ lookup g entries
-lookup-same f g same [] = refl
-lookup-same f g same (entry ∷ entries) =
-    ap (λ b. cond b (Some entry.1) (lookup f entries)) (same entry.0) ∙ ap (λ rest. cond (g entry.0) (Some entry.1) rest) (lookup-same f g same entries)
 
 pub lookup-found : (entries : List (Key × ℕ)) (q : Key) → lookup ((derived.eq-value).it q) entries ≡ found entries q
 lookup-found entries q = lookup-same _ _ (derived-flipped q) entries

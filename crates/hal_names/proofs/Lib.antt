@@ -1,3 +1,2 @@
-pub mod NameEquality
 pub mod KeyEquality
 pub mod Indexed

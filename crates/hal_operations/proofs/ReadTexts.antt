@@ -12,7 +12,8 @@ use Rattle.std.proofs.lemmas.Str.Ascii.{IsAscii-cons}
 use Rattle.std.proofs.lemmas.Fmt.{IsAscii-from_digits}
 use Rattle.hal_values.specs.declared.value.Value.TheVariants as value
 use Rattle.hal_operations.specs.Errors.{no_integer}
-use Rattle.hal_operations.specs.Texts.{is_digit, number_of, integer_of, read}
+use Rattle.hal_base.specs.Digits.{is_digit}
+use Rattle.hal_operations.specs.Texts.{number_of, integer_of, read}
 
 -- the digits are std's
 own_digits : IsNumeralModel (λ ds. list_all is_digit ds ≡ true) (digits_value 10)

@@ -2,6 +2,7 @@
 use Rattle.std.specs.Prelude.{ℕ, zero, suc, ℤ, pos, negsuc, neg_ℤ, min, ◌==◌, nat_lt, nat_le, Bool, true, false, ◌&&◌, ◌||◌, List, [], ◌∷◌, ◌++◌, take, replicate, reverse, Option, Some, None, option_map, Result, Ok, Err, if◌then◌else◌}
 use Rattle.std.specs.List.{list_all}
 use Rattle.std.specs.Str.Parse.{digits_value}
+use Rattle.hal_base.specs.Digits.{is_digit}
 use Rattle.hal_values.specs.declared.environment.ErrNo.{ErrNo}
 use Rattle.hal_values.specs.declared.value.Value.{Value}
 use Rattle.hal_values.specs.declared.value.Value.TheVariants as value
@@ -73,10 +74,6 @@ after_blanks (byte ∷ bytes) = if byte == 32 then after_blanks bytes else byte 
 -- without blanks at both ends
 abbrev pub trimmed : List ℕ → List ℕ
 trimmed text = reverse (after_blanks (reverse (after_blanks text)))
-
--- `0` to `9`
-abbrev pub is_digit : ℕ → Bool
-is_digit byte = nat_le 48 byte && nat_le byte 57
 
 -- the number that digits alone write, at least one
 abbrev pub number_of : List ℕ → Option ℕ

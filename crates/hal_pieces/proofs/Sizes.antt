@@ -4,7 +4,8 @@ use Rattle.std.proofs.lemmas.Bool.{cond_both, or_left, and_parts}
 use Rattle.std.proofs.lemmas.List.{length-take, length-drop, length-map}
 use Rattle.std.proofs.lemmas.List.Sums.{take_while-cons}
 use Rattle.std.specs.List.{prefix_len}
-use Rattle.hal_words.specs.Letters.{is_blank, is_letter, is_digit, is_name_byte, capital}
+use Rattle.hal_base.specs.Digits.{is_digit}
+use Rattle.hal_words.specs.Letters.{is_blank, is_letter, is_name_byte, capital}
 use Rattle.hal_words.specs.Numbers.{begins, front_digits, after_digits, has_point, number_size, begins_number}
 use Rattle.hal_words.specs.Literals.{Base, base_of, with_byte, inside, closing}
 use Rattle.hal_words.specs.declared.word.Word.{Word}

@@ -1,6 +1,7 @@
 -- The classes of bytes that stand together, as tests.
 use Rattle.std.specs.Prelude.{ℕ, Bool, not, ◌==◌}
-use Rattle.hal_words.specs.Letters.{is_blank, is_digit, is_name_byte}
+use Rattle.hal_base.specs.Digits.{is_digit}
+use Rattle.hal_words.specs.Letters.{is_blank, is_name_byte}
 use Rattle.hal_pieces.specs.declared.runs.Class.{Class}
 use Rattle.hal_pieces.specs.declared.runs.Class.TheVariants as class
 

@@ -1,7 +1,8 @@
 //! The classes of bytes.
 
 ghost use Rattle.std.specs.Prelude.{◌≡◌};
-ghost use Rattle.hal_words.specs.Letters.{is_blank, is_capital, is_small, is_letter, is_digit, is_name_byte, capital, is_plain};
+ghost use Rattle.hal_base.specs.Digits.{is_digit};
+ghost use Rattle.hal_words.specs.Letters.{is_blank, is_capital, is_small, is_letter, is_name_byte, capital, is_plain};
 
 /// A blank, or a tab.
 pub fn is_blank(byte: u8) -> bool

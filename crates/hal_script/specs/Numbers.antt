@@ -1,10 +1,7 @@
 -- Words that write a number.
 use Rattle.std.specs.Prelude.{ℕ, ◌+◌, ◌-◌, ◌*◌, Bool, false, List, [], ◌∷◌, length, Option, Some, None, not, fold, nat_le, ◌==◌, ◌&&◌, ◌||◌, if◌then◌else◌}
 use Rattle.std.specs.List.{list_all}
-
--- a decimal digit, `0` to `9`
-abbrev pub is_digit : ℕ → Bool
-is_digit byte = nat_le 48 byte && nat_le byte 57
+use Rattle.hal_base.specs.Digits.{is_digit}
 
 -- digits alone, at least one, and no `0` before others
 abbrev pub is_number : List ℕ → Bool

@@ -1,6 +1,7 @@
 ghost use Rattle.std.specs.Prelude.{◌≡◌, min};
 ghost use Rattle.std.specs.List.{list_all};
-ghost use Rattle.hal_script.specs.Numbers.{is_digit, is_number as is_number_word, value as value_of};
+ghost use Rattle.hal_base.specs.Digits.{is_digit};
+ghost use Rattle.hal_script.specs.Numbers.{is_number as is_number_word, value as value_of};
 
 /// Numbers are read as this where they are larger. It is above every limit of a script's numbers.
 pub const NUMBER_CAP: u64 = 10_000_000_000;

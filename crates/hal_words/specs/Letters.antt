@@ -1,5 +1,6 @@
 -- The classes of bytes that words are made of.
 use Rattle.std.specs.Prelude.{ℕ, ◌-◌, nat_le, ◌==◌, Bool, ◌&&◌, ◌||◌, if◌then◌else◌}
+use Rattle.hal_base.specs.Digits.{is_digit}
 
 -- a blank, or a tab
 abbrev pub is_blank : ℕ → Bool
@@ -13,9 +14,6 @@ is_small b = nat_le 97 b && nat_le b 122
 
 abbrev pub is_letter : ℕ → Bool
 is_letter b = is_capital b || is_small b
-
-abbrev pub is_digit : ℕ → Bool
-is_digit b = nat_le 48 b && nat_le b 57
 
 -- a letter, a digit or the underscore
 abbrev pub is_name_byte : ℕ → Bool

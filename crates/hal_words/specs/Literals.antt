@@ -1,7 +1,7 @@
 -- Text and bit literals.
 use Rattle.std.specs.Prelude.{ℕ, zero, suc, ◌+◌, ◌-◌, ◌*◌, ◌/◌, ◌^◌, nat_lt, nat_le, ◌==◌, not, ◌&&◌, List, [], ◌∷◌, length, map, Option, Some, None, codes, bytes_eq, if◌then◌else◌}
 use Rattle.std.specs.List.{list_all}
-use Rattle.hal_words.specs.Letters.{is_digit}
+use Rattle.hal_base.specs.Digits.{is_digit}
 use Rattle.hal_words.specs.Numbers.{written}
 
 -- a byte more of a text that is found to its end, which takes so many bytes of the line

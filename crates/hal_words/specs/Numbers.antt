@@ -1,6 +1,7 @@
 -- Numbers of the source: digits, with one point or without.
 use Rattle.std.specs.Prelude.{ℕ, ◌+◌, ◌-◌, ◌*◌, ◌^◌, nat_lt, nat_le, ◌==◌, Bool, false, not, ◌&&◌, ◌||◌, List, [], ◌∷◌, length, map, fold, take_while, drop, if◌then◌else◌}
-use Rattle.hal_words.specs.Letters.{is_digit, is_letter}
+use Rattle.hal_base.specs.Digits.{is_digit}
+use Rattle.hal_words.specs.Letters.{is_letter}
 
 -- the number that digits write in a base
 abbrev pub written : ℕ → List ℕ → ℕ

@@ -1,5 +1,5 @@
 use Rattle.std.proofs.Common.{◌≡◌, ◌∙◌, Some, slice_get, sym, ap, rules}
-use Rattle.hal_lexer.proofs.NameEquality.{eq-same}
+use Rattle.hal_words.proofs.NameEquality.{eq-same}
 use Rattle.hal_lexer.proofs.Tables.{same_name}
 use Rattle.hal_lexer.proofs.compiled.has_slot.Goals as goal
 

@@ -1,6 +1,6 @@
 use Rattle.std.proofs.Common.{rules}
 use Rattle.indexmap.proofs.CallerLemmas.{updates-with_value_at}
-use Rattle.hal_lexer.proofs.NameEquality.{names_equiv}
+use Rattle.hal_words.proofs.NameEquality.{names_equiv}
 use Rattle.hal_lexer.proofs.NumberIndex.{found_updates}
 use Rattle.hal_lexer.proofs.compiled.set.Goals as goal
 

@@ -1,6 +1,6 @@
 use Rattle.std.proofs.Common.{◌≡◌, ◌∙◌, sym, ap}
 use Rattle.hal_words.specs.declared.word.Word.TheVariants as word
-use Rattle.hal_lexer.proofs.NameEquality.{eq-same}
+use Rattle.hal_words.proofs.NameEquality.{eq-same}
 use Rattle.hal_lexer.proofs.Tables.{same_name}
 use Rattle.hal_lexer.proofs.nothing.is_same_name.Goals as goal
 

@@ -1,6 +1,7 @@
--- Names are equal where their texts are.
-use Rattle.std.proofs.Common.{◌≡◌, ℕ, List, length, take, refl, sym, ◌∙◌, ap, Decides}
+-- Names are equal where their texts are, so a map finds a name by its text.
+use Rattle.std.proofs.Common.{◌≡◌, ℕ, List, [], ◌∷◌, length, take, Bool, cond, Some, refl, sym, ◌∙◌, ap, Decides}
 use Rattle.std.specs.Prelude.{bytes_eq}
+use Rattle.std.specs.Map.{lookup}
 use Rattle.std.specs.Cmp.{IsEquivalence}
 use Rattle.std.specs.Cmp.Lexicographic.{bytes_decides}
 use Rattle.std.proofs.Math.Seq.{take-append_seam}
@@ -24,6 +25,12 @@ eq-same a b = same_from_decides _ _ (eq-Decides a b) (bytes_eq-Decides a b)
 
 pub eq-flipped : (a b : List ℕ) → (derived.eq-value).it a b ≡ bytes_eq b a
 eq-flipped a b = same_from_decides _ _ (eq-Decides a b) (Decides-like _ sym sym (bytes_eq-Decides b a))
+
+-- a map is searched in the same way by tests that say the same
+pub lookup-same : {K X : Type 0} (f g : K → Bool) → ((key : K) → f key ≡ g key) → (entries : List (K × X)) → lookup f entries ≡ lookup g entries
+lookup-same f g same [] = refl
+lookup-same f g same (entry ∷ entries) =
+    ap (λ b. cond b (Some entry.1) (lookup f entries)) (same entry.0) ∙ ap (λ rest. cond (g entry.0) (Some entry.1) rest) (lookup-same f g same entries)
 
 pub names_equiv : IsEquivalence (λ a b. (derived.eq-value).it a b)
 names_equiv = record {
