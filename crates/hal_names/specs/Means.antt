@@ -33,6 +33,12 @@ unfoldable pub included : List Phrase → List Preface → List ℕ → Option �
 included ps [] name = None
 included ps (preface ∷ prefaces) name = option_or (shown_by ps preface name) (included ps prefaces name)
 
+-- the same of so many of the prefaces
+unfoldable pub included_before : List Phrase → List Preface → ℕ → List ℕ → Option ℕ
+included_before ps [] n name = None
+included_before ps (preface ∷ prefaces) zero name = None
+included_before ps (preface ∷ prefaces) (suc n) name = option_or (shown_by ps preface name) (included_before ps prefaces n name)
+
 -- the prefaces of a file
 unfoldable pub prefaces_of : Node → Option (List Preface)
 prefaces_of (OfFile prefaces unit) = Some prefaces

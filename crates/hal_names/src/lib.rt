@@ -10,4 +10,5 @@ mod names;
 
 pub use declaring::declared_by;
 pub use key::{Key, Space};
+pub use means::{is_compool_unit, prefaces_of};
 pub use names::Names;

@@ -4,14 +4,16 @@ ghost use Rattle.std.specs.Prelude.{◌≡◌, map, IfOk, slice_get};
 ghost use Rattle.std.specs.Option.{option_map};
 ghost use Rattle.hal_phrases.specs.SeenPhrases.{seen_phrase};
 ghost use Rattle.hal_names.specs.Keys.{own};
-ghost use Rattle.hal_names.specs.Means.{means};
+ghost use Rattle.hal_names.specs.Means.{included_before, means, unit_named};
+ghost use Rattle.hal_tree.specs.SeenUnits.{seen_preface};
 ghost use Rattle.hal_names.specs.SeenNames.{seen_names};
 
 use crate::index::{index_of, number_of};
 use crate::key::Key;
-use crate::means::nearest;
+use crate::means::{included_before, nearest, unit_named};
 use crate::names::Names;
 use hal_phrases::Phrase;
+use hal_tree::Preface;
 use hal_words::Name;
 use std::alloc::{AllocError, Global};
 
@@ -50,5 +52,19 @@ impl<'a> Names<'a> {
         ensures { result ≡ means (seen_names self.now) block name.now }
     {
         nearest(self, self.phrases.len(), block, name)
+    }
+
+    /// The number of the unit of this name in the set.
+    pub fn unit_named(&self, unit: &Name) -> Option<usize>
+        ensures { result ≡ unit_named (seen_names self.now) unit.now }
+    {
+        unit_named(self, unit)
+    }
+
+    /// What a name means by the templates that so many of these prefaces include.
+    pub fn included_before(&self, count: usize, prefaces: &[Preface], name: &Name) -> Option<usize>
+        ensures { result ≡ included_before (seen_names self.now) (map seen_preface prefaces.now) count name.now }
+    {
+        included_before(self, count, prefaces, name)
     }
 }

@@ -4,7 +4,7 @@ ghost use Rattle.std.specs.Prelude.{◌≡◌, map};
 ghost use Rattle.std.specs.Option.{option_map};
 ghost use Rattle.hal_tree.specs.SeenUnits.{seen_preface};
 ghost use Rattle.hal_phrases.specs.SeenPhrases.{seen_node};
-ghost use Rattle.hal_names.specs.Means.{given_by, included, is_compool_unit, nearest, prefaces_of, shown, shown_by, unit_named};
+ghost use Rattle.hal_names.specs.Means.{given_by, included, included_before, is_compool_unit, nearest, prefaces_of, shown, shown_by, unit_named};
 ghost use Rattle.hal_names.specs.SeenNames.{seen_names};
 
 use crate::key::{Key, Space};
@@ -15,7 +15,7 @@ use hal_words::Name;
 
 /// Whether a phrase is a COMPOOL's unit.
 #[tactic(auto, using(hal_tree::proofs::MadeUnits::made_program, hal_tree::proofs::MadeUnits::made_compool, hal_tree::proofs::MadeUnits::made_task, hal_tree::proofs::MadeUnits::made_procedure, hal_tree::proofs::MadeUnits::made_function), unfolding(crate::specs::Means::is_compool_unit))]
-fn is_compool_unit(node: Node<'_>) -> bool
+pub fn is_compool_unit(node: Node<'_>) -> bool
     ensures { result ≡ is_compool_unit (seen_node node.entry) }
 {
     match node {
@@ -32,7 +32,7 @@ fn is_compool_unit(node: Node<'_>) -> bool
 
 /// The number of the unit of this name in the set.
 #[tactic(auto, unfolding(crate::specs::Means::unit_named))]
-fn unit_named(names: &Names<'_>, unit: &Name) -> Option<usize>
+pub(crate) fn unit_named(names: &Names<'_>, unit: &Name) -> Option<usize>
     ensures { result ≡ unit_named (seen_names names.now) unit.now }
 {
     let file = names.own(&Key {
@@ -105,9 +105,33 @@ pub(crate) fn included(names: &Names<'_>, prefaces: &[Preface], name: &Name) -> 
     None
 }
 
+/// What a name means by the templates that so many of these prefaces include.
+#[tactic(auto, unfolding(crate::specs::Means::included_before))]
+pub(crate) fn included_before(
+    names: &Names<'_>,
+    count: usize,
+    prefaces: &[Preface],
+    name: &Name,
+) -> Option<usize>
+    ensures { result ≡ included_before (seen_names names.now) (map seen_preface prefaces.now) count name.now }
+{
+    let mut left = count;
+    for preface in prefaces {
+        let Some(fewer) = left.checked_sub(1) else {
+            return None;
+        };
+        let number = shown_by(names, preface, name);
+        if number.is_some() {
+            return number;
+        }
+        left = fewer;
+    }
+    None
+}
+
 /// The prefaces of a file.
 #[tactic(auto, unfolding(crate::specs::Means::prefaces_of))]
-fn prefaces_of<'a>(node: Node<'a>) -> Option<&'a [Preface]>
+pub fn prefaces_of<'a>(node: Node<'a>) -> Option<&'a [Preface]>
     ensures { option_map (λ prefaces. map seen_preface prefaces.now) result ≡ prefaces_of (seen_node node.entry) }
 {
     match node {

@@ -28,8 +28,8 @@ gathered_head d a (Function p inputs returns mode) = gathered_returns (gathered_
 unfoldable mutual
   -- a unit
   pub gathered_block : List Phrase → Around → Block → List Phrase
-  gathered_block d a (BlockOf name head declarations elements close) =
-      gathered_any (gathered_close (opened (length d) a)) (gathered_elements (gathered_each (gathered_declaration (opened (length d) a)) (gathered_head (add d a (OfUnit name head declarations)) (opened (length d) a) head) declarations) (opened (length d) a) elements) close
+  gathered_block d a (BlockOf name head declarations body close) =
+      gathered_any (gathered_close (opened (length d) a)) (gathered_elements (gathered_each (gathered_declaration (opened (length d) a)) (gathered_head (add d a (OfUnit name head declarations)) (opened (length d) a) head) declarations) (opened (length d) a) body) close
 
   -- statements and units
   pub gathered_elements : List Phrase → Around → Elements → List Phrase
@@ -59,7 +59,7 @@ gathered_prefaces d a n (x ∷ xs) = gathered_prefaces (gathered_preface d (behi
 
 -- the name of a unit
 unfoldable pub name_of_block : Block → Naming
-name_of_block (BlockOf name head declarations elements close) = name
+name_of_block (BlockOf name _ _ _ _) = name
 
 -- a file
 unfoldable pub gathered_file : List Phrase → File → List Phrase
