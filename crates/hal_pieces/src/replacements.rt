@@ -2,14 +2,14 @@
 
 ghost use Rattle.std.specs.Prelude.{◌≡◌, map};
 ghost use Rattle.hal_words.specs.Pieces.{piece_or_text, replacement};
-ghost use Rattle.hal_words.specs.Items.{are_opening, opens_text};
+ghost use Rattle.hal_words.specs.Items.{are_opening, ends_parameters, is_by, is_replace, opens_text};
 ghost use Rattle.hal_pieces.specs.Seen.{seen};
 ghost use Rattle.hal_pieces.specs.Faults.{seen_item};
 
 use crate::item::Item;
 use crate::piece::{Piece, first_piece};
 use crate::runs::{Class, front};
-use hal_words::{Reserved, Word};
+use hal_words::{Reserved, Symbol, Word};
 
 /// What the text, which doesn't begin with a blank or a comment, begins with behind these items, and how
 /// many bytes that takes.
@@ -29,29 +29,47 @@ pub(crate) fn piece_behind<'a>(items: &[Item<'a>], text: &'a [u8]) -> (Piece<'a>
     }
 }
 
-/// Whether a `"` behind these items opens the text of a definition, since the last three are REPLACE, a
-/// name and BY.
+/// Whether a `"` behind these items opens the text of a definition, though it be faulty.
 fn opens_text(items: &[Item]) -> bool
     ensures { result ≡ opens_text (map seen_item items.now) }
 {
     match items.split_at(items.len().saturating_sub(3)).1 {
+        [first] => is_replace(&first.piece),
+        [first, second] => is_replace(&first.piece) || is_replace(&second.piece),
         [first, second, third] => are_opening(&first.piece, &second.piece, &third.piece),
         _ => false,
     }
 }
 
-/// REPLACE, a name and BY.
+/// REPLACE with at most two items behind it, or the end of a list of parameters and BY.
 fn are_opening(first: &Piece, second: &Piece, third: &Piece) -> bool
     ensures { result ≡ are_opening (seen first.now) (seen second.now) (seen third.now) }
 {
-    matches!(
-        (first, second, third),
-        (
-            Piece::Word(Word::Reserved(Reserved::Replace)),
-            Piece::Word(Word::Name(_)),
-            Piece::Word(Word::Reserved(Reserved::By))
-        )
-    )
+    is_replace(first)
+        || is_replace(second)
+        || is_replace(third)
+        || (ends_parameters(second) && is_by(third))
+}
+
+/// The word REPLACE.
+fn is_replace(piece: &Piece) -> bool
+    ensures { result ≡ is_replace (seen piece.now) }
+{
+    matches!(piece, Piece::Word(Word::Reserved(Reserved::Replace)))
+}
+
+/// The end of a list.
+fn ends_parameters(piece: &Piece) -> bool
+    ensures { result ≡ ends_parameters (seen piece.now) }
+{
+    matches!(piece, Piece::Word(Word::Symbol(Symbol::RightParenthesis)))
+}
+
+/// The word BY.
+fn is_by(piece: &Piece) -> bool
+    ensures { result ≡ is_by (seen piece.now) }
+{
+    matches!(piece, Piece::Word(Word::Reserved(Reserved::By)))
 }
 
 /// The text of a replacement, behind the `"` that begins it, and its size with both marks.

@@ -3,6 +3,7 @@
 use Rattle.std.specs.Prelude.{ℕ, zero, suc, pred, ◌-◌, ◌==◌, Bool, true, false, ◌&&◌, ◌||◌, List, [], ◌∷◌, ◌++◌, length, drop, Option, Some, None, option_map, if◌then◌else◌}
 use Rattle.hal_base.specs.declared.refusal.Place.{Place}
 use Rattle.hal_words.specs.declared.reserved.Reserved.TheVariants as reserved
+use Rattle.hal_words.specs.declared.word.Symbol.TheVariants as symbol
 use Rattle.hal_words.specs.declared.word.Word.TheVariants as word
 use Rattle.hal_words.specs.Letters.{is_blank}
 use Rattle.hal_words.specs.Pieces.{Piece, Is, Wrong, piece_or_text}
@@ -52,18 +53,35 @@ comment_size cells = size_or_all (comment_rest false (behind cells)) (length cel
 abbrev pub comment_items : Place → List Cell → List Item
 comment_items place cells = fault_if_open (comment_rest false (behind cells)) place
 
--- REPLACE, a name and BY
+-- the word REPLACE
+abbrev pub is_replace : Piece → Bool
+is_replace (Is (word.Reserved reserved.Replace)) = true
+is_replace other = false
+
+-- the end of a list
+abbrev pub ends_parameters : Piece → Bool
+ends_parameters (Is (word.Symbol symbol.RightParenthesis)) = true
+ends_parameters other = false
+
+-- the word BY
+abbrev pub is_by : Piece → Bool
+is_by (Is (word.Reserved reserved.By)) = true
+is_by other = false
+
+-- REPLACE with at most two items behind it, or the end of a list of parameters and BY
 abbrev pub are_opening : Piece → Piece → Piece → Bool
-are_opening (Is (word.Reserved reserved.Replace)) (Is (word.Name name)) (Is (word.Reserved reserved.By)) = true
-are_opening a b c = false
+are_opening a b c = is_replace a || (is_replace b || (is_replace c || (ends_parameters b && is_by c)))
 
-abbrev pub are_three : List Item → Bool
-are_three (a ∷ b ∷ c ∷ []) = are_opening a.piece b.piece c.piece
-are_three rest = false
+-- the same of the last items, up to three
+abbrev pub are_last : List Item → Bool
+are_last (a ∷ []) = is_replace a.piece
+are_last (a ∷ b ∷ []) = is_replace a.piece || is_replace b.piece
+are_last (a ∷ b ∷ c ∷ []) = are_opening a.piece b.piece c.piece
+are_last rest = false
 
--- a `"` behind these items opens the text of a definition: the last three are REPLACE, a name and BY
+-- a `"` behind these items opens the text of a definition, though it be faulty: REPLACE is among the last three, or the last two are `)` and BY
 abbrev pub opens_text : List Item → Bool
-opens_text before = are_three (drop (length before - 3) before)
+opens_text before = are_last (drop (length before - 3) before)
 
 -- what begins at a byte behind these items: the items that it gives, and how many cells it goes on for
 abbrev pub begun : List Item → ℕ → Place → List ℕ → List Cell → List Item × ℕ

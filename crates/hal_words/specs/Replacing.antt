@@ -81,7 +81,7 @@ within (suc deep) definitions opened one =
 abbrev pub replaced_word : Definitions → Item → List Item
 replaced_word definitions one = within (length definitions) definitions [] one
 
--- a `"` behind REPLACE, a name and BY whose text no definition has begins no word
+-- a `"` whose text no definition has begins no word
 abbrev pub as_word : Piece → Place → Item
 as_word (Replacement text) place = item (Wrong 201) place
 as_word Open place = item (Wrong 201) place

@@ -62,8 +62,6 @@ pub fn words_of_files()
         item (Wrong 207) (place_at 0 1 2)
         ∷ item (Is (word.Name (codes "A"))) (place_at 0 1 10)
         ∷ item (Wrong 201) (place_at 0 1 12)
-        ∷ item (Is (word.Name (codes "B"))) (place_at 0 1 13)
-        ∷ item (Wrong 201) (place_at 0 1 14)
         ∷ item (Is (word.Symbol symbol.Semicolon)) (place_at 0 1 15)
         ∷ [] }
 {}
