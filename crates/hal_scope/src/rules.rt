@@ -1,0 +1,55 @@
+//! The rules of names over phrases.
+
+ghost use Rattle.std.specs.Prelude.{◌≡◌, map};
+ghost use Rattle.hal_phrases.specs.SeenPhrases.{seen_phrase};
+ghost use Rattle.hal_names.specs.SeenNames.{seen_names};
+ghost use Rattle.hal_scope.specs.Rules.{fault, first_fault, rows, ruled};
+
+use crate::components::lacks;
+use crate::included::repeated;
+use crate::labels::{astray, misclosed, misled};
+use crate::repeated::undeclared;
+use crate::uses::{misused, unknown};
+use hal_base::Place;
+use hal_names::Names;
+use hal_phrases::Phrase;
+
+/// The rule and the place, where there is one.
+fn ruled(rule: u16, place: Option<Place>) -> Option<(u16, Place)>
+    ensures { result ≡ ruled rule place }
+{
+    match place {
+        Some(place) => Some((rule, place)),
+        None => None,
+    }
+}
+
+/// The first rule that a phrase breaks, and where.
+#[tactic(auto, using(crate::proofs::Lists::or_none), unfolding(crate::specs::Rules::fault))]
+pub(crate) fn fault(names: &Names<'_>, phrase: &Phrase<'_>) -> Option<(u16, Place)>
+    ensures { result ≡ fault rows (seen_names names.now) (seen_phrase phrase.now) }
+{
+    let later = ruled(608, lacks(names, phrase));
+    let later = ruled(607, astray(names, phrase)).or(later);
+    let later = ruled(606, undeclared(names, phrase)).or(later);
+    let later = ruled(605, misled(names, phrase)).or(later);
+    let later = ruled(604, misclosed(names, phrase)).or(later);
+    let later = ruled(603, misused(names, phrase)).or(later);
+    let later = ruled(602, repeated(names, phrase)).or(later);
+    ruled(601, unknown(names, phrase)).or(later)
+}
+
+/// The first rule that one of the phrases breaks, and where.
+#[tactic(auto, unfolding(crate::specs::Rules::first_fault))]
+pub(crate) fn first_fault(names: &Names<'_>) -> Option<(u16, Place)>
+    ensures { result ≡ first_fault rows (seen_names names.now) (seen_names names.now) }
+{
+    let phrases = names.phrases();
+    for phrase in phrases {
+        let found = fault(names, phrase);
+        if found.is_some() {
+            return found;
+        }
+    }
+    None
+}

@@ -1,0 +1,13 @@
+//! A name that is used.
+
+use crate::usage::Usage;
+use hal_base::Place;
+use hal_words::Name;
+
+/// A name that is used, where, and what for.
+#[derive(Clone, Copy, Debug)]
+pub struct Use {
+    pub place: Place,
+    pub name: Name,
+    pub usage: Usage,
+}
