@@ -1,0 +1,13 @@
+//! The rules of names, tried on rows: sets of units, and the rule of names that each breaks or that it breaks none.
+#![tactic(auto)]
+
+mod name_rows;
+
+use name_rows::NameRows;
+use row_files::try_files;
+use std::io;
+use std::process::ExitCode;
+
+fn main(rt: HostRuntime) -> io::Result<ExitCode> {
+    try_files(&rt, &NameRows)
+}

@@ -1,0 +1,75 @@
+//! Rows of names. `UNIT ~~ UNIT => rule 601 0 3:7` is a set of units that breaks a rule in unit 0 at a line and a column, and `UNIT => right` one that
+//! breaks no rule of names; both are tried as `set`. A newline in a unit is written `\n`.
+
+use hal_base::{Fault, Place, Refusal, Rule};
+use hal_lexer::tokens;
+use hal_parse::parse;
+use hal_scope::resolve;
+use hal_tree::File;
+use row_files::{Rows, bytes_of};
+use std::alloc::{AllocError, Global};
+
+/// What a row separates its units from the outcome with.
+const ARROW: &str = " => ";
+
+/// What a row separates its units with.
+const BESIDE: &str = " ~~ ";
+
+/// Rows of names.
+#[derive(Clone, Copy)]
+pub(crate) struct NameRows;
+
+impl Rows for NameRows {
+    fn written(&self, alloc: Global, way: &str, row: &str) -> Result<String, AllocError> {
+        let Some((units, _)) = row.split_once(ARROW) else {
+            return String::from_str(alloc, "a row with nothing to try");
+        };
+        if way != "set" {
+            return String::from_str(alloc, "a way in which nothing is tried");
+        }
+        let came = match names_of(alloc, units) {
+            Ok(()) => String::from_str(alloc, "right")?,
+            Err(Fault::Broken(refusal)) => told(alloc, refusal)?,
+            Err(Fault::Memory(error)) => return Err(error),
+        };
+        format!(in alloc; "{units}{ARROW}{came}")
+    }
+}
+
+/// A rule and its place.
+fn told(alloc: Global, refusal: Refusal) -> Result<String, AllocError> {
+    let Rule(rule) = refusal.rule;
+    let Place { unit, line, column } = refusal.place;
+    format!(in alloc; "rule {rule} {unit} {line}:{column}")
+}
+
+/// The file that is unit number `number` of a set.
+fn file_of(alloc: Global, notation: &str, number: u32) -> Result<File, Fault> {
+    let text = match bytes_of(alloc, notation) {
+        Ok(text) => text.unwrap_or(Vec::new(alloc)),
+        Err(error) => return Err(Fault::Memory(error)),
+    };
+    let words = tokens(alloc, text.as_slice(), number)?;
+    parse(alloc, words.as_slice(), number)
+}
+
+/// The files of a set of units.
+fn files_of(alloc: Global, units: &str) -> Result<Vec<File>, Fault> {
+    let mut files = Vec::new(alloc);
+    let mut number: u32 = 0;
+    for unit in units.split(BESIDE) {
+        let file = file_of(alloc, unit, number)?;
+        if files.push(file).is_err() {
+            return Err(Fault::Memory(AllocError));
+        }
+        number = number.saturating_add(1);
+    }
+    Ok(files)
+}
+
+/// Whether a set of units breaks no rule of names.
+fn names_of(alloc: Global, units: &str) -> Result<(), Fault> {
+    let files = files_of(alloc, units)?;
+    resolve(alloc, files.as_slice())?;
+    Ok(())
+}
