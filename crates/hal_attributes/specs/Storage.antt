@@ -8,7 +8,7 @@ use Rattle.hal_phrases.specs.Phrases.{Node, Phrase, OfTemplate, OfUnit, OfItem, 
 use Rattle.hal_scope.specs.Sorts.{type_of}
 use Rattle.hal_scope.specs.Uses.{unless}
 use Rattle.hal_kinds.specs.Attributes.{constant_among, constant_of, has_mark, initial_among, initial_of, is_marked}
-use Rattle.hal_attributes.specs.Typed.{is_event_type, is_parameter}
+use Rattle.hal_kinds.specs.Data.{is_event_type, is_parameter}
 
 -- whether a block begins anew at each call
 unfoldable pub is_entered_head : Head → Bool

@@ -6,11 +6,10 @@ use Rattle.hal_grammar.specs.Leaves.{Naming}
 use Rattle.hal_grammar.specs.Declarations.{Kind, EventKind, StructureKind, Attribute, Declared}
 use Rattle.hal_grammar.specs.Units.{Head, Function, Returns, NoKind, HasKind}
 use Rattle.hal_phrases.specs.Phrases.{Node, Phrase, OfTemplate, OfUnit, OfItem, OfPart}
-use Rattle.hal_names.specs.declared.key.Space.TheVariants as space
-use Rattle.hal_names.specs.Keys.{key, own}
 use Rattle.hal_scope.specs.Sorts.{type_among, type_of}
 use Rattle.hal_scope.specs.Uses.{unless}
 use Rattle.hal_kinds.specs.Attributes.{sizes_of}
+use Rattle.hal_kinds.specs.Data.{is_event_type, is_parameter}
 
 -- whether nothing is said of a result
 unfoldable pub is_untyped : Returns → Bool
@@ -49,15 +48,6 @@ is_structure_type other = false
 unfoldable pub nested : Node → Option Place
 nested (OfPart bottom part) = unless (not (is_structure_type (type_among part.attributes))) part.place
 nested other = None
-
--- whether a type is that of events
-unfoldable pub is_event_type : Option Kind → Bool
-is_event_type (Some (EventKind place)) = true
-is_event_type other = false
-
--- whether a name is that of a parameter of the block to which a phrase's names belong
-abbrev pub is_parameter : List Phrase → Phrase → List ℕ → Bool
-is_parameter ps p name = is_some (own ps (key space.Parameter p.around.home name))
 
 -- whether data that are no single variable have this name: an array or a parameter
 abbrev pub is_no_variable : List Phrase → Phrase → List Attribute → Declared → Bool

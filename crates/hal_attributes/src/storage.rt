@@ -7,9 +7,11 @@ ghost use Rattle.hal_phrases.specs.SeenPhrases.{seen_node, seen_phrase};
 ghost use Rattle.hal_names.specs.SeenNames.{seen_names};
 ghost use Rattle.hal_attributes.specs.Storage as storage;
 
-use crate::typed::{is_event_type, is_parameter};
 use hal_base::Place;
-use hal_kinds::{constant_among, constant_of, has_mark, initial_among, initial_of, is_marked};
+use hal_kinds::{
+    constant_among, constant_of, has_mark, initial_among, initial_of, is_event_type, is_marked,
+    is_parameter,
+};
 use hal_names::Names;
 use hal_phrases::{Node, Phrase};
 use hal_scope::{type_of, unless};

@@ -9,8 +9,8 @@ ghost use Rattle.hal_names.specs.SeenNames.{seen_names};
 ghost use Rattle.hal_attributes.specs.Typed as typed;
 
 use hal_base::Place;
-use hal_kinds::sizes_of;
-use hal_names::{Key, Names, Space};
+use hal_kinds::{is_event_type, is_parameter, sizes_of};
+use hal_names::Names;
 use hal_phrases::{Node, Phrase};
 use hal_scope::{type_among, type_of, unless};
 use hal_tree::{Attribute, Declared, Head, Returns, Type};
@@ -116,34 +116,6 @@ pub fn nested(node: Node<'_>) -> Option<Place>
         ),
         _ => None,
     }
-}
-
-/// Whether a type is that of events.
-#[tactic(auto, using(hal_tree::proofs::MadeDeclarations::made_integer_type, hal_tree::proofs::MadeDeclarations::made_boolean_type, hal_tree::proofs::MadeDeclarations::made_event_type, hal_tree::proofs::MadeDeclarations::made_bit_type, hal_tree::proofs::MadeDeclarations::made_character_type, hal_tree::proofs::MadeDeclarations::made_structure_type), unfolding(crate::specs::Typed::is_event_type))]
-pub(crate) fn is_event_type(kind: Option<&Type>) -> bool
-    ensures { result ≡ typed.is_event_type (option_map (λ kind. seen_type kind.now) kind.entry) }
-{
-    match kind {
-        None => false,
-        Some(Type::Event { place: _ }) => true,
-        Some(Type::Integer { place: _ }) => false,
-        Some(Type::Boolean { place: _ }) => false,
-        Some(Type::Bit { .. }) => false,
-        Some(Type::Character { .. }) => false,
-        Some(Type::Structure { .. }) => false,
-    }
-}
-
-/// Whether a name is that of a parameter of the block to which a phrase's names belong.
-pub(crate) fn is_parameter(names: &Names<'_>, phrase: &Phrase<'_>, name: &Name) -> bool
-    ensures { result ≡ typed.is_parameter (seen_names names.now) (seen_phrase phrase.now) name.now }
-{
-    let parameter = names.own(&Key {
-        space: Space::Parameter,
-        owner: phrase.around.home,
-        name: *name,
-    });
-    parameter.is_some()
 }
 
 /// Whether data that are no single variable have this name: an array or a parameter.

@@ -85,3 +85,12 @@ data_at ps p path other = None
 -- what a name with a path means in a block, where it is data
 abbrev pub data_named : List Phrase → ℕ → List ℕ → List Naming → Option Data
 data_named ps block name path = option_and_then (λ k. option_and_then (λ (p : Phrase). data_at ps p path p.node) (slice_get ps k)) (means ps block name)
+
+-- whether a type is that of events
+unfoldable pub is_event_type : Option Kind → Bool
+is_event_type (Some (EventKind place)) = true
+is_event_type other = false
+
+-- whether a name is that of a parameter of the block to which a phrase's names belong
+abbrev pub is_parameter : List Phrase → Phrase → List ℕ → Bool
+is_parameter ps p name = is_some (own ps (key space.Parameter p.around.home name))

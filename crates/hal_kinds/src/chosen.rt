@@ -121,7 +121,7 @@ pub fn has_places_left(whole: Data, choice: Choice) -> bool
 
 /// The class of what is chosen.
 #[tactic(auto, unfolding(crate::specs::Subscripts::is_structure_class))]
-pub(crate) fn class_in(whole: Data, choice: Choice) -> Class
+pub fn class_in(whole: Data, choice: Choice) -> Class
     ensures { result ≡ chosen.class_in whole choice }
 {
     match whole.class {

@@ -16,9 +16,9 @@ pub use attributes::{
     sizes_of,
 };
 pub use choice::Choice;
-pub use chosen::{chosen, has_copies_left, has_places_left};
+pub use chosen::{chosen, class_in, has_copies_left, has_places_left};
 pub use class::Class;
 pub use classes::{beside, class_of, joined};
 pub use data::Data;
-pub use named::{component_of, data_at, data_named, part_data};
-pub use references::{class_of_reference, class_of_returns};
+pub use named::{component_of, data_at, data_named, is_event_type, is_parameter, part_data};
+pub use references::{class_of_head, class_of_reference, class_of_returns};

@@ -208,3 +208,31 @@ pub fn data_named(names: &Names<'_>, block: usize, name: &Name, path: &[Identifi
     let phrase = names.phrase(number)?;
     data_at(names, &phrase, path)
 }
+
+/// Whether a type is that of events.
+#[tactic(auto, using(hal_tree::proofs::MadeDeclarations::made_integer_type, hal_tree::proofs::MadeDeclarations::made_boolean_type, hal_tree::proofs::MadeDeclarations::made_event_type, hal_tree::proofs::MadeDeclarations::made_bit_type, hal_tree::proofs::MadeDeclarations::made_character_type, hal_tree::proofs::MadeDeclarations::made_structure_type), unfolding(crate::specs::Data::is_event_type))]
+pub fn is_event_type(kind: Option<&Type>) -> bool
+    ensures { result ≡ named.is_event_type (option_map (λ kind. seen_type kind.now) kind.entry) }
+{
+    match kind {
+        None => false,
+        Some(Type::Event { place: _ }) => true,
+        Some(Type::Integer { place: _ }) => false,
+        Some(Type::Boolean { place: _ }) => false,
+        Some(Type::Bit { .. }) => false,
+        Some(Type::Character { .. }) => false,
+        Some(Type::Structure { .. }) => false,
+    }
+}
+
+/// Whether a name is that of a parameter of the block to which a phrase's names belong.
+pub fn is_parameter(names: &Names<'_>, phrase: &Phrase<'_>, name: &Name) -> bool
+    ensures { result ≡ named.is_parameter (seen_names names.now) (seen_phrase phrase.now) name.now }
+{
+    let parameter = names.own(&Key {
+        space: Space::Parameter,
+        owner: phrase.around.home,
+        name: *name,
+    });
+    parameter.is_some()
+}

@@ -45,7 +45,7 @@ pub fn class_of_returns(returns: &Returns) -> Option<Class>
 
 /// The name of a block as an operand: a process's is read as one bit, a function's calls it without arguments.
 #[tactic(auto, using(hal_tree::proofs::MadeUnits::made_program, hal_tree::proofs::MadeUnits::made_compool, hal_tree::proofs::MadeUnits::made_task, hal_tree::proofs::MadeUnits::made_procedure, hal_tree::proofs::MadeUnits::made_function), unfolding(crate::specs::Classes::class_of_head))]
-fn class_of_head(head: &Head) -> Option<Class>
+pub fn class_of_head(head: &Head) -> Option<Class>
     ensures { result ≡ classes.class_of_head (seen_head head.now) }
 {
     match head {

@@ -16,7 +16,7 @@ mod used;
 mod uses;
 
 pub use builtin::{Builtin, Form, builtin_named};
-pub use events::{holds_event, is_in_event, refers_to_event, sort_at};
+pub use events::{holds_event, is_in_event, limit_of, refers_to_event, sort_at};
 pub use resolving::resolve;
 pub use rules::ruled;
 pub use sort::Sort;

@@ -6,6 +6,7 @@ use hal_lexer::tokens;
 use hal_parse::parse;
 use hal_scope::resolve;
 use hal_tree::File;
+use hal_types::check_types;
 use row_files::{Rows, bytes_of};
 use std::alloc::{AllocError, Global};
 
@@ -70,6 +71,6 @@ fn files_of(alloc: Global, units: &str) -> Result<Vec<File>, Fault> {
 /// Whether a set of units breaks no rule of names.
 fn names_of(alloc: Global, units: &str) -> Result<(), Fault> {
     let files = files_of(alloc, units)?;
-    resolve(alloc, files.as_slice())?;
-    Ok(())
+    let names = resolve(alloc, files.as_slice())?;
+    check_types(&names)
 }

@@ -1,0 +1,4 @@
+pub mod Wants
+pub mod Pairs
+pub mod Taken
+pub mod Times
