@@ -3,7 +3,7 @@ use Rattle.std.specs.Prelude.{ℕ, Bool, true, false, ◌||◌, not, List, [], �
 use Rattle.std.specs.List.{list_any}
 use Rattle.std.specs.Option.{option_or}
 use Rattle.hal_base.specs.declared.refusal.Place.{Place}
-use Rattle.hal_grammar.specs.Declarations.{Kind, Attribute, Dimensions, Typed}
+use Rattle.hal_grammar.specs.Declarations.{Kind, Attribute}
 use Rattle.hal_grammar.specs.Units.{Head, Function, Precision, SinglePrecision, DoublePrecision, Returns, HasKind, NoKind}
 use Rattle.hal_phrases.specs.Phrases.{Node, Phrase, OfTemplate, OfUnit, OfDeclare, OfItem, OfPart}
 use Rattle.hal_scope.specs.Uses.{unless}
@@ -33,17 +33,6 @@ unfoldable pub clash_among : List Attribute → List Attribute → Option Place
 clash_among common [] = None
 clash_among common (x ∷ xs) = option_or (clash_at common x xs) (clash_among common xs)
 
--- whether an attribute says what the parts of a part say
-unfoldable pub is_of_bottom : Attribute → Bool
-is_of_bottom (Dimensions place sizes) = true
-is_of_bottom (Typed kind) = true
-is_of_bottom other = false
-
--- a type or an array of a part that has parts of its own
-unfoldable pub first_of_bottom : List Attribute → Option Place
-first_of_bottom [] = None
-first_of_bottom (x ∷ xs) = if is_of_bottom x then Some (place_of_attribute x) else first_of_bottom xs
-
 -- the place of a precision
 unfoldable pub place_of_precision : Precision → Place
 place_of_precision (SinglePrecision place) = place
@@ -62,15 +51,11 @@ unfoldable pub clash_of_head : Head → Option Place
 clash_of_head (Function place inputs returns mode) = clash_of_returns returns
 clash_of_head other = None
 
--- of a part
-abbrev pub clash_of_part : Bool → List Attribute → Option Place
-clash_of_part bottom attributes = option_or (clash_among [] attributes) (if bottom then None else first_of_bottom attributes)
-
--- rule 701
+-- rule 701, parts that have parts aside
 unfoldable pub clashing : Node → Option Place
 clashing (OfTemplate name head declarations) = clash_of_head head
 clashing (OfUnit name head declarations) = clash_of_head head
 clashing (OfDeclare common) = clash_among [] common
 clashing (OfItem common item) = clash_among common item.attributes
-clashing (OfPart bottom part) = clash_of_part bottom part.attributes
+clashing (OfPart bottom part) = clash_among [] part.attributes
 clashing other = None

@@ -72,35 +72,6 @@ fn clash_among(common: &[Attribute], attributes: &[Attribute]) -> Option<Place>
     None
 }
 
-/// Whether an attribute says what the parts of a part say.
-#[tactic(auto, using(hal_tree::proofs::MadeDeclarations::made_dimensions, hal_tree::proofs::MadeDeclarations::made_typed, hal_tree::proofs::MadeDeclarations::made_marked, hal_tree::proofs::MadeDeclarations::made_lock_group, hal_tree::proofs::MadeDeclarations::made_lock_any, hal_tree::proofs::MadeDeclarations::made_initial, hal_tree::proofs::MadeDeclarations::made_constant), unfolding(crate::specs::Clashes::is_of_bottom))]
-fn is_of_bottom(attribute: &Attribute) -> bool
-    ensures { result ≡ clashes.is_of_bottom (seen_attribute attribute.now) }
-{
-    match attribute {
-        Attribute::Dimensions { .. } => true,
-        Attribute::Typed(_) => true,
-        Attribute::Marked { .. } => false,
-        Attribute::LockGroup { .. } => false,
-        Attribute::LockAny { .. } => false,
-        Attribute::Initial { .. } => false,
-        Attribute::Constant { .. } => false,
-    }
-}
-
-/// A type or an array of a part that has parts of its own.
-#[tactic(auto, unfolding(crate::specs::Clashes::first_of_bottom))]
-fn first_of_bottom(attributes: &[Attribute]) -> Option<Place>
-    ensures { result ≡ clashes.first_of_bottom (map seen_attribute attributes.now) }
-{
-    for attribute in attributes {
-        if is_of_bottom(attribute) {
-            return Some(place_of_attribute(attribute));
-        }
-    }
-    None
-}
-
 /// The place of a precision.
 #[tactic(auto, unfolding(crate::specs::Clashes::place_of_precision))]
 fn place_of_precision(precision: Precision) -> Place
@@ -149,18 +120,7 @@ fn clash_of_head(head: &Head) -> Option<Place>
     }
 }
 
-/// The same of a part.
-fn clash_of_part(bottom: bool, attributes: &[Attribute]) -> Option<Place>
-    ensures { result ≡ clashes.clash_of_part bottom (map seen_attribute attributes.now) }
-{
-    let clash = clash_among(&[], attributes);
-    if clash.is_some() || bottom {
-        return clash;
-    }
-    first_of_bottom(attributes)
-}
-
-/// Where a phrase breaks rule 701.
+/// Where a phrase breaks rule 701, parts that have parts aside.
 #[tactic(auto, using(hal_tree::proofs::MadeDeclarations::made_declared, hal_tree::proofs::MadeDeclarations::made_part), unfolding(crate::specs::Clashes::clashing))]
 pub fn clashing(node: Node<'_>) -> Option<Place>
     ensures { result ≡ clashes.clashing (seen_node node.entry) }
@@ -170,7 +130,7 @@ pub fn clashing(node: Node<'_>) -> Option<Place>
         Node::Unit { head, .. } => clash_of_head(head),
         Node::Declare { common } => clash_among(&[], common),
         Node::Item { common, item } => clash_among(common, &item.attributes),
-        Node::Part { bottom, part } => clash_of_part(bottom, &part.attributes),
+        Node::Part { bottom: _, part } => clash_among(&[], &part.attributes),
         _ => None,
     }
 }

@@ -1,8 +1,8 @@
 -- How many members the lists of the grammar have.
-use Rattle.std.proofs.Common.{rules, ◌≡◌, List, [], ◌∷◌, length, map}
+use Rattle.std.proofs.Common.{rules, ◌≡◌, ◌==◌, List, [], ◌∷◌, length, map}
 use Rattle.hal_grammar.specs.Expressions.{Expression, Sub}
 use Rattle.hal_tree.specs.Rows.{expressions, subscripts}
-use Rattle.hal_kinds.specs.Attributes.{count_of}
+use Rattle.hal_kinds.specs.Attributes.{count_of, no_more}
 use Rattle.hal_kinds.specs.Subscripts.{subscript_count}
 
 pub counted : {X : Type 0} (f : X → Expression) (xs : List X) → count_of (expressions (map f xs)) ≡ length xs
@@ -14,3 +14,12 @@ pub subscripts_counted : {X : Type 0} (f : X → Sub) (xs : List X) → subscrip
 unfolding subscript_count subscripts
 subscripts_counted f [] = search rules
 subscripts_counted f (x ∷ xs) = search (rules, subscripts_counted f xs)
+
+pub none_left : {X : Type 0} (f : X → Expression) (xs : List X) → (length xs == 0) ≡ no_more (expressions (map f xs))
+unfolding no_more expressions
+none_left f [] = search rules
+none_left f (x ∷ xs) = search rules
+
+pub all_mapped : {X Y : Type 0} (f : X → Y) (xs : List X) → length (map f xs) ≡ length xs
+all_mapped f [] = search rules
+all_mapped f (x ∷ xs) = search (rules, all_mapped f xs)

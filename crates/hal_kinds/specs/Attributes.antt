@@ -10,6 +10,11 @@ unfoldable pub count_of : Expressions → ℕ
 count_of NoExpressions = zero
 count_of (MoreExpressions first others) = suc (count_of others)
 
+-- whether there is none
+unfoldable pub no_more : Expressions → Bool
+no_more NoExpressions = true
+no_more other = false
+
 -- the sizes that an attribute gives
 unfoldable pub sizes_in : Attribute → Option Expressions
 sizes_in (Dimensions place sizes) = Some sizes

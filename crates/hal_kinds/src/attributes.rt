@@ -5,14 +5,14 @@ ghost use Rattle.std.specs.Option.{option_map};
 ghost use Rattle.hal_tree.specs.Rows.{expressions, initials};
 ghost use Rattle.hal_tree.specs.SeenExpressions.{seen_expression};
 ghost use Rattle.hal_tree.specs.SeenDeclarations.{seen_attribute, seen_declared, seen_initial, seen_mark};
-ghost use Rattle.hal_kinds.specs.Attributes as attributes;
+ghost use Rattle.hal_kinds.specs.Attributes as said;
 
 use hal_tree::{Attribute, Declared, Expr, Initial, Mark};
 
 /// The sizes that an attribute gives.
 #[tactic(auto, using(hal_tree::proofs::MadeDeclarations::made_dimensions, hal_tree::proofs::MadeDeclarations::made_typed, hal_tree::proofs::MadeDeclarations::made_marked, hal_tree::proofs::MadeDeclarations::made_lock_group, hal_tree::proofs::MadeDeclarations::made_lock_any, hal_tree::proofs::MadeDeclarations::made_initial, hal_tree::proofs::MadeDeclarations::made_constant), unfolding(crate::specs::Attributes::sizes_in))]
 fn sizes_in<'a>(attribute: &'a Attribute) -> Option<&'a [Expr]>
-    ensures { option_map (λ sizes. expressions (map seen_expression sizes.now)) result ≡ attributes.sizes_in (seen_attribute attribute.now) }
+    ensures { option_map (λ sizes. expressions (map seen_expression sizes.now)) result ≡ said.sizes_in (seen_attribute attribute.now) }
 {
     match attribute {
         Attribute::Dimensions { place: _, sizes } => Some(sizes.as_slice()),
@@ -28,7 +28,7 @@ fn sizes_in<'a>(attribute: &'a Attribute) -> Option<&'a [Expr]>
 /// The first sizes among attributes.
 #[tactic(auto, unfolding(crate::specs::Attributes::sizes_among))]
 pub fn sizes_among<'a>(attributes: &'a [Attribute]) -> Option<&'a [Expr]>
-    ensures { option_map (λ sizes. expressions (map seen_expression sizes.now)) result ≡ attributes.sizes_among (map seen_attribute attributes.now) }
+    ensures { option_map (λ sizes. expressions (map seen_expression sizes.now)) result ≡ said.sizes_among (map seen_attribute attributes.now) }
 {
     for attribute in attributes {
         let sizes = sizes_in(attribute);
@@ -42,7 +42,7 @@ pub fn sizes_among<'a>(attributes: &'a [Attribute]) -> Option<&'a [Expr]>
 /// The initial values that an attribute gives.
 #[tactic(auto, using(hal_tree::proofs::MadeDeclarations::made_dimensions, hal_tree::proofs::MadeDeclarations::made_typed, hal_tree::proofs::MadeDeclarations::made_marked, hal_tree::proofs::MadeDeclarations::made_lock_group, hal_tree::proofs::MadeDeclarations::made_lock_any, hal_tree::proofs::MadeDeclarations::made_initial, hal_tree::proofs::MadeDeclarations::made_constant), unfolding(crate::specs::Attributes::initial_in))]
 fn initial_in<'a>(attribute: &'a Attribute) -> Option<&'a [Initial]>
-    ensures { option_map (λ values. initials (map seen_initial values.now)) result ≡ attributes.initial_in (seen_attribute attribute.now) }
+    ensures { option_map (λ values. initials (map seen_initial values.now)) result ≡ said.initial_in (seen_attribute attribute.now) }
 {
     match attribute {
         Attribute::Initial { place: _, values } => Some(values.as_slice()),
@@ -58,7 +58,7 @@ fn initial_in<'a>(attribute: &'a Attribute) -> Option<&'a [Initial]>
 /// The first initial values among attributes.
 #[tactic(auto, unfolding(crate::specs::Attributes::initial_among))]
 pub fn initial_among<'a>(attributes: &'a [Attribute]) -> Option<&'a [Initial]>
-    ensures { option_map (λ values. initials (map seen_initial values.now)) result ≡ attributes.initial_among (map seen_attribute attributes.now) }
+    ensures { option_map (λ values. initials (map seen_initial values.now)) result ≡ said.initial_among (map seen_attribute attributes.now) }
 {
     for attribute in attributes {
         let values = initial_in(attribute);
@@ -72,7 +72,7 @@ pub fn initial_among<'a>(attributes: &'a [Attribute]) -> Option<&'a [Initial]>
 /// The values that an attribute makes constant.
 #[tactic(auto, using(hal_tree::proofs::MadeDeclarations::made_dimensions, hal_tree::proofs::MadeDeclarations::made_typed, hal_tree::proofs::MadeDeclarations::made_marked, hal_tree::proofs::MadeDeclarations::made_lock_group, hal_tree::proofs::MadeDeclarations::made_lock_any, hal_tree::proofs::MadeDeclarations::made_initial, hal_tree::proofs::MadeDeclarations::made_constant), unfolding(crate::specs::Attributes::constant_in))]
 fn constant_in<'a>(attribute: &'a Attribute) -> Option<&'a [Initial]>
-    ensures { option_map (λ values. initials (map seen_initial values.now)) result ≡ attributes.constant_in (seen_attribute attribute.now) }
+    ensures { option_map (λ values. initials (map seen_initial values.now)) result ≡ said.constant_in (seen_attribute attribute.now) }
 {
     match attribute {
         Attribute::Constant { place: _, values } => Some(values.as_slice()),
@@ -88,7 +88,7 @@ fn constant_in<'a>(attribute: &'a Attribute) -> Option<&'a [Initial]>
 /// The first of these among attributes.
 #[tactic(auto, unfolding(crate::specs::Attributes::constant_among))]
 pub fn constant_among<'a>(attributes: &'a [Attribute]) -> Option<&'a [Initial]>
-    ensures { option_map (λ values. initials (map seen_initial values.now)) result ≡ attributes.constant_among (map seen_attribute attributes.now) }
+    ensures { option_map (λ values. initials (map seen_initial values.now)) result ≡ said.constant_among (map seen_attribute attributes.now) }
 {
     for attribute in attributes {
         let values = constant_in(attribute);
@@ -102,7 +102,7 @@ pub fn constant_among<'a>(attributes: &'a [Attribute]) -> Option<&'a [Initial]>
 /// Whether two words are the same.
 #[tactic(auto, unfolding(crate::specs::Attributes::same_mark))]
 fn same_mark(one: Mark, other: Mark) -> bool
-    ensures { result ≡ attributes.same_mark (seen_mark one) (seen_mark other) }
+    ensures { result ≡ said.same_mark (seen_mark one) (seen_mark other) }
 {
     match (one, other) {
         (Mark::Single, Mark::Single) => true,
@@ -119,7 +119,7 @@ fn same_mark(one: Mark, other: Mark) -> bool
 /// Whether an attribute is this word.
 #[tactic(auto, using(hal_tree::proofs::MadeDeclarations::made_dimensions, hal_tree::proofs::MadeDeclarations::made_typed, hal_tree::proofs::MadeDeclarations::made_marked, hal_tree::proofs::MadeDeclarations::made_lock_group, hal_tree::proofs::MadeDeclarations::made_lock_any, hal_tree::proofs::MadeDeclarations::made_initial, hal_tree::proofs::MadeDeclarations::made_constant), unfolding(crate::specs::Attributes::is_mark))]
 fn is_mark(wanted: Mark, attribute: &Attribute) -> bool
-    ensures { result ≡ attributes.is_mark (seen_mark wanted) (seen_attribute attribute.now) }
+    ensures { result ≡ said.is_mark (seen_mark wanted) (seen_attribute attribute.now) }
 {
     match attribute {
         Attribute::Marked { place: _, mark } => same_mark(wanted, *mark),
@@ -134,7 +134,7 @@ fn is_mark(wanted: Mark, attribute: &Attribute) -> bool
 
 /// Whether this word is among attributes.
 pub fn has_mark(wanted: Mark, attributes: &[Attribute]) -> bool
-    ensures { result ≡ attributes.has_mark (seen_mark wanted) (map seen_attribute attributes.now) }
+    ensures { result ≡ said.has_mark (seen_mark wanted) (map seen_attribute attributes.now) }
 {
     for attribute in attributes {
         if is_mark(wanted, attribute) {
@@ -147,7 +147,7 @@ pub fn has_mark(wanted: Mark, attributes: &[Attribute]) -> bool
 /// The sizes of a name that is declared behind these common attributes.
 #[tactic(auto, using(hal_tree::proofs::MadeDeclarations::made_declared))]
 pub fn sizes_of<'a>(common: &'a [Attribute], item: &'a Declared) -> Option<&'a [Expr]>
-    ensures { option_map (λ sizes. expressions (map seen_expression sizes.now)) result ≡ attributes.sizes_of (map seen_attribute common.now) (seen_declared item.now) }
+    ensures { option_map (λ sizes. expressions (map seen_expression sizes.now)) result ≡ said.sizes_of (map seen_attribute common.now) (seen_declared item.now) }
 {
     let own = sizes_among(&item.attributes);
     if own.is_some() {
@@ -159,7 +159,7 @@ pub fn sizes_of<'a>(common: &'a [Attribute], item: &'a Declared) -> Option<&'a [
 /// Its initial values.
 #[tactic(auto, using(hal_tree::proofs::MadeDeclarations::made_declared))]
 pub fn initial_of<'a>(common: &'a [Attribute], item: &'a Declared) -> Option<&'a [Initial]>
-    ensures { option_map (λ values. initials (map seen_initial values.now)) result ≡ attributes.initial_of (map seen_attribute common.now) (seen_declared item.now) }
+    ensures { option_map (λ values. initials (map seen_initial values.now)) result ≡ said.initial_of (map seen_attribute common.now) (seen_declared item.now) }
 {
     let own = initial_among(&item.attributes);
     if own.is_some() {
@@ -171,7 +171,7 @@ pub fn initial_of<'a>(common: &'a [Attribute], item: &'a Declared) -> Option<&'a
 /// Its constant values.
 #[tactic(auto, using(hal_tree::proofs::MadeDeclarations::made_declared))]
 pub fn constant_of<'a>(common: &'a [Attribute], item: &'a Declared) -> Option<&'a [Initial]>
-    ensures { option_map (λ values. initials (map seen_initial values.now)) result ≡ attributes.constant_of (map seen_attribute common.now) (seen_declared item.now) }
+    ensures { option_map (λ values. initials (map seen_initial values.now)) result ≡ said.constant_of (map seen_attribute common.now) (seen_declared item.now) }
 {
     let own = constant_among(&item.attributes);
     if own.is_some() {
@@ -183,7 +183,7 @@ pub fn constant_of<'a>(common: &'a [Attribute], item: &'a Declared) -> Option<&'
 /// Whether it has this word.
 #[tactic(auto, using(hal_tree::proofs::MadeDeclarations::made_declared))]
 pub fn is_marked(mark: Mark, common: &[Attribute], item: &Declared) -> bool
-    ensures { result ≡ attributes.is_marked (seen_mark mark) (map seen_attribute common.now) (seen_declared item.now) }
+    ensures { result ≡ said.is_marked (seen_mark mark) (map seen_attribute common.now) (seen_declared item.now) }
 {
     has_mark(mark, &item.attributes) || has_mark(mark, common)
 }

@@ -4,7 +4,7 @@
 mod attributes;
 mod called;
 mod choice;
-mod chosen;
+mod choosing;
 mod class;
 mod classes;
 mod data;
@@ -16,7 +16,7 @@ pub use attributes::{
     sizes_of,
 };
 pub use choice::Choice;
-pub use chosen::{chosen, class_in, has_copies_left, has_places_left};
+pub use choosing::{chosen, class_in, has_copies_left, has_places_left};
 pub use class::Class;
 pub use classes::{beside, class_of, joined};
 pub use data::Data;

@@ -9,7 +9,7 @@ ghost use Rattle.hal_phrases.specs.SeenPhrases.{seen_phrase};
 ghost use Rattle.hal_names.specs.SeenNames.{seen_names};
 ghost use Rattle.hal_kinds.specs.Classes as classes;
 
-use crate::chosen::{chosen, class_in};
+use crate::choosing::{chosen, class_in};
 use crate::class::Class;
 use crate::named::{class_of_type, data_at};
 use hal_names::Names;

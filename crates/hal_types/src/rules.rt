@@ -1,17 +1,34 @@
 //! The rules of types over phrases.
 
-use hal_attributes::{clashing, misplaced_event, misstored, named_as_template, nested, no_result, untyped};
+ghost use Rattle.std.specs.Prelude.{◌≡◌};
+ghost use Rattle.hal_phrases.specs.SeenPhrases.{seen_phrase};
+ghost use Rattle.hal_names.specs.SeenNames.{seen_names};
+ghost use Rattle.hal_scope.specs.Rules as rules;
+ghost use Rattle.hal_types.specs.Rules.{attribute_rows, operand_rows, type_rows, use_rows};
+
+use hal_attributes::{
+    clashing, misleveled, misplaced_event, misstored, named_as_template, nested, no_result,
+    overtyped, untyped,
+};
 use hal_base::Place;
 use hal_names::Names;
 use hal_operands::{mismatched, mistimed, unfit, untaken, untimely};
 use hal_phrases::Phrase;
 use hal_scope::ruled;
-use hal_uses::{miscalled, misreceived, misreturned, missubscripted, no_error, no_exponent, no_process, unlatched};
+use hal_uses::{
+    miscalled, misreceived, misreturned, missubscripted, no_error, no_exponent, no_process,
+    unlatched,
+};
 
 /// The first rule of attributes that a phrase breaks, and where.
-fn attribute_fault(names: &Names<'_>, phrase: &Phrase<'_>) -> Option<(u16, Place)> {
+#[tactic(auto, using(hal_scope::proofs::Lists::or_none), unfolding(hal_scope::specs::Rules::fault, crate::specs::Rules::attribute_rows))]
+fn attribute_fault(names: &Names<'_>, phrase: &Phrase<'_>) -> Option<(u16, Place)>
+    ensures { result ≡ rules.fault attribute_rows (seen_names names.now) (seen_phrase phrase.now) }
+{
     let later = ruled(725, misstored(names, phrase));
     let later = ruled(724, no_result(phrase.node)).or(later);
+    let later = ruled(710, misleveled(phrase.node)).or(later);
+    let later = ruled(701, overtyped(phrase.node)).or(later);
     let later = ruled(701, clashing(phrase.node)).or(later);
     let later = ruled(327, misplaced_event(names, phrase)).or(later);
     let later = ruled(326, nested(phrase.node)).or(later);
@@ -20,7 +37,10 @@ fn attribute_fault(names: &Names<'_>, phrase: &Phrase<'_>) -> Option<(u16, Place
 }
 
 /// The first rule of operands that a phrase breaks, and where.
-fn operand_fault(names: &Names<'_>, phrase: &Phrase<'_>) -> Option<(u16, Place)> {
+#[tactic(auto, using(hal_scope::proofs::Lists::or_none), unfolding(hal_scope::specs::Rules::fault, crate::specs::Rules::operand_rows))]
+fn operand_fault(names: &Names<'_>, phrase: &Phrase<'_>) -> Option<(u16, Place)>
+    ensures { result ≡ rules.fault operand_rows (seen_names names.now) (seen_phrase phrase.now) }
+{
     let later = ruled(702, untaken(names, phrase));
     let later = mismatched(names, phrase).or(later);
     let later = unfit(names, phrase).or(later);
@@ -28,8 +48,11 @@ fn operand_fault(names: &Names<'_>, phrase: &Phrase<'_>) -> Option<(u16, Place)>
     ruled(322, untimely(names, phrase)).or(later)
 }
 
-/// The first rule of uses that a phrase breaks, and where.
-fn use_fault(names: &Names<'_>, phrase: &Phrase<'_>) -> Option<(u16, Place)> {
+/// The first rule of how names are used that a phrase breaks, and where.
+#[tactic(auto, using(hal_scope::proofs::Lists::or_none), unfolding(hal_scope::specs::Rules::fault, crate::specs::Rules::use_rows))]
+fn use_fault(names: &Names<'_>, phrase: &Phrase<'_>) -> Option<(u16, Place)>
+    ensures { result ≡ rules.fault use_rows (seen_names names.now) (seen_phrase phrase.now) }
+{
     let later = miscalled(names, phrase);
     let later = missubscripted(names, phrase).or(later);
     let later = misreceived(names, phrase).or(later);
@@ -41,14 +64,19 @@ fn use_fault(names: &Names<'_>, phrase: &Phrase<'_>) -> Option<(u16, Place)> {
 }
 
 /// The first rule of types that a phrase breaks, and where.
-pub(crate) fn fault(names: &Names<'_>, phrase: &Phrase<'_>) -> Option<(u16, Place)> {
-    let later = use_fault(names, phrase);
-    let later = operand_fault(names, phrase).or(later);
+#[tactic(auto, using(crate::proofs::Tables::all_faults))]
+fn fault(names: &Names<'_>, phrase: &Phrase<'_>) -> Option<(u16, Place)>
+    ensures { result ≡ rules.fault type_rows (seen_names names.now) (seen_phrase phrase.now) }
+{
+    let later = operand_fault(names, phrase).or(use_fault(names, phrase));
     attribute_fault(names, phrase).or(later)
 }
 
-/// The first rule that one of the phrases breaks, and where.
-pub(crate) fn first_fault(names: &Names<'_>) -> Option<(u16, Place)> {
+/// The first rule of types that one of the phrases breaks, and where.
+#[tactic(auto, unfolding(hal_scope::specs::Rules::first_fault))]
+pub(crate) fn first_fault(names: &Names<'_>) -> Option<(u16, Place)>
+    ensures { result ≡ rules.first_fault type_rows (seen_names names.now) (seen_names names.now) }
+{
     let phrases = names.phrases();
     for phrase in phrases {
         let found = fault(names, phrase);

@@ -18,7 +18,7 @@ use Rattle.hal_scope.specs.Uses.{is_nil}
 use Rattle.hal_kinds.specs.declared.class.Class.{Class}
 use Rattle.hal_kinds.specs.declared.class.Class.TheVariants as class
 use Rattle.hal_kinds.specs.declared.data.Data.{Data}
-use Rattle.hal_kinds.specs.Attributes.{count_of}
+use Rattle.hal_kinds.specs.Attributes.{count_of, no_more}
 use Rattle.hal_kinds.specs.Classes.{class_of}
 use Rattle.hal_kinds.specs.Data.{data_at, data_named}
 use Rattle.hal_kinds.specs.Subscripts.{choice, chosen, class_in, has_copies_left}
@@ -57,11 +57,20 @@ signature_of other = takes_one want.Anything
 abbrev pub two_faults : List Phrase → ℕ → Want → Want → Expression → Expression → Option (ℕ × Place)
 two_faults ps block w v x y = option_or (misfit_at ps block w x) (misfit_at ps block v y)
 
+-- one argument, and what follows it
+abbrev pub one_fault : List Phrase → ℕ → Place → Want → Expression → Expressions → Option (ℕ × Place)
+one_fault ps block place w x others = if no_more others then misfit_at ps block w x else Some (705, place)
+
+-- what follows the first of two arguments
+unfoldable pub second_fault : List Phrase → ℕ → Place → Want → Want → Expression → Expressions → Option (ℕ × Place)
+second_fault ps block place w v x NoExpressions = Some (705, place)
+second_fault ps block place w v x (MoreExpressions y others) = if no_more others then two_faults ps block w v x y else Some (705, place)
+
 -- arguments of a built-in function: another number than it takes, or the first one that isn't what it takes
 unfoldable pub listed_fault : List Phrase → ℕ → Place → Want → Option Want → Expressions → Option (ℕ × Place)
-listed_fault ps block place w None (MoreExpressions x NoExpressions) = misfit_at ps block w x
-listed_fault ps block place w (Some v) (MoreExpressions x (MoreExpressions y NoExpressions)) = two_faults ps block w v x y
-listed_fault ps block place w v other = Some (705, place)
+listed_fault ps block place w v NoExpressions = Some (705, place)
+listed_fault ps block place w None (MoreExpressions x others) = one_fault ps block place w x others
+listed_fault ps block place w (Some v) (MoreExpressions x others) = second_fault ps block place w v x others
 
 -- whether a reference is a structure of which several copies are left
 unfoldable pub has_copies_of : List Phrase → ℕ → Reference → Bool
@@ -81,8 +90,12 @@ misfit_of_size copied other = Some 702
 abbrev pub size_misfit : List Phrase → ℕ → Expression → Option (ℕ × Place)
 size_misfit ps block x = at (place_of x) (option_and_then (misfit_of_size (is_copied ps block x)) (class_of ps block x))
 
+unfoldable pub sized : List Phrase → ℕ → Expressions → Option (ℕ × Place)
+sized ps block NoExpressions = None
+sized ps block (MoreExpressions x others) = if no_more others then size_misfit ps block x else None
+
 unfoldable pub size_fault : List Phrase → ℕ → Builtin → Expressions → Option (ℕ × Place)
-size_fault ps block builtin.Size (MoreExpressions x NoExpressions) = size_misfit ps block x
+size_fault ps block builtin.Size arguments = sized ps block arguments
 size_fault ps block other arguments = None
 
 -- the call form of a built-in function with a list
@@ -122,23 +135,25 @@ factors_fault ps block place d x = option_or (factor_fault place d) (misfit_at p
 
 -- the product of a variable and a parenthesis, which is no operand of a power
 unfoldable pub product_fault : List Phrase → ℕ → Place → Option Data → Bool → Expressions → Option (ℕ × Place)
-product_fault ps block place d false (MoreExpressions x NoExpressions) = factors_fault ps block place d x
-product_fault ps block place d raised other = Some (716, place)
+product_fault ps block place d true arguments = Some (716, place)
+product_fault ps block place d false NoExpressions = Some (716, place)
+product_fault ps block place d false (MoreExpressions x others) = if no_more others then factors_fault ps block place d x else Some (716, place)
 
 -- whether an expression of this role is raised to a power
 unfoldable pub is_base : Node → Bool
 is_base (OfExpression role.Base tree) = true
 is_base other = false
 
-abbrev pub is_raised : List Phrase → Phrase → Bool
-is_raised ps p = elim (slice_get ps p.around.parent) [ None ↦ false | Some q ↦ is_base q.node ]
+-- the same of the phrase with this number
+abbrev pub is_raised : List Phrase → ℕ → Bool
+is_raised ps k = elim (slice_get ps k) [ None ↦ false | Some q ↦ is_base q.node ]
 
 -- the call form, by this phrase, of what another phrase declares
 unfoldable pub declared_fault : List Phrase → Phrase → Place → Expressions → Phrase → Node → Option (ℕ × Place)
 declared_fault ps p place arguments q (OfTemplate name head declarations) = head_fault ps p.around.block place head arguments
 declared_fault ps p place arguments q (OfUnit name head declarations) = head_fault ps p.around.block place head arguments
-declared_fault ps p place arguments q (OfItem common item) = product_fault ps p.around.block place (data_at ps q [] (OfItem common item)) (is_raised ps p) arguments
-declared_fault ps p place arguments q (OfTemporaryGroup labels variable) = product_fault ps p.around.block place (data_at ps q [] (OfTemporaryGroup labels variable)) (is_raised ps p) arguments
+declared_fault ps p place arguments q (OfItem common item) = product_fault ps p.around.block place (data_at ps q [] (OfItem common item)) (is_raised ps p.around.parent) arguments
+declared_fault ps p place arguments q (OfTemporaryGroup labels variable) = product_fault ps p.around.block place (data_at ps q [] (OfTemporaryGroup labels variable)) (is_raised ps p.around.parent) arguments
 declared_fault ps p place arguments q other = Some (716, place)
 
 -- the call form of a name
@@ -163,7 +178,7 @@ called_fault ps block place count receivers arguments other = None
 -- CALL
 abbrev pub call_fault : List Phrase → ℕ → Naming → Expressions → List Reference → Option (ℕ × Place)
 call_fault ps block name arguments receivers =
-    option_and_then (λ (q : Phrase). called_fault ps block name.place (count_of arguments) (length receivers) arguments q.node) (option_and_then (λ k. slice_get ps k) (means ps block name.name))
+    option_and_then (λ k. option_and_then (λ (q : Phrase). called_fault ps block name.place (count_of arguments) (length receivers) arguments q.node) (slice_get ps k)) (means ps block name.name)
 
 -- whether a block is called without the arguments that it takes
 unfoldable pub lacks_arguments_head : Head → Bool
@@ -185,7 +200,7 @@ is_operand_role other = true
 -- the name of a FUNCTION without the arguments that it takes
 unfoldable pub alone_fault : List Phrase → ℕ → Reference → Option (ℕ × Place)
 alone_fault ps block (Refers place name path subscript) =
-    option_and_then (λ (q : Phrase). if lacks_arguments q.node then Some (705, place) else None) (option_and_then (λ k. slice_get ps k) (means ps block name))
+    option_and_then (λ k. option_and_then (λ (q : Phrase). if lacks_arguments q.node then Some (705, place) else None) (slice_get ps k)) (means ps block name)
 
 -- rules 329, 705 and 716, and 702, 703 and 720 of arguments
 unfoldable pub miscalled : List Phrase → Phrase → Node → Option (ℕ × Place)

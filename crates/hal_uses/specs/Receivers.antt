@@ -25,9 +25,14 @@ unfoldable pub is_input : Node → Bool
 is_input (OfParameter name output) = not output
 is_input other = false
 
+-- whether the phrase with this number, if there is one, is an input parameter
+abbrev pub is_input_at : List Phrase → Option ℕ → Bool
+is_input_at ps None = false
+is_input_at ps (Some k) = elim (slice_get ps k) [ None ↦ false | Some q ↦ is_input q.node ]
+
 -- whether a name is that of an input parameter of the block to which a phrase's names belong
 abbrev pub is_input_parameter : List Phrase → Phrase → List ℕ → Bool
-is_input_parameter ps p name = elim (option_and_then (λ k. slice_get ps k) (own ps (key space.Parameter p.around.home name))) [ None ↦ false | Some q ↦ is_input q.node ]
+is_input_parameter ps p name = is_input_at ps (own ps (key space.Parameter p.around.home name))
 
 -- whether data are never assigned
 abbrev pub is_fixed : List Phrase → Phrase → List Attribute → Declared → Bool
@@ -40,13 +45,13 @@ may_receive ps p (OfTemporaryGroup labels variable) = true
 may_receive ps p (OfStructure name parts) = true
 may_receive ps p other = false
 
--- what a name means in a block
-abbrev pub meaning : List Phrase → ℕ → List ℕ → Option Phrase
-meaning ps block name = option_and_then (λ k. slice_get ps k) (means ps block name)
+-- rule 709 of a receiver that is what this phrase declares
+abbrev pub received_by : List Phrase → Place → Phrase → Option (ℕ × Place)
+received_by ps place q = if may_receive ps q q.node then None else Some (709, place)
 
 -- rule 709 of a receiver
 abbrev pub received : List Phrase → ℕ → Place → List ℕ → Option (ℕ × Place)
-received ps block place name = elim (meaning ps block name) [ None ↦ None | Some q ↦ if may_receive ps q q.node then None else Some (709, place) ]
+received ps block place name = option_and_then (λ k. option_and_then (received_by ps place) (slice_get ps k)) (means ps block name)
 
 -- whether a subscript chooses places of a component
 abbrev pub has_components : Data → Subscript → Bool

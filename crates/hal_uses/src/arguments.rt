@@ -33,6 +33,47 @@ fn two_faults(
     misfit_at(names, block, wants.1, second)
 }
 
+/// What follows the first of two arguments.
+#[tactic(auto, using(hal_kinds::proofs::Lists::none_left), unfolding(crate::specs::Calls::second_fault, hal_tree::specs::Rows::expressions))]
+fn second_fault(
+    names: &Names<'_>,
+    block: usize,
+    place: Place,
+    wants: (Want, Want),
+    first: &Expr,
+    rest: &[Expr],
+) -> Option<(u16, Place)>
+    ensures { result ≡ calls.second_fault (seen_names names.now) block place wants.0 wants.1 (seen_expression first.now) (expressions (map seen_expression rest.now)) }
+{
+    let Some((second, others)) = rest.split_first() else {
+        return Some((705, place));
+    };
+    if others.is_empty() {
+        two_faults(names, block, wants, first, second)
+    } else {
+        Some((705, place))
+    }
+}
+
+/// One argument.
+#[tactic(auto, using(hal_kinds::proofs::Lists::none_left))]
+fn one_fault(
+    names: &Names<'_>,
+    block: usize,
+    place: Place,
+    want: Want,
+    first: &Expr,
+    rest: &[Expr],
+) -> Option<(u16, Place)>
+    ensures { result ≡ calls.one_fault (seen_names names.now) block place want (seen_expression first.now) (expressions (map seen_expression rest.now)) }
+{
+    if rest.is_empty() {
+        misfit_at(names, block, want, first)
+    } else {
+        Some((705, place))
+    }
+}
+
 /// Arguments of a built-in function: another number than it takes, or the first one that isn't what it takes.
 #[tactic(auto, unfolding(crate::specs::Calls::listed_fault, hal_tree::specs::Rows::expressions))]
 fn listed_fault(
@@ -44,12 +85,12 @@ fn listed_fault(
 ) -> Option<(u16, Place)>
     ensures { result ≡ calls.listed_fault (seen_names names.now) block place signature.first signature.second (expressions (map seen_expression arguments.now)) }
 {
-    match (signature.second, arguments) {
-        (None, [first]) => misfit_at(names, block, signature.first, first),
-        (Some(want), [first, second]) => {
-            two_faults(names, block, (signature.first, want), first, second)
-        }
-        _ => Some((705, place)),
+    let Some((first, rest)) = arguments.split_first() else {
+        return Some((705, place));
+    };
+    match signature.second {
+        None => one_fault(names, block, place, signature.first, first, rest),
+        Some(want) => second_fault(names, block, place, (signature.first, want), first, rest),
     }
 }
 
@@ -109,8 +150,21 @@ fn size_misfit(names: &Names<'_>, block: usize, tree: &Expr) -> Option<(u16, Pla
     Some((rule, tree.place()))
 }
 
+/// The argument of SIZE, where it is the only one.
+#[tactic(auto, using(hal_kinds::proofs::Lists::none_left), unfolding(crate::specs::Calls::sized, hal_tree::specs::Rows::expressions))]
+fn sized(names: &Names<'_>, block: usize, arguments: &[Expr]) -> Option<(u16, Place)>
+    ensures { result ≡ calls.sized (seen_names names.now) block (expressions (map seen_expression arguments.now)) }
+{
+    let (tree, others) = arguments.split_first()?;
+    if others.is_empty() {
+        size_misfit(names, block, tree)
+    } else {
+        None
+    }
+}
+
 /// The same, where this is SIZE.
-#[tactic(auto, unfolding(crate::specs::Calls::size_fault, hal_tree::specs::Rows::expressions))]
+#[tactic(auto, unfolding(crate::specs::Calls::size_fault))]
 fn size_fault(
     names: &Names<'_>,
     block: usize,
@@ -119,8 +173,8 @@ fn size_fault(
 ) -> Option<(u16, Place)>
     ensures { result ≡ calls.size_fault (seen_names names.now) block builtin (expressions (map seen_expression arguments.now)) }
 {
-    match (builtin, arguments) {
-        (Builtin::Size, [tree]) => size_misfit(names, block, tree),
+    match builtin {
+        Builtin::Size => sized(names, block, arguments),
         _ => None,
     }
 }

@@ -19,7 +19,7 @@ use hal_tree::{Expr, Head, Identifier, Reference};
 use hal_words::Name;
 
 /// The call form of a block.
-#[tactic(auto, using(hal_tree::proofs::MadeUnits::made_program, hal_tree::proofs::MadeUnits::made_compool, hal_tree::proofs::MadeUnits::made_task, hal_tree::proofs::MadeUnits::made_procedure, hal_tree::proofs::MadeUnits::made_function, hal_kinds::proofs::Lists::counted), unfolding(crate::specs::Calls::head_fault))]
+#[tactic(auto, using(hal_tree::proofs::MadeUnits::made_program, hal_tree::proofs::MadeUnits::made_compool, hal_tree::proofs::MadeUnits::made_task, hal_tree::proofs::MadeUnits::made_procedure, hal_tree::proofs::MadeUnits::made_function, hal_kinds::proofs::Lists::counted, hal_kinds::proofs::Lists::all_mapped), unfolding(crate::specs::Calls::head_fault))]
 fn head_fault(
     names: &Names<'_>,
     block: usize,
@@ -77,7 +77,7 @@ fn factors_fault(
 }
 
 /// The product of a variable and a parenthesis, which is no operand of a power.
-#[tactic(auto, unfolding(crate::specs::Calls::product_fault, hal_tree::specs::Rows::expressions))]
+#[tactic(auto, using(hal_kinds::proofs::Lists::none_left), unfolding(crate::specs::Calls::product_fault, hal_tree::specs::Rows::expressions))]
 fn product_fault(
     names: &Names<'_>,
     block: usize,
@@ -88,9 +88,16 @@ fn product_fault(
 ) -> Option<(u16, Place)>
     ensures { result ≡ calls.product_fault (seen_names names.now) block place found raised (expressions (map seen_expression arguments.now)) }
 {
-    match (raised, arguments) {
-        (false, [argument]) => factors_fault(names, block, place, found, argument),
-        _ => Some((716, place)),
+    if raised {
+        return Some((716, place));
+    }
+    let Some((argument, others)) = arguments.split_first() else {
+        return Some((716, place));
+    };
+    if others.is_empty() {
+        factors_fault(names, block, place, found, argument)
+    } else {
+        Some((716, place))
     }
 }
 
@@ -108,13 +115,13 @@ fn is_base(node: Node<'_>) -> bool
     }
 }
 
-/// Whether the expression of which a phrase is a part is raised to a power.
-fn is_raised(names: &Names<'_>, phrase: &Phrase<'_>) -> bool
-    ensures { result ≡ calls.is_raised (seen_names names.now) (seen_phrase phrase.now) }
+/// Whether the expression that is the phrase with this number is raised to a power.
+fn is_raised(names: &Names<'_>, number: usize) -> bool
+    ensures { result ≡ calls.is_raised (seen_names names.now) number }
 {
-    match names.phrase(phrase.around.parent) {
+    match names.phrase(number) {
         None => false,
-        Some(parent) => is_base(parent.node),
+        Some(phrase) => is_base(phrase.node),
     }
 }
 
@@ -138,7 +145,7 @@ fn declared_fault(
             block,
             place,
             data_at(names, declared, &[]),
-            is_raised(names, phrase),
+            is_raised(names, phrase.around.parent),
             arguments,
         ),
         Node::TemporaryGroup { .. } => product_fault(
@@ -146,7 +153,7 @@ fn declared_fault(
             block,
             place,
             data_at(names, declared, &[]),
-            is_raised(names, phrase),
+            is_raised(names, phrase.around.parent),
             arguments,
         ),
         _ => Some((716, place)),
@@ -173,7 +180,7 @@ fn call_form_fault(
 }
 
 /// CALL of a block.
-#[tactic(auto, using(hal_tree::proofs::MadeUnits::made_program, hal_tree::proofs::MadeUnits::made_compool, hal_tree::proofs::MadeUnits::made_task, hal_tree::proofs::MadeUnits::made_procedure, hal_tree::proofs::MadeUnits::made_function, hal_kinds::proofs::Lists::counted), unfolding(crate::specs::Calls::called_head_fault))]
+#[tactic(auto, using(hal_tree::proofs::MadeUnits::made_program, hal_tree::proofs::MadeUnits::made_compool, hal_tree::proofs::MadeUnits::made_task, hal_tree::proofs::MadeUnits::made_procedure, hal_tree::proofs::MadeUnits::made_function, hal_kinds::proofs::Lists::counted, hal_kinds::proofs::Lists::all_mapped), unfolding(crate::specs::Calls::called_head_fault))]
 fn called_head_fault(
     names: &Names<'_>,
     block: usize,
@@ -227,7 +234,7 @@ fn called_fault(
 }
 
 /// CALL.
-#[tactic(auto, using(hal_kinds::proofs::Lists::counted))]
+#[tactic(auto, using(hal_kinds::proofs::Lists::counted, hal_kinds::proofs::Lists::all_mapped))]
 fn call_fault(
     names: &Names<'_>,
     block: usize,

@@ -26,21 +26,29 @@ fn is_input(node: Node<'_>) -> bool
     }
 }
 
-/// Whether a name is that of an input parameter of the block to which a phrase's names belong.
-fn is_input_parameter(names: &Names<'_>, phrase: &Phrase<'_>, name: &Name) -> bool
-    ensures { result ≡ receivers.is_input_parameter (seen_names names.now) (seen_phrase phrase.now) name.now }
+/// Whether the phrase with this number, if there is one, is an input parameter.
+fn is_input_at(names: &Names<'_>, number: Option<usize>) -> bool
+    ensures { result ≡ receivers.is_input_at (seen_names names.now) number }
 {
-    let Some(number) = names.own(&Key {
-        space: Space::Parameter,
-        owner: phrase.around.home,
-        name: *name,
-    }) else {
+    let Some(number) = number else {
         return false;
     };
     match names.phrase(number) {
         None => false,
         Some(parameter) => is_input(parameter.node),
     }
+}
+
+/// Whether a name is that of an input parameter of the block to which a phrase's names belong.
+fn is_input_parameter(names: &Names<'_>, phrase: &Phrase<'_>, name: &Name) -> bool
+    ensures { result ≡ receivers.is_input_parameter (seen_names names.now) (seen_phrase phrase.now) name.now }
+{
+    let parameter = names.own(&Key {
+        space: Space::Parameter,
+        owner: phrase.around.home,
+        name: *name,
+    });
+    is_input_at(names, parameter)
 }
 
 /// Whether data are never assigned.

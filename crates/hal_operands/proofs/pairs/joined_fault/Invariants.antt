@@ -7,4 +7,4 @@ use Rattle.hal_operands.proofs.pairs.joined_fault.Given as goal
 
 abbrev pub invariant-loop-tree : goal.invariant-loop-tree
 invariant-loop-tree l =
-    joined_fault (seen_names l.names) l.block l.before (expressions (map seen_expression (drop l.tree-index l.trees))) ≡ joined_fault (seen_names l.names) l.block l.first (expressions (map seen_expression l.trees))
+    joined_fault (seen_names l.names) l.block l.before (expressions (map seen_expression (drop l.tree-index l.trees))) ≡ joined_fault (seen_names l.names) l.block l.fn.first (expressions (map seen_expression l.trees))

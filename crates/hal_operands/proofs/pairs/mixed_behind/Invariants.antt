@@ -7,4 +7,4 @@ use Rattle.hal_operands.proofs.pairs.mixed_behind.Given as goal
 
 abbrev pub invariant-loop-tree : goal.invariant-loop-tree
 invariant-loop-tree l =
-    mixed_behind (seen_names l.names) l.block l.place l.before (expressions (map seen_expression (drop l.tree-index l.trees))) ≡ mixed_behind (seen_names l.names) l.block l.place l.first (expressions (map seen_expression l.trees))
+    mixed_behind (seen_names l.names) l.block l.place l.before (expressions (map seen_expression (drop l.tree-index l.trees))) ≡ mixed_behind (seen_names l.names) l.block l.place l.fn.first (expressions (map seen_expression l.trees))
