@@ -14,7 +14,7 @@ use crate::attribute_words::{AttributeWord, TypeWord, attribute_word_of};
 use crate::initials::enclosed_initials;
 use crate::kinds::kind_behind;
 use hal_base::Place;
-use hal_parse_expr::{past_symbol, read_expression, read_expressions};
+use hal_parse_expr::{found, past_symbol, read_expression, read_expressions};
 use hal_tree::{Attribute, Expr};
 use hal_words::{Symbol, Token};
 use std::alloc::{AllocError, Global};
@@ -69,9 +69,7 @@ fn typed(
 ) -> Result<Option<(Attribute, &[Token])>, AllocError>
     ensures { IfOk result (λ found. seen_as seen_attribute found ≡ made_of (λ k. Typed k) (type_begun depth place begun words.now)) }
 {
-    let Some((kind, rest)) = kind_behind(alloc, place, begun, words, depth)? else {
-        return Ok(None);
-    };
+    let (kind, rest) = found!(kind_behind(alloc, place, begun, words, depth));
     Ok(Some((Attribute::Typed(kind), rest)))
 }
 
@@ -85,9 +83,7 @@ fn dimensions(
 ) -> Result<Option<(Attribute, &[Token])>, AllocError>
     ensures { IfOk result (λ found. seen_as seen_attribute found ≡ made_of (λ ts. Dimensions place ts) (in_parentheses (expressions_at depth) words.now)) }
 {
-    let Some((sizes, rest)) = enclosed_expressions(alloc, words, depth)? else {
-        return Ok(None);
-    };
+    let (sizes, rest) = found!(enclosed_expressions(alloc, words, depth));
     Ok(Some((Attribute::Dimensions { place, sizes }, rest)))
 }
 
@@ -103,9 +99,7 @@ fn enclosed_expressions(
     let Some((_, inside)) = past_symbol(words, Symbol::LeftParenthesis) else {
         return Ok(None);
     };
-    let Some((list, end)) = read_expressions(alloc, inside, depth)? else {
-        return Ok(None);
-    };
+    let (list, end) = found!(read_expressions(alloc, inside, depth));
     let Some((_, rest)) = past_symbol(end, Symbol::RightParenthesis) else {
         return Ok(None);
     };
@@ -125,9 +119,7 @@ fn lock(
     let Some((_, inside)) = past_symbol(words, Symbol::LeftParenthesis) else {
         return Ok(None);
     };
-    let Some((attribute, end)) = locked(alloc, place, inside, depth)? else {
-        return Ok(None);
-    };
+    let (attribute, end) = found!(locked(alloc, place, inside, depth));
     let Some((_, rest)) = past_symbol(end, Symbol::RightParenthesis) else {
         return Ok(None);
     };
@@ -147,9 +139,7 @@ fn locked(
     if let Some((_, rest)) = past_symbol(words, Symbol::Star) {
         return Ok(Some((Attribute::LockAny { place }, rest)));
     }
-    let Some((group, rest)) = read_expression(alloc, words, depth)? else {
-        return Ok(None);
-    };
+    let (group, rest) = found!(read_expression(alloc, words, depth));
     Ok(Some((Attribute::LockGroup { place, group }, rest)))
 }
 
@@ -163,9 +153,7 @@ fn initial_values(
 ) -> Result<Option<(Attribute, &[Token])>, AllocError>
     ensures { IfOk result (λ found. seen_as seen_attribute found ≡ made_of (λ ts. InitialValues place ts) (in_parentheses (initials_at depth) words.now)) }
 {
-    let Some((values, rest)) = enclosed_initials(alloc, words, depth)? else {
-        return Ok(None);
-    };
+    let (values, rest) = found!(enclosed_initials(alloc, words, depth));
     Ok(Some((Attribute::Initial { place, values }, rest)))
 }
 
@@ -179,9 +167,7 @@ fn constant_values(
 ) -> Result<Option<(Attribute, &[Token])>, AllocError>
     ensures { IfOk result (λ found. seen_as seen_attribute found ≡ made_of (λ ts. ConstantValues place ts) (in_parentheses (initials_at depth) words.now)) }
 {
-    let Some((values, rest)) = enclosed_initials(alloc, words, depth)? else {
-        return Ok(None);
-    };
+    let (values, rest) = found!(enclosed_initials(alloc, words, depth));
     Ok(Some((Attribute::Constant { place, values }, rest)))
 }
 

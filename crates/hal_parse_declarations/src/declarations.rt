@@ -11,7 +11,7 @@ use crate::attributes::attributes;
 use crate::items::{items, parts};
 use crate::names::label;
 use hal_base::Place;
-use hal_parse_expr::{past, past_symbol};
+use hal_parse_expr::{found, past, past_symbol};
 use hal_tree::{Attribute, Declaration};
 use hal_words::{Reserved, Symbol, Token};
 use std::alloc::{AllocError, Global};
@@ -79,9 +79,7 @@ fn declare_items(
 ) -> Result<Option<(Declaration, &[Token])>, AllocError>
     ensures { IfOk result (λ found. seen_as seen_declaration found ≡ made_of (λ items. Declare place (map seen_attribute common.items) items) (items_at depth words.now)) }
 {
-    let Some((items, rest)) = items(alloc, words, depth)? else {
-        return Ok(None);
-    };
+    let (items, rest) = found!(items(alloc, words, depth));
     let whole = Declaration::Declare {
         place,
         common,
@@ -103,9 +101,7 @@ fn template(
     let Some((name, behind)) = label(words) else {
         return Ok(None);
     };
-    let Some((parts, rest)) = parts(alloc, behind, depth)? else {
-        return Ok(None);
-    };
+    let (parts, rest) = found!(parts(alloc, behind, depth));
     Ok(Some((Declaration::Structure { place, name, parts }, rest)))
 }
 

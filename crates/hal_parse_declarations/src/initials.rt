@@ -11,7 +11,7 @@ ghost use Rattle.hal_parse_expr.specs.Seen.{seen_as, seen_as_list, seen_placed};
 ghost use Rattle.hal_parse_declarations.specs.ReadingDeclarations.{count_at, counted_value, in_parentheses, initial_of, initials, initials_at, initials_below, literal_at, opening_at, signed_value, where_left};
 
 use hal_base::Place;
-use hal_parse_expr::{integer, literal_of, name, past_symbol, read_expression, sign};
+use hal_parse_expr::{found, integer, literal_of, name, past_symbol, read_expression, sign};
 use hal_tree::{Initial, LiteralValue, Sign};
 use hal_words::{Symbol, Token};
 use std::alloc::{AllocError, Global};
@@ -111,9 +111,7 @@ fn counted_list(
     if depth == 0 {
         return Ok(None);
     }
-    let Some((values, end)) = initials(alloc, words, depth - 1)? else {
-        return Ok(None);
-    };
+    let (values, end) = found!(initials(alloc, words, depth - 1));
     let Some((_, rest)) = past_symbol(end, Symbol::RightParenthesis) else {
         return Ok(None);
     };
@@ -156,9 +154,7 @@ fn initial(
     if let Some((place, count, rest)) = count(words) {
         return counted(alloc, place, count, rest, depth);
     }
-    let Some((value, rest)) = read_expression(alloc, words, depth)? else {
-        return Ok(None);
-    };
+    let (value, rest) = found!(read_expression(alloc, words, depth));
     Ok(Some((Initial::Value { value }, rest)))
 }
 
@@ -213,9 +209,7 @@ pub(crate) fn enclosed_initials(
     let Some((_, inside)) = past_symbol(words, Symbol::LeftParenthesis) else {
         return Ok(None);
     };
-    let Some((values, end)) = initials(alloc, inside, depth)? else {
-        return Ok(None);
-    };
+    let (values, end) = found!(initials(alloc, inside, depth));
     let Some((_, rest)) = past_symbol(end, Symbol::RightParenthesis) else {
         return Ok(None);
     };

@@ -7,7 +7,7 @@ ghost use Rattle.hal_parse_expr.specs.Seen.{seen_as, seen_as_list};
 ghost use Rattle.hal_parse_declarations.specs.ReadingDeclarations.{declared_at, first_and_others, items_at, part_at, parts_at};
 
 use crate::attributes::attributes;
-use hal_parse_expr::{integer, name, past_symbol};
+use hal_parse_expr::{found, integer, name, past_symbol};
 use hal_tree::{Declared, Part};
 use hal_words::{Symbol, Token};
 use std::alloc::{AllocError, Global};
@@ -132,9 +132,7 @@ pub(crate) fn items(
 ) -> Result<Option<(Vec<Declared>, &[Token])>, AllocError>
     ensures { IfOk result (λ found. seen_as_list seen_declared (λ xs. xs) found ≡ items_at depth words.now) }
 {
-    let Some((items, end)) = item_list(alloc, words, depth)? else {
-        return Ok(None);
-    };
+    let (items, end) = found!(item_list(alloc, words, depth));
     let Some((_, rest)) = past_symbol(end, Symbol::Semicolon) else {
         return Ok(None);
     };
@@ -150,9 +148,7 @@ pub(crate) fn parts(
 ) -> Result<Option<(Vec<Part>, &[Token])>, AllocError>
     ensures { IfOk result (λ found. seen_as_list seen_part (λ xs. xs) found ≡ parts_at depth words.now) }
 {
-    let Some((parts, end)) = part_list(alloc, words, depth)? else {
-        return Ok(None);
-    };
+    let (parts, end) = found!(part_list(alloc, words, depth));
     let Some((_, rest)) = past_symbol(end, Symbol::Semicolon) else {
         return Ok(None);
     };

@@ -14,7 +14,7 @@ ghost use Rattle.hal_parse_declarations.specs.ReadingDeclarations.{copy_count_at
 use crate::attribute_words::{TypeWord, type_word_of};
 use crate::parentheses::enclosed_expression;
 use hal_base::Place;
-use hal_parse_expr::{past, past_symbol, read_expression};
+use hal_parse_expr::{found, past, past_symbol, read_expression};
 use hal_tree::{Expr, Type};
 use hal_words::{Name, Reserved, Symbol, Token};
 use std::alloc::{AllocError, Global};
@@ -68,9 +68,7 @@ fn bit(
 ) -> Result<Option<(Type, &[Token])>, AllocError>
     ensures { IfOk result (λ found. seen_as seen_type found ≡ made_of (λ t. BitKind place t) (in_parentheses (expression_at depth) words.now)) }
 {
-    let Some((size, rest)) = enclosed_expression(alloc, words, depth)? else {
-        return Ok(None);
-    };
+    let (size, rest) = found!(enclosed_expression(alloc, words, depth));
     Ok(Some((Type::Bit { place, size }, rest)))
 }
 
@@ -84,9 +82,7 @@ fn character(
 ) -> Result<Option<(Type, &[Token])>, AllocError>
     ensures { IfOk result (λ found. seen_as seen_type found ≡ made_of (λ t. CharacterKind place t) (in_parentheses (expression_at depth) words.now)) }
 {
-    let Some((size, rest)) = enclosed_expression(alloc, words, depth)? else {
-        return Ok(None);
-    };
+    let (size, rest) = found!(enclosed_expression(alloc, words, depth));
     Ok(Some((Type::Character { place, size }, rest)))
 }
 
@@ -107,9 +103,7 @@ fn structure(
     let Some((_, count)) = past(behind, Reserved::Structure) else {
         return Ok(None);
     };
-    let Some((copies, rest)) = copy_count(alloc, count, depth)? else {
-        return Ok(None);
-    };
+    let (copies, rest) = found!(copy_count(alloc, count, depth));
     let whole = Type::Structure {
         place,
         template,
@@ -130,9 +124,7 @@ fn copy_count(
     let Some((_, inside)) = past_symbol(words, Symbol::LeftParenthesis) else {
         return Ok(Some((None, words)));
     };
-    let Some((count, end)) = read_expression(alloc, inside, depth)? else {
-        return Ok(None);
-    };
+    let (count, end) = found!(read_expression(alloc, inside, depth));
     let Some((_, rest)) = past_symbol(end, Symbol::RightParenthesis) else {
         return Ok(None);
     };

@@ -9,7 +9,7 @@ ghost use Rattle.hal_parse_expr.specs.Seen.{seen_as, seen_as_list, seen_list};
 ghost use Rattle.hal_parse_declarations.specs.ReadingDeclarations.{label_at, name_end_at, names_at};
 ghost use Rattle.hal_parse_declarations.specs.ReadingNames.{labels_at, name_option_at, names_end_at};
 
-use hal_parse_expr::{name, past_symbol};
+use hal_parse_expr::{found, name, past_symbol};
 use hal_tree::Identifier;
 use hal_words::{Symbol, Token};
 use std::alloc::{AllocError, Global};
@@ -82,9 +82,7 @@ pub fn names_end(
     if let Some((_, rest)) = past_symbol(words, Symbol::Semicolon) {
         return Ok(Some((Vec::new(alloc), rest)));
     }
-    let Some((names, end)) = read_names(alloc, words)? else {
-        return Ok(None);
-    };
+    let (names, end) = found!(read_names(alloc, words));
     let Some((_, rest)) = past_symbol(end, Symbol::Semicolon) else {
         return Ok(None);
     };

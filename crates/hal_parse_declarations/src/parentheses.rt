@@ -6,7 +6,7 @@ ghost use Rattle.hal_parse_expr.specs.ReadingExpressions.{expression_at};
 ghost use Rattle.hal_parse_expr.specs.Seen.{seen_as};
 ghost use Rattle.hal_parse_declarations.specs.ReadingDeclarations.{in_parentheses};
 
-use hal_parse_expr::{past_symbol, read_expression};
+use hal_parse_expr::{found, past_symbol, read_expression};
 use hal_tree::Expr;
 use hal_words::{Symbol, Token};
 use std::alloc::{AllocError, Global};
@@ -23,9 +23,7 @@ pub fn enclosed_expression(
     let Some((_, inside)) = past_symbol(words, Symbol::LeftParenthesis) else {
         return Ok(None);
     };
-    let Some((expression, end)) = read_expression(alloc, inside, depth)? else {
-        return Ok(None);
-    };
+    let (expression, end) = found!(read_expression(alloc, inside, depth));
     let Some((_, rest)) = past_symbol(end, Symbol::RightParenthesis) else {
         return Ok(None);
     };

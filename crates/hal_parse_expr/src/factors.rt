@@ -5,6 +5,7 @@ ghost use Rattle.hal_tree.specs.SeenExpressions.{seen_expression};
 ghost use Rattle.hal_parse_expr.specs.ReadingExpressions.{exponent_of, factor_of, further_factor, primary_at};
 ghost use Rattle.hal_parse_expr.specs.Seen.{seen_as};
 
+use crate::found;
 use crate::leading::{past, past_symbol};
 use crate::primaries::primary;
 use hal_tree::Expr;
@@ -21,9 +22,7 @@ pub(crate) fn factor(
 ) -> Result<Option<(Expr, &[Token])>, AllocError>
     ensures { IfOk result (λ found. seen_as seen_expression found ≡ factor_of (primary_at depth) words.now) }
 {
-    let Some((base, rest)) = primary(alloc, words, depth)? else {
-        return Ok(None);
-    };
+    let (base, rest) = found!(primary(alloc, words, depth));
     let Some((exponent, after)) = exponent(alloc, rest, depth)? else {
         return Ok(Some((base, rest)));
     };

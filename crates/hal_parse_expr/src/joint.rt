@@ -10,7 +10,7 @@ use hal_tree::Expr;
 use std::alloc::{AllocError, Global};
 
 /// What stands between the operands of a row.
-#[derive(Clone, Copy, Debug, PartialEq, Eq)]
+#[derive(Clone, Copy)]
 pub(crate) enum Joint {
     Or,
     And,

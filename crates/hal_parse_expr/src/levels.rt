@@ -10,6 +10,7 @@ ghost use Rattle.hal_parse_expr.specs.Joints.{more_of};
 ghost use Rattle.hal_parse_expr.specs.Seen.{seen_as, seen_list, seen_pair};
 
 use crate::factors::{factor, further_factor};
+use crate::found;
 use crate::joint::{Joint, row};
 use crate::leading::past;
 use crate::leaves::relation;
@@ -64,9 +65,7 @@ fn comparison(
 ) -> Result<Option<(Expr, &[Token])>, AllocError>
     ensures { IfOk result (λ found. seen_as seen_expression found ≡ comparison_of (primary_at depth) words.now) }
 {
-    let Some((left, rest)) = chain(alloc, words, depth)? else {
-        return Ok(None);
-    };
+    let (left, rest) = found!(chain(alloc, words, depth));
     let Some((relation, right, after)) = related(alloc, rest, depth)? else {
         return Ok(Some((left, rest)));
     };
@@ -92,9 +91,7 @@ fn related(
     let Some((relation, rest)) = relation(words) else {
         return Ok(None);
     };
-    let Some((right, after)) = chain(alloc, rest, depth)? else {
-        return Ok(None);
-    };
+    let (right, after) = found!(chain(alloc, rest, depth));
     Ok(Some((relation, right, after)))
 }
 

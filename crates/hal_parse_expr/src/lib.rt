@@ -9,6 +9,7 @@ mod leaves;
 mod levels;
 mod lists;
 mod longest;
+mod macros;
 mod opening;
 mod positions;
 mod primaries;

@@ -7,7 +7,7 @@ use hal_tree::{Conversion, LiteralValue};
 use hal_words::{Name, Reserved, Symbol, Word};
 
 /// A word with which a primary begins.
-#[derive(Clone, Copy, Debug)]
+#[derive(Clone, Copy)]
 pub(crate) enum Opening {
     Name(Name),
     /// In thousandths.

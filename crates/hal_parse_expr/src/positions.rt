@@ -8,6 +8,7 @@ ghost use Rattle.hal_parse_expr.specs.Seen.{seen_as};
 ghost use Rattle.hal_parse_expr.specs.Reading.{followed, past};
 ghost use Rattle.hal_grammar.specs.Expressions.{FromBeginning};
 
+use crate::found;
 use crate::leading::{past, past_symbol};
 use crate::sums::{sum, terms};
 use hal_tree::{Expr, Position, Sub};
@@ -27,9 +28,7 @@ pub(crate) fn sub(
     if let Some((place, rest)) = past_symbol(words, Symbol::Star) {
         return Ok(Some((Sub::Every { place }, rest)));
     }
-    let Some((first, rest)) = position(alloc, words, depth)? else {
-        return Ok(None);
-    };
+    let (first, rest) = found!(position(alloc, words, depth));
     portion_from(alloc, first, rest, depth)
 }
 
@@ -119,8 +118,6 @@ fn position(
         let (terms, after) = terms(alloc, rest, depth)?;
         return Ok(Some((Position::FromEnd { place, terms }, after)));
     }
-    let Some((position, rest)) = sum(alloc, words, depth)? else {
-        return Ok(None);
-    };
+    let (position, rest) = found!(sum(alloc, words, depth));
     Ok(Some((Position::FromBeginning { position }, rest)))
 }

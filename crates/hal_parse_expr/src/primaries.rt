@@ -9,6 +9,7 @@ ghost use Rattle.hal_parse_expr.specs.ReadingExpressions.{closed, converted_at, 
 ghost use Rattle.hal_grammar.specs.Expressions.{Called, Parenthesis};
 ghost use Rattle.hal_parse_expr.specs.Seen.{seen_as, seen_as_list};
 
+use crate::found;
 use crate::leading::past_symbol;
 use crate::levels::expression;
 use crate::lists::expressions;
@@ -71,9 +72,7 @@ fn parenthesis(
 ) -> Result<Option<(Expr, &[Token])>, AllocError>
     ensures { IfOk result (λ found. seen_as seen_expression found ≡ made_of (λ t. Parenthesis place t) (closed expression_of (deeper_than depth) words.now)) }
 {
-    let Some((inner, rest)) = closed_expression(alloc, words, depth)? else {
-        return Ok(None);
-    };
+    let (inner, rest) = found!(closed_expression(alloc, words, depth));
     let inner = Box::new(alloc, inner)?;
     Ok(Some((Expr::Parenthesis { place, inner }, rest)))
 }
@@ -92,9 +91,7 @@ fn negation(
     if depth == 0 {
         return Ok(None);
     }
-    let Some((operand, rest)) = primary(alloc, words, depth - 1)? else {
-        return Ok(None);
-    };
+    let (operand, rest) = found!(primary(alloc, words, depth - 1));
     let operand = Box::new(alloc, operand)?;
     Ok(Some((Expr::Not { place, operand }, rest)))
 }
@@ -114,9 +111,7 @@ fn converted(
     let Some((_, inside)) = past_symbol(words, Symbol::LeftParenthesis) else {
         return Ok(None);
     };
-    let Some((operand, rest)) = closed_expression(alloc, inside, depth)? else {
-        return Ok(None);
-    };
+    let (operand, rest) = found!(closed_expression(alloc, inside, depth));
     let operand = Box::new(alloc, operand)?;
     let whole = Expr::Convert {
         place,
@@ -141,9 +136,7 @@ fn named(
     if let Some((_, inside)) = past_symbol(words, Symbol::LeftParenthesis) {
         return called(alloc, place, name, inside, depth);
     }
-    let Some((reference, rest)) = reference_behind(alloc, place, name, words, depth)? else {
-        return Ok(None);
-    };
+    let (reference, rest) = found!(reference_behind(alloc, place, name, words, depth));
     Ok(Some((Expr::Reference(reference), rest)))
 }
 
@@ -159,9 +152,7 @@ fn called(
 ) -> Result<Option<(Expr, &[Token])>, AllocError>
     ensures { IfOk result (λ found. seen_as seen_expression found ≡ made_of (λ ts. Called place name ts) (closed expressions_of (deeper_than depth) words.now)) }
 {
-    let Some((arguments, rest)) = closed_expressions(alloc, words, depth)? else {
-        return Ok(None);
-    };
+    let (arguments, rest) = found!(closed_expressions(alloc, words, depth));
     let whole = Expr::Call {
         place,
         name,
@@ -183,9 +174,7 @@ fn closed_expression(
     if depth == 0 {
         return Ok(None);
     }
-    let Some((inner, end)) = expression(alloc, words, depth - 1)? else {
-        return Ok(None);
-    };
+    let (inner, end) = found!(expression(alloc, words, depth - 1));
     let Some((_, rest)) = past_symbol(end, Symbol::RightParenthesis) else {
         return Ok(None);
     };
@@ -205,9 +194,7 @@ pub(crate) fn closed_expressions(
     if depth == 0 {
         return Ok(None);
     }
-    let Some((list, end)) = expressions(alloc, words, depth - 1)? else {
-        return Ok(None);
-    };
+    let (list, end) = found!(expressions(alloc, words, depth - 1));
     let Some((_, rest)) = past_symbol(end, Symbol::RightParenthesis) else {
         return Ok(None);
     };

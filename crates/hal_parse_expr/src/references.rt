@@ -5,6 +5,7 @@ ghost use Rattle.hal_tree.specs.SeenExpressions.{seen_reference, seen_subscript}
 ghost use Rattle.hal_parse_expr.specs.ReadingExpressions.{deeper_than, reference_at, reference_behind, subscript_behind, subscript_of, subscript_or_none, primary_at, enclosed_parts};
 ghost use Rattle.hal_parse_expr.specs.Seen.{seen_as};
 
+use crate::found;
 use crate::leading::past_symbol;
 use crate::leaves::{further_names, integer, name};
 use crate::subscripts::{Parts, three_parts};
@@ -26,9 +27,7 @@ pub(crate) fn reference_behind(
     ensures { IfOk result (λ found. seen_as seen_reference found ≡ reference_behind (deeper_than depth) place name words.now) }
 {
     let (further, middle) = further_names(alloc, words)?;
-    let Some((subscript, rest)) = subscript_or_none(alloc, middle, depth)? else {
-        return Ok(None);
-    };
+    let (subscript, rest) = found!(subscript_or_none(alloc, middle, depth));
     let whole = Reference {
         place,
         name,
@@ -107,9 +106,7 @@ fn enclosed_parts(
     let Some((_, inside)) = past_symbol(words, Symbol::LeftParenthesis) else {
         return Ok(None);
     };
-    let Some((parts, rest)) = three_parts(alloc, inside, depth)? else {
-        return Ok(None);
-    };
+    let (parts, rest) = found!(three_parts(alloc, inside, depth));
     let Parts {
         copies,
         arrays,

@@ -7,6 +7,7 @@ ghost use Rattle.hal_parse_expr.specs.ReadingExpressions.{arrays_of, arrays_then
 ghost use Rattle.hal_parse_expr.specs.Seen.{seen_as, seen_as_list};
 ghost use Rattle.hal_parse_expr.specs.SeenParts.{seen_parts};
 
+use crate::found;
 use crate::leading::past_symbol;
 use crate::positions::sub;
 use hal_tree::Sub;
@@ -31,9 +32,7 @@ pub(crate) fn three_parts(
 ) -> Result<Option<(Parts, &[Token])>, AllocError>
     ensures { IfOk result (λ found. seen_as seen_parts found ≡ parts_of (primary_at depth) words.now) }
 {
-    let Some((first, rest)) = subs(alloc, words, depth)? else {
-        return Ok(None);
-    };
+    let (first, rest) = found!(subs(alloc, words, depth));
     copies_then(alloc, first, rest, depth)
 }
 
@@ -74,9 +73,7 @@ fn arrays(
         };
         return Ok(Some((whole, rest)));
     }
-    let Some((list, rest)) = subs(alloc, words, depth)? else {
-        return Ok(None);
-    };
+    let (list, rest) = found!(subs(alloc, words, depth));
     arrays_then(alloc, copies, list, rest, depth)
 }
 
@@ -119,9 +116,7 @@ fn with_components(
     ensures { IfOk result (λ found. seen_as seen_parts found
         ≡ made_of (λ ys. (subscripts (map seen_sub copies.items), subscripts (map seen_sub arrays.items), ys)) (components_of (primary_at depth) words.now)) }
 {
-    let Some((components, rest)) = components(alloc, words, depth)? else {
-        return Ok(None);
-    };
+    let (components, rest) = found!(components(alloc, words, depth));
     let whole = Parts {
         copies,
         arrays,
@@ -143,9 +138,7 @@ fn components(
     if let Some((_, rest)) = past_symbol(words, Symbol::RightParenthesis) {
         return Ok(Some((Vec::new(alloc), rest)));
     }
-    let Some((list, end)) = subs(alloc, words, depth)? else {
-        return Ok(None);
-    };
+    let (list, end) = found!(subs(alloc, words, depth));
     let Some((_, rest)) = past_symbol(end, Symbol::RightParenthesis) else {
         return Ok(None);
     };

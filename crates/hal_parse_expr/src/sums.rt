@@ -6,6 +6,7 @@ ghost use Rattle.hal_parse_expr.specs.Reading.{all};
 ghost use Rattle.hal_parse_expr.specs.ReadingExpressions.{primary_at, signed_sum, signed_term, sum_from, sum_of, unsigned_sum};
 ghost use Rattle.hal_parse_expr.specs.Seen.{seen_as, seen_list};
 
+use crate::found;
 use crate::leaves::sign;
 use crate::levels::term;
 use hal_tree::{Expr, SignedTerm};
@@ -38,9 +39,7 @@ fn unsigned_sum(
 ) -> Result<Option<(Expr, &[Token])>, AllocError>
     ensures { IfOk result (λ found. seen_as seen_expression found ≡ unsigned_sum (primary_at depth) words.now) }
 {
-    let Some((first, rest)) = term(alloc, words, depth)? else {
-        return Ok(None);
-    };
+    let (first, rest) = found!(term(alloc, words, depth));
     let (others, after) = terms(alloc, rest, depth)?;
     let whole = sum_from(alloc, first, others)?;
     Ok(Some((whole, after)))
@@ -72,9 +71,7 @@ fn opened_sum(
 ) -> Result<Option<(Expr, &[Token])>, AllocError>
     ensures { IfOk result (λ found. seen_as seen_expression found ≡ signed_sum (primary_at depth) words.now) }
 {
-    let Some((opening, rest)) = signed_term(alloc, words, depth)? else {
-        return Ok(None);
-    };
+    let (opening, rest) = found!(signed_term(alloc, words, depth));
     let (others, after) = terms(alloc, rest, depth)?;
     let whole = Expr::Sum {
         place: opening.place,
@@ -98,9 +95,7 @@ fn signed_term(
     let Some((place, sign, rest)) = sign(words) else {
         return Ok(None);
     };
-    let Some((term, after)) = term(alloc, rest, depth)? else {
-        return Ok(None);
-    };
+    let (term, after) = found!(term(alloc, rest, depth));
     Ok(Some((SignedTerm { place, sign, term }, after)))
 }
 

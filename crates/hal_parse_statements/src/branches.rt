@@ -9,7 +9,7 @@ ghost use Rattle.hal_parse_statements.specs.ReadingStatements.{alternative_of, c
 use crate::inside::{group, inside};
 use crate::phrases::expression_end;
 use hal_base::Place;
-use hal_parse_expr::{past, read_expression};
+use hal_parse_expr::{found, past, read_expression};
 use hal_tree::{Basic, Expr, Statement};
 use hal_words::{Reserved, Token};
 use std::alloc::{AllocError, Global};
@@ -25,9 +25,7 @@ pub(crate) fn conditional(
 ) -> Result<Option<(Basic, &[Token])>, AllocError>
     ensures { IfOk result (λ found. seen_as seen_basic found ≡ if_of depth (statement_below depth) place words.now) }
 {
-    let Some((condition, end)) = read_expression(alloc, words, depth)? else {
-        return Ok(None);
-    };
+    let (condition, end) = found!(read_expression(alloc, words, depth));
     let Some((_, rest)) = past(end, Reserved::Then) else {
         return Ok(None);
     };
@@ -46,12 +44,8 @@ fn chosen(
 ) -> Result<Option<(Basic, &[Token])>, AllocError>
     ensures { IfOk result (λ found. seen_as seen_basic found ≡ chosen_of (statement_below depth) place (seen_expression condition) words.now) }
 {
-    let Some((consequence, behind)) = inside(alloc, words, depth)? else {
-        return Ok(None);
-    };
-    let Some((alternative, rest)) = alternative(alloc, behind, depth)? else {
-        return Ok(None);
-    };
+    let (consequence, behind) = found!(inside(alloc, words, depth));
+    let (alternative, rest) = found!(alternative(alloc, behind, depth));
     let consequence = Box::new(alloc, consequence)?;
     let whole = Basic::If {
         place,
@@ -75,9 +69,7 @@ fn alternative(
     let Some((_, behind)) = past(words, Reserved::Else) else {
         return Ok(Some((None, words)));
     };
-    let Some((statement, rest)) = inside(alloc, behind, depth)? else {
-        return Ok(None);
-    };
+    let (statement, rest) = found!(inside(alloc, behind, depth));
     let statement = Box::new(alloc, statement)?;
     Ok(Some((Some(statement), rest)))
 }
@@ -93,15 +85,9 @@ pub(crate) fn case(
 ) -> Result<Option<(Basic, &[Token])>, AllocError>
     ensures { IfOk result (λ found. seen_as seen_basic found ≡ case_of depth (statement_below depth) place words.now) }
 {
-    let Some((selector, second)) = expression_end(alloc, words, depth)? else {
-        return Ok(None);
-    };
-    let Some((alternative, third)) = alternative(alloc, second, depth)? else {
-        return Ok(None);
-    };
-    let Some((group, rest)) = group(alloc, third, depth)? else {
-        return Ok(None);
-    };
+    let (selector, second) = found!(expression_end(alloc, words, depth));
+    let (alternative, third) = found!(alternative(alloc, second, depth));
+    let (group, rest) = found!(group(alloc, third, depth));
     let whole = Basic::DoCase {
         place,
         selector,

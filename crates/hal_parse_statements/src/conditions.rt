@@ -9,7 +9,7 @@ ghost use Rattle.hal_parse_expr.specs.ReadingExpressions.{expression_at};
 ghost use Rattle.hal_parse_expr.specs.Seen.{seen_as};
 ghost use Rattle.hal_parse_statements.specs.ReadingStatements.{guard_at, listed_from, span_at, step_at, stepped_from, temporary_at, until_at};
 
-use hal_parse_expr::{past, past_symbol, read_expression};
+use hal_parse_expr::{found, past, past_symbol, read_expression};
 use hal_tree::{Expr, Guard, Span};
 use hal_words::{Reserved, Symbol, Token};
 use std::alloc::{AllocError, Global};
@@ -26,9 +26,7 @@ pub(crate) fn guard(
     let Some((place, behind)) = past(words, Reserved::While) else {
         return until(alloc, words, depth);
     };
-    let Some((condition, rest)) = read_expression(alloc, behind, depth)? else {
-        return Ok(None);
-    };
+    let (condition, rest) = found!(read_expression(alloc, behind, depth));
     Ok(Some((Some(Guard::While { place, condition }), rest)))
 }
 
@@ -44,9 +42,7 @@ fn until(
     let Some((place, behind)) = past(words, Reserved::Until) else {
         return Ok(Some((None, words)));
     };
-    let Some((condition, rest)) = read_expression(alloc, behind, depth)? else {
-        return Ok(None);
-    };
+    let (condition, rest) = found!(read_expression(alloc, behind, depth));
     Ok(Some((Some(Guard::Until { place, condition }), rest)))
 }
 
@@ -59,9 +55,7 @@ pub(crate) fn span(
 ) -> Result<Option<(Span, &[Token])>, AllocError>
     ensures { IfOk result (λ found. seen_as seen_span found ≡ span_at depth words.now) }
 {
-    let Some((first, behind)) = read_expression(alloc, words, depth)? else {
-        return Ok(None);
-    };
+    let (first, behind) = found!(read_expression(alloc, words, depth));
     if let Some((_, rest)) = past(behind, Reserved::To) {
         return stepped(alloc, first, rest, depth);
     }
@@ -79,12 +73,8 @@ fn stepped(
 ) -> Result<Option<(Span, &[Token])>, AllocError>
     ensures { IfOk result (λ found. seen_as seen_span found ≡ stepped_from depth (seen_expression first) words.now) }
 {
-    let Some((last, behind)) = read_expression(alloc, words, depth)? else {
-        return Ok(None);
-    };
-    let Some((step, rest)) = step(alloc, behind, depth)? else {
-        return Ok(None);
-    };
+    let (last, behind) = found!(read_expression(alloc, words, depth));
+    let (step, rest) = found!(step(alloc, behind, depth));
     Ok(Some((Span::Range { first, last, step }, rest)))
 }
 
@@ -100,9 +90,7 @@ fn step(
     let Some((_, behind)) = past(words, Reserved::By) else {
         return Ok(Some((None, words)));
     };
-    let Some((step, rest)) = read_expression(alloc, behind, depth)? else {
-        return Ok(None);
-    };
+    let (step, rest) = found!(read_expression(alloc, behind, depth));
     Ok(Some((Some(step), rest)))
 }
 

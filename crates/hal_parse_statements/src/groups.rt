@@ -15,7 +15,7 @@ use crate::conditions::{guard, span, temporary};
 use crate::inside::group;
 use crate::phrases::expression_end;
 use hal_base::Place;
-use hal_parse_expr::{name, past_symbol};
+use hal_parse_expr::{found, name, past_symbol};
 use hal_tree::{Basic, Guard, Identifier};
 use hal_words::{Symbol, Token};
 use std::alloc::{AllocError, Global};
@@ -73,9 +73,7 @@ fn plain_group(
 ) -> Result<Option<(Basic, &[Token])>, AllocError>
     ensures { IfOk result (λ found. seen_as seen_basic found ≡ made_of (λ g. Do place g) (group_of (statement_below depth) words.now)) }
 {
-    let Some((group, rest)) = group(alloc, words, depth)? else {
-        return Ok(None);
-    };
+    let (group, rest) = found!(group(alloc, words, depth));
     Ok(Some((Basic::Do { place, group }, rest)))
 }
 
@@ -91,12 +89,8 @@ fn while_loop(
 ) -> Result<Option<(Basic, &[Token])>, AllocError>
     ensures { IfOk result (λ found. seen_as seen_basic found ≡ loop_of depth (statement_below depth) place (λ t. While at t) words.now) }
 {
-    let Some((condition, behind)) = expression_end(alloc, words, depth)? else {
-        return Ok(None);
-    };
-    let Some((group, rest)) = group(alloc, behind, depth)? else {
-        return Ok(None);
-    };
+    let (condition, behind) = found!(expression_end(alloc, words, depth));
+    let (group, rest) = found!(group(alloc, behind, depth));
     let guard = Guard::While {
         place: at,
         condition,
@@ -121,12 +115,8 @@ fn until_loop(
 ) -> Result<Option<(Basic, &[Token])>, AllocError>
     ensures { IfOk result (λ found. seen_as seen_basic found ≡ loop_of depth (statement_below depth) place (λ t. Until at t) words.now) }
 {
-    let Some((condition, behind)) = expression_end(alloc, words, depth)? else {
-        return Ok(None);
-    };
-    let Some((group, rest)) = group(alloc, behind, depth)? else {
-        return Ok(None);
-    };
+    let (condition, behind) = found!(expression_end(alloc, words, depth));
+    let (group, rest) = found!(group(alloc, behind, depth));
     let guard = Guard::Until {
         place: at,
         condition,
@@ -173,18 +163,12 @@ fn range(
 ) -> Result<Option<(Basic, &[Token])>, AllocError>
     ensures { IfOk result (λ found. seen_as seen_basic found ≡ range_of depth (statement_below depth) place temporary (seen_name variable) words.now) }
 {
-    let Some((span, second)) = span(alloc, words, depth)? else {
-        return Ok(None);
-    };
-    let Some((guard, end)) = guard(alloc, second, depth)? else {
-        return Ok(None);
-    };
+    let (span, second) = found!(span(alloc, words, depth));
+    let (guard, end) = found!(guard(alloc, second, depth));
     let Some((_, third)) = past_symbol(end, Symbol::Semicolon) else {
         return Ok(None);
     };
-    let Some((group, rest)) = group(alloc, third, depth)? else {
-        return Ok(None);
-    };
+    let (group, rest) = found!(group(alloc, third, depth));
     let whole = Basic::DoFor {
         place,
         temporary,

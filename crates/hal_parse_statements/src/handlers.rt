@@ -11,7 +11,7 @@ use crate::events::{event_end, response};
 use crate::inside::inside;
 use crate::selectors::selector;
 use hal_base::Place;
-use hal_parse_expr::past;
+use hal_parse_expr::{found, past};
 use hal_tree::{Basic, Response, Selector};
 use hal_words::{Reserved, Token};
 use std::alloc::{AllocError, Global};
@@ -51,9 +51,7 @@ fn handled(
     if let Some((response, rest)) = response(words) {
         return Ok(answered(place, selector, response, rest));
     }
-    let Some((handler, rest)) = inside(alloc, words, depth)? else {
-        return Ok(None);
-    };
+    let (handler, rest) = found!(inside(alloc, words, depth));
     let handler = Box::new(alloc, handler)?;
     let whole = Basic::OnErrorStatement {
         place,

@@ -8,7 +8,7 @@ ghost use Rattle.hal_parse_expr.specs.Seen.{seen_as, seen_as_list};
 ghost use Rattle.hal_parse_statements.specs.ReadingStatements.{arguments_at, expression_end, items_end_at, receivers_at, references_at, references_closed};
 
 use hal_parse_expr::{
-    past, past_symbol, read_arguments, read_expression, read_expressions, read_reference,
+    found, past, past_symbol, read_arguments, read_expression, read_expressions, read_reference,
 };
 use hal_tree::{Expr, Reference};
 use hal_words::{Reserved, Symbol, Token};
@@ -23,9 +23,7 @@ pub(crate) fn expression_end(
 ) -> Result<Option<(Expr, &[Token])>, AllocError>
     ensures { IfOk result (λ found. seen_as seen_expression found ≡ expression_end depth words.now) }
 {
-    let Some((expression, end)) = read_expression(alloc, words, depth)? else {
-        return Ok(None);
-    };
+    let (expression, end) = found!(read_expression(alloc, words, depth));
     let Some((_, rest)) = past_symbol(end, Symbol::Semicolon) else {
         return Ok(None);
     };
@@ -44,9 +42,7 @@ pub(crate) fn items_end(
     if let Some((_, rest)) = past_symbol(words, Symbol::Semicolon) {
         return Ok(Some((Vec::new(alloc), rest)));
     }
-    let Some((items, end)) = read_expressions(alloc, words, depth)? else {
-        return Ok(None);
-    };
+    let (items, end) = found!(read_expressions(alloc, words, depth));
     let Some((_, rest)) = past_symbol(end, Symbol::Semicolon) else {
         return Ok(None);
     };
@@ -102,9 +98,7 @@ fn closed_references(
     if depth == 0 {
         return Ok(None);
     }
-    let Some((references, end)) = references(alloc, words, depth - 1)? else {
-        return Ok(None);
-    };
+    let (references, end) = found!(references(alloc, words, depth - 1));
     let Some((_, rest)) = past_symbol(end, Symbol::RightParenthesis) else {
         return Ok(None);
     };

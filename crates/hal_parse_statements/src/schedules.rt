@@ -11,7 +11,7 @@ ghost use Rattle.hal_parse_statements.specs.ReadingStatements.{comma_repeat, cyc
 use crate::conditions::guard;
 use hal_base::Place;
 use hal_parse_declarations::enclosed_expression;
-use hal_parse_expr::{name, past, past_symbol, read_expression};
+use hal_parse_expr::{found, name, past, past_symbol, read_expression};
 use hal_tree::{Cycle, Expr, Guard, Identifier, Schedule, Start};
 use hal_words::{Reserved, Symbol, Token};
 use std::alloc::{AllocError, Global};
@@ -28,9 +28,7 @@ pub(crate) fn schedule(
     let Some((name, behind)) = name(words) else {
         return Ok(None);
     };
-    let Some((schedule, end)) = schedule_behind(alloc, name, behind, depth)? else {
-        return Ok(None);
-    };
+    let (schedule, end) = found!(schedule_behind(alloc, name, behind, depth));
     let Some((_, rest)) = past_symbol(end, Symbol::Semicolon) else {
         return Ok(None);
     };
@@ -47,15 +45,9 @@ fn schedule_behind(
 ) -> Result<Option<(Schedule, &[Token])>, AllocError>
     ensures { IfOk result (λ found. seen_as seen_schedule found ≡ schedule_behind depth (seen_name name) words.now) }
 {
-    let Some((start, second)) = start(alloc, words, depth)? else {
-        return Ok(None);
-    };
-    let Some((priority, dependent, third)) = urgency(alloc, second, depth)? else {
-        return Ok(None);
-    };
-    let Some((cycle, guard, rest)) = cycle_and_guard(alloc, third, depth)? else {
-        return Ok(None);
-    };
+    let (start, second) = found!(start(alloc, words, depth));
+    let (priority, dependent, third) = found!(urgency(alloc, second, depth));
+    let (cycle, guard, rest) = found!(cycle_and_guard(alloc, third, depth));
     let schedule = Schedule {
         name,
         start,
@@ -79,9 +71,7 @@ fn start(
     let Some((place, behind)) = past(words, Reserved::At) else {
         return start_in(alloc, words, depth);
     };
-    let Some((time, rest)) = read_expression(alloc, behind, depth)? else {
-        return Ok(None);
-    };
+    let (time, rest) = found!(read_expression(alloc, behind, depth));
     Ok(Some((Some(Start::At { place, time }), rest)))
 }
 
@@ -97,9 +87,7 @@ fn start_in(
     let Some((place, behind)) = past(words, Reserved::In) else {
         return start_on(alloc, words, depth);
     };
-    let Some((time, rest)) = read_expression(alloc, behind, depth)? else {
-        return Ok(None);
-    };
+    let (time, rest) = found!(read_expression(alloc, behind, depth));
     Ok(Some((Some(Start::In { place, time }), rest)))
 }
 
@@ -115,9 +103,7 @@ fn start_on(
     let Some((place, behind)) = past(words, Reserved::On) else {
         return Ok(Some((None, words)));
     };
-    let Some((event, rest)) = read_expression(alloc, behind, depth)? else {
-        return Ok(None);
-    };
+    let (event, rest) = found!(read_expression(alloc, behind, depth));
     Ok(Some((Some(Start::On { place, event }), rest)))
 }
 
@@ -130,9 +116,7 @@ fn urgency(
 ) -> Result<Option<(Option<Expr>, bool, &[Token])>, AllocError>
     ensures { IfOk result (λ found. seen_pair (option_map seen_expression) (λ b. b) found ≡ rank_at depth words.now) }
 {
-    let Some((priority, behind)) = priority(alloc, words, depth)? else {
-        return Ok(None);
-    };
+    let (priority, behind) = found!(priority(alloc, words, depth));
     let (dependent, rest) = dependent(behind);
     Ok(Some((priority, dependent, rest)))
 }
@@ -149,9 +133,7 @@ fn priority(
     let Some((_, behind)) = past(words, Reserved::Priority) else {
         return Ok(Some((None, words)));
     };
-    let Some((priority, rest)) = enclosed_expression(alloc, behind, depth)? else {
-        return Ok(None);
-    };
+    let (priority, rest) = found!(enclosed_expression(alloc, behind, depth));
     Ok(Some((Some(priority), rest)))
 }
 
@@ -175,12 +157,8 @@ fn cycle_and_guard(
 ) -> Result<Option<(Option<Cycle>, Option<Guard>, &[Token])>, AllocError>
     ensures { IfOk result (λ found. seen_pair (option_map seen_cycle) (option_map seen_guard) found ≡ cycle_and_guard depth words.now) }
 {
-    let Some((cycle, behind)) = cycle(alloc, words, depth)? else {
-        return Ok(None);
-    };
-    let Some((guard, rest)) = guard(alloc, behind, depth)? else {
-        return Ok(None);
-    };
+    let (cycle, behind) = found!(cycle(alloc, words, depth));
+    let (guard, rest) = found!(guard(alloc, behind, depth));
     Ok(Some((cycle, guard, rest)))
 }
 
@@ -211,9 +189,7 @@ fn cycle_or_none(
     let Some((place, behind)) = past(words, Reserved::Repeat) else {
         return Ok(Some((None, words)));
     };
-    let Some((cycle, rest)) = cycle_behind(alloc, place, behind, depth)? else {
-        return Ok(None);
-    };
+    let (cycle, rest) = found!(cycle_behind(alloc, place, behind, depth));
     Ok(Some((Some(cycle), rest)))
 }
 
@@ -229,9 +205,7 @@ fn cycle_behind_comma(
     let Some((place, behind)) = past(words, Reserved::Repeat) else {
         return Ok(None);
     };
-    let Some((cycle, rest)) = cycle_behind(alloc, place, behind, depth)? else {
-        return Ok(None);
-    };
+    let (cycle, rest) = found!(cycle_behind(alloc, place, behind, depth));
     Ok(Some((Some(cycle), rest)))
 }
 
@@ -248,9 +222,7 @@ fn cycle_behind(
     let Some((_, behind)) = past(words, Reserved::Every) else {
         return cycle_after(alloc, place, words, depth);
     };
-    let Some((time, rest)) = read_expression(alloc, behind, depth)? else {
-        return Ok(None);
-    };
+    let (time, rest) = found!(read_expression(alloc, behind, depth));
     Ok(Some((Cycle::Every { place, time }, rest)))
 }
 
@@ -267,8 +239,6 @@ fn cycle_after(
     let Some((_, behind)) = past(words, Reserved::After) else {
         return Ok(Some((Cycle::Repeat { place }, words)));
     };
-    let Some((time, rest)) = read_expression(alloc, behind, depth)? else {
-        return Ok(None);
-    };
+    let (time, rest) = found!(read_expression(alloc, behind, depth));
     Ok(Some((Cycle::After { place, time }, rest)))
 }

@@ -15,7 +15,7 @@ use crate::schedules::schedule;
 use crate::selectors::selector;
 use hal_base::Place;
 use hal_parse_declarations::{enclosed_expression, name_end, name_option, names_end};
-use hal_parse_expr::{integer, name, past, past_symbol};
+use hal_parse_expr::{found, integer, name, past, past_symbol};
 use hal_tree::{Basic, EventAction, EventChange, Identifier};
 use hal_words::{Reserved, Symbol, Token};
 use std::alloc::{AllocError, Global};
@@ -30,15 +30,11 @@ pub(crate) fn assignment(
 ) -> Result<Option<(Basic, &[Token])>, AllocError>
     ensures { IfOk result (λ found. seen_as seen_basic found ≡ assigned_at depth place words.now) }
 {
-    let Some((receivers, end)) = references(alloc, words, depth)? else {
-        return Ok(None);
-    };
+    let (receivers, end) = found!(references(alloc, words, depth));
     let Some((_, behind)) = past_symbol(end, Symbol::Equals) else {
         return Ok(None);
     };
-    let Some((value, rest)) = expression_end(alloc, behind, depth)? else {
-        return Ok(None);
-    };
+    let (value, rest) = found!(expression_end(alloc, behind, depth));
     let whole = Basic::Assignment {
         place,
         receivers,
@@ -82,9 +78,7 @@ pub(crate) fn return_value(
     if let Some((_, rest)) = past_symbol(words, Symbol::Semicolon) {
         return Ok(Some((Basic::Return { place, value: None }, rest)));
     }
-    let Some((value, rest)) = expression_end(alloc, words, depth)? else {
-        return Ok(None);
-    };
+    let (value, rest) = found!(expression_end(alloc, words, depth));
     let value = Some(value);
     Ok(Some((Basic::Return { place, value }, rest)))
 }
@@ -116,12 +110,8 @@ fn call_behind(
 ) -> Result<Option<(Basic, &[Token])>, AllocError>
     ensures { IfOk result (λ found. seen_as seen_basic found ≡ call_behind depth place (seen_name name) words.now) }
 {
-    let Some((arguments, behind)) = arguments(alloc, words, depth)? else {
-        return Ok(None);
-    };
-    let Some((receivers, end)) = receivers(alloc, behind, depth)? else {
-        return Ok(None);
-    };
+    let (arguments, behind) = found!(arguments(alloc, words, depth));
+    let (receivers, end) = found!(receivers(alloc, behind, depth));
     let Some((_, rest)) = past_symbol(end, Symbol::Semicolon) else {
         return Ok(None);
     };
@@ -144,12 +134,8 @@ pub(crate) fn read(
 ) -> Result<Option<(Basic, &[Token])>, AllocError>
     ensures { IfOk result (λ found. seen_as seen_basic found ≡ read_at depth place words.now) }
 {
-    let Some((channel, behind)) = enclosed_expression(alloc, words, depth)? else {
-        return Ok(None);
-    };
-    let Some((receivers, end)) = references(alloc, behind, depth)? else {
-        return Ok(None);
-    };
+    let (channel, behind) = found!(enclosed_expression(alloc, words, depth));
+    let (receivers, end) = found!(references(alloc, behind, depth));
     let Some((_, rest)) = past_symbol(end, Symbol::Semicolon) else {
         return Ok(None);
     };
@@ -171,12 +157,8 @@ pub(crate) fn write(
 ) -> Result<Option<(Basic, &[Token])>, AllocError>
     ensures { IfOk result (λ found. seen_as seen_basic found ≡ write_at depth place words.now) }
 {
-    let Some((channel, behind)) = enclosed_expression(alloc, words, depth)? else {
-        return Ok(None);
-    };
-    let Some((items, rest)) = items_end(alloc, behind, depth)? else {
-        return Ok(None);
-    };
+    let (channel, behind) = found!(enclosed_expression(alloc, words, depth));
+    let (items, rest) = found!(items_end(alloc, behind, depth));
     let whole = Basic::Write {
         place,
         channel,
@@ -195,9 +177,7 @@ pub(crate) fn scheduled(
 ) -> Result<Option<(Basic, &[Token])>, AllocError>
     ensures { IfOk result (λ found. seen_as seen_basic found ≡ made_of (λ s. Scheduled place s) (schedule_at depth words.now)) }
 {
-    let Some((schedule, rest)) = schedule(alloc, words, depth)? else {
-        return Ok(None);
-    };
+    let (schedule, rest) = found!(schedule(alloc, words, depth));
     Ok(Some((Basic::Schedule { place, schedule }, rest)))
 }
 
@@ -210,9 +190,7 @@ pub(crate) fn cancel(
 ) -> Result<Option<(Basic, &[Token])>, AllocError>
     ensures { IfOk result (λ found. seen_as seen_basic found ≡ made_of (λ xs. Cancel place xs) (names_end_at words.now)) }
 {
-    let Some((names, rest)) = names_end(alloc, words)? else {
-        return Ok(None);
-    };
+    let (names, rest) = found!(names_end(alloc, words));
     Ok(Some((Basic::Cancel { place, names }, rest)))
 }
 
@@ -225,9 +203,7 @@ pub(crate) fn terminate(
 ) -> Result<Option<(Basic, &[Token])>, AllocError>
     ensures { IfOk result (λ found. seen_as seen_basic found ≡ made_of (λ xs. Terminate place xs) (names_end_at words.now)) }
 {
-    let Some((names, rest)) = names_end(alloc, words)? else {
-        return Ok(None);
-    };
+    let (names, rest) = found!(names_end(alloc, words));
     Ok(Some((Basic::Terminate { place, names }, rest)))
 }
 
@@ -268,9 +244,7 @@ pub(crate) fn update_priority(
     let Some((_, behind)) = past(end, Reserved::To) else {
         return Ok(None);
     };
-    let Some((priority, rest)) = expression_end(alloc, behind, depth)? else {
-        return Ok(None);
-    };
+    let (priority, rest) = found!(expression_end(alloc, behind, depth));
     let whole = Basic::UpdatePriority {
         place,
         name,

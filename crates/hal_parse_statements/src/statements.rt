@@ -18,6 +18,7 @@ use crate::updates::update;
 use crate::waits::wait;
 use hal_base::Place;
 use hal_parse_declarations::labels;
+use hal_parse_expr::found;
 use hal_tree::{Basic, Statement};
 use hal_words::Token;
 use std::alloc::{AllocError, Global};
@@ -33,9 +34,7 @@ pub fn read_statement(
     ensures { IfOk result (λ found. seen_as seen_statement found ≡ statement_at depth words.now) }
 {
     let (labels, behind) = labels(alloc, words)?;
-    let Some((basic, rest)) = basic(alloc, behind, depth)? else {
-        return Ok(None);
-    };
+    let (basic, rest) = found!(basic(alloc, behind, depth));
     Ok(Some((Statement { labels, basic }, rest)))
 }
 

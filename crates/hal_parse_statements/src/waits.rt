@@ -9,7 +9,7 @@ ghost use Rattle.hal_parse_statements.specs.ReadingStatements.{expression_end, w
 
 use crate::phrases::expression_end;
 use hal_base::Place;
-use hal_parse_expr::{past, past_symbol};
+use hal_parse_expr::{found, past, past_symbol};
 use hal_tree::Basic;
 use hal_words::{Reserved, Symbol, Token};
 use std::alloc::{AllocError, Global};
@@ -43,9 +43,7 @@ fn wait_until(
 ) -> Result<Option<(Basic, &[Token])>, AllocError>
     ensures { IfOk result (λ found. seen_as seen_basic found ≡ made_of (λ t. WaitUntil place t) (expression_end depth words.now)) }
 {
-    let Some((time, rest)) = expression_end(alloc, words, depth)? else {
-        return Ok(None);
-    };
+    let (time, rest) = found!(expression_end(alloc, words, depth));
     Ok(Some((Basic::WaitUntil { place, time }, rest)))
 }
 
@@ -78,9 +76,7 @@ fn wait_event(
 ) -> Result<Option<(Basic, &[Token])>, AllocError>
     ensures { IfOk result (λ found. seen_as seen_basic found ≡ made_of (λ t. WaitFor place t) (expression_end depth words.now)) }
 {
-    let Some((event, rest)) = expression_end(alloc, words, depth)? else {
-        return Ok(None);
-    };
+    let (event, rest) = found!(expression_end(alloc, words, depth));
     Ok(Some((Basic::WaitFor { place, event }, rest)))
 }
 
@@ -94,8 +90,6 @@ fn wait_time(
 ) -> Result<Option<(Basic, &[Token])>, AllocError>
     ensures { IfOk result (λ found. seen_as seen_basic found ≡ made_of (λ t. Wait place t) (expression_end depth words.now)) }
 {
-    let Some((time, rest)) = expression_end(alloc, words, depth)? else {
-        return Ok(None);
-    };
+    let (time, rest) = found!(expression_end(alloc, words, depth));
     Ok(Some((Basic::Wait { place, time }, rest)))
 }
