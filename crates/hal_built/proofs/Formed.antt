@@ -196,7 +196,7 @@ mutual
   basic_formed (OnErrorStatement p selector handler) = own (unbuilt_statement handler) p
   basic_formed (OnErrorResponse p selector response event) = refl
   basic_formed (OffError p selector) = refl
-  basic_formed (SendError p group number) = refl
+  basic_formed (SendError p group_at group number_at number) = refl
 
   alternative_formed : (x : Alternative) → is_some (alternative_of x) ≡ is_none (unbuilt_alternative x)
   alternative_formed NoAlternative = refl

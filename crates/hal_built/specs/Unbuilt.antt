@@ -306,7 +306,7 @@ unfoldable mutual
   unbuilt_basic (OnErrorStatement place selector handler) = option_or (unbuilt_statement handler) (Some place)
   unbuilt_basic (OnErrorResponse place selector response event) = Some place
   unbuilt_basic (OffError place selector) = Some place
-  unbuilt_basic (SendError place group number) = Some place
+  unbuilt_basic (SendError place group_at group number_at number) = Some place
 
   -- what stands after ELSE, if there is one
   pub unbuilt_alternative : Alternative → Option Place

@@ -261,11 +261,15 @@ fn copy_basic(alloc: Global, tree: &Basic) -> Result<Basic, AllocError>
         }),
         Basic::SendError {
             place,
+            group_at,
             group,
+            number_at,
             number,
         } => Ok(Basic::SendError {
             place: *place,
+            group_at: *group_at,
             group: *group,
+            number_at: *number_at,
             number: *number,
         }),
     }

@@ -43,17 +43,17 @@ pub data SpellsSpan : Span → Words → Words → Type 0 where
 -- nothing, or `$` and a group, or `$` and a group and a number in parentheses; a group without a number is the whole group
 pub data SpellsSelector : Selector → Words → Words → Type 0 where
   every_error : {after : Words} → ¬ BeginsSymbol symbol.Dollar after → SpellsSelector EveryError after after
-  group_alone : {p q : Place} {n : ℕ} {after : Words} → SpellsSelector (GroupErrors p n) (symbol_then symbol.Dollar p (integer_then n q after)) after
+  group_alone : {p q : Place} {n : ℕ} {after : Words} → SpellsSelector (GroupErrors p q n) (symbol_then symbol.Dollar p (integer_then n q after)) after
   group_enclosed : {p q r s : Place} {n : ℕ} {after : Words} →
-      SpellsSelector (GroupErrors p n) (symbol_then symbol.Dollar p (symbol_then symbol.LeftParenthesis q (integer_then n r (symbol_then symbol.RightParenthesis s after)))) after
+      SpellsSelector (GroupErrors p r n) (symbol_then symbol.Dollar p (symbol_then symbol.LeftParenthesis q (integer_then n r (symbol_then symbol.RightParenthesis s after)))) after
   group_colon : {p q r s c : Place} {n : ℕ} {after : Words} →
-      SpellsSelector (GroupErrors p n) (symbol_then symbol.Dollar p (symbol_then symbol.LeftParenthesis q (integer_then n r
+      SpellsSelector (GroupErrors p r n) (symbol_then symbol.Dollar p (symbol_then symbol.LeftParenthesis q (integer_then n r
       (symbol_then symbol.Colon c (symbol_then symbol.RightParenthesis s after))))) after
   group_star : {p q r s c d : Place} {n : ℕ} {after : Words} →
-      SpellsSelector (GroupErrors p n) (symbol_then symbol.Dollar p (symbol_then symbol.LeftParenthesis q (integer_then n r
+      SpellsSelector (GroupErrors p r n) (symbol_then symbol.Dollar p (symbol_then symbol.LeftParenthesis q (integer_then n r
       (symbol_then symbol.Colon c (symbol_then symbol.Star d (symbol_then symbol.RightParenthesis s after)))))) after
   one_error : {p q r s c d : Place} {n m : ℕ} {after : Words} →
-      SpellsSelector (OneError p n m) (symbol_then symbol.Dollar p (symbol_then symbol.LeftParenthesis q (integer_then n r
+      SpellsSelector (OneError p r n d m) (symbol_then symbol.Dollar p (symbol_then symbol.LeftParenthesis q (integer_then n r
       (symbol_then symbol.Colon c (integer_then m d (symbol_then symbol.RightParenthesis s after)))))) after
 
 -- SIGNAL, SET or RESET and a name
@@ -203,7 +203,7 @@ mutual
     forgets : {p q r : Place} {x : Selector} {before after : Words} → SpellsSelector x before (symbol_then symbol.Semicolon r after) →
         SpellsBasic (OffError p x) (reserved_then reserved.Off p (reserved_then reserved.Error q before)) after
     sends : {p q d l g c m r s : Place} {group number : ℕ} {after : Words} →
-        SpellsBasic (SendError p group number) (reserved_then reserved.Send p (reserved_then reserved.Error q (symbol_then symbol.Dollar d (symbol_then symbol.LeftParenthesis l
+        SpellsBasic (SendError p g group m number) (reserved_then reserved.Send p (reserved_then reserved.Error q (symbol_then symbol.Dollar d (symbol_then symbol.LeftParenthesis l
         (integer_then group g (symbol_then symbol.Colon c (integer_then number m (symbol_then symbol.RightParenthesis r (symbol_then symbol.Semicolon s after))))))))) after
 
   -- nothing, or ELSE and a statement

@@ -17,8 +17,8 @@ pub data Span : Type 0 where
 -- the errors that are meant: every one, those of a group, one; the place is the sign's
 pub data Selector : Type 0 where
   EveryError : Selector
-  GroupErrors : (place : Place) (group : ℕ) → Selector
-  OneError : (place : Place) (group number : ℕ) → Selector
+  GroupErrors : (place group_at : Place) (group : ℕ) → Selector
+  OneError : (place group_at : Place) (group : ℕ) (number_at : Place) (number : ℕ) → Selector
 
 -- SIGNAL, SET, RESET
 pub data EventAction : Type 0 where
@@ -93,7 +93,7 @@ mutual
     OnErrorStatement : (place : Place) (selector : Selector) (handler : Statement) → Basic
     OnErrorResponse : (place : Place) (selector : Selector) (response : Response) (event : Option Eventful) → Basic
     OffError : (place : Place) (selector : Selector) → Basic
-    SendError : (place : Place) (group number : ℕ) → Basic
+    SendError : (place group_at : Place) (group : ℕ) (number_at : Place) (number : ℕ) → Basic
 
   -- what stands after ELSE, if there is one
   pub data Alternative : Type 0 where
@@ -181,7 +181,7 @@ abbrev mutual
   nesting_of_basic (OnErrorStatement place selector handler) = nesting_of_statement handler + 1
   nesting_of_basic (OnErrorResponse place selector response event) = 0
   nesting_of_basic (OffError place selector) = 0
-  nesting_of_basic (SendError place group number) = 0
+  nesting_of_basic (SendError place group_at group number_at number) = 0
 
   -- what stands after ELSE is one deeper too
   pub nesting_of_alternative : Alternative → ℕ
@@ -226,7 +226,7 @@ place_of_basic (UpdatePriority place name priority) = place
 place_of_basic (OnErrorStatement place selector handler) = place
 place_of_basic (OnErrorResponse place selector response event) = place
 place_of_basic (OffError place selector) = place
-place_of_basic (SendError place group number) = place
+place_of_basic (SendError place group_at group number_at number) = place
 
 -- where a statement stands: at its first label, if it has one
 abbrev pub place_of_statement : Statement → Place

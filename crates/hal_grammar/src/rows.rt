@@ -111,7 +111,7 @@ pub fn words_of_larger_trees()
         [] }
     // `ON ERROR$(1:*) WRITE(6) 'X', A;`
     ensures handler { (a b c d e f g h i j k l m n o p : Place) → SpellsStatement
-        (Labelled [] (OnErrorStatement a (GroupErrors c 1) (Labelled [] (Write i (Literal k (Integer 6))
+        (Labelled [] (OnErrorStatement a (GroupErrors c e 1) (Labelled [] (Write i (Literal k (Integer 6))
         (MoreExpressions (Literal m (Text (codes "X"))) (MoreExpressions (Referred (Refers o (codes "A") [] Unsubscripted)) NoExpressions))))))
         (reserved_then reserved.On a (reserved_then reserved.Error b (symbol_then symbol.Dollar c (symbol_then symbol.LeftParenthesis d (integer_then 1 e
         (symbol_then symbol.Colon f (symbol_then symbol.Star g (symbol_then symbol.RightParenthesis h

@@ -21,12 +21,12 @@ use Rattle.hal_parse_declarations.proofs.Becomes.{followed_is, decided_is, decid
 
 -- what stands in the parentheses of a selector
 data ErrorsIn (p : Place) : Selector → Words → Words → Type 0 where
-  alone_in : {r : Place} {n : ℕ} {a : Words} → ErrorsIn p (GroupErrors p n) (integer_then n r a) a
-  colon_in : {r c : Place} {n : ℕ} {a : Words} → ErrorsIn p (GroupErrors p n) (integer_then n r (symbol_then symbol.Colon c a)) a
-  star_in : {r c d : Place} {n : ℕ} {a : Words} → ErrorsIn p (GroupErrors p n) (integer_then n r (symbol_then symbol.Colon c (symbol_then symbol.Star d a))) a
-  number_in : {r c d : Place} {n m : ℕ} {a : Words} → ErrorsIn p (OneError p n m) (integer_then n r (symbol_then symbol.Colon c (integer_then m d a))) a
+  alone_in : {r : Place} {n : ℕ} {a : Words} → ErrorsIn p (GroupErrors p r n) (integer_then n r a) a
+  colon_in : {r c : Place} {n : ℕ} {a : Words} → ErrorsIn p (GroupErrors p r n) (integer_then n r (symbol_then symbol.Colon c a)) a
+  star_in : {r c d : Place} {n : ℕ} {a : Words} → ErrorsIn p (GroupErrors p r n) (integer_then n r (symbol_then symbol.Colon c (symbol_then symbol.Star d a))) a
+  number_in : {r c d : Place} {n m : ℕ} {a : Words} → ErrorsIn p (OneError p r n d m) (integer_then n r (symbol_then symbol.Colon c (integer_then m d a))) a
 
-number_gives : (p r c : Place) (n : ℕ) (words : Words) → Holds (λ x rest. ErrorsIn p x (integer_then n r (symbol_then symbol.Colon c words)) rest) (error_number p n words)
+number_gives : (p r c : Place) (n : ℕ) (words : Words) → Holds (λ x rest. ErrorsIn p x (integer_then n r (symbol_then symbol.Colon c words)) rest) (error_number p r n words)
 unfolding error_number
 number_gives p r c n words =
     decided_holds (symbol_gives symbol.Star words) (λ q rest e. holds (rw e star_in))

@@ -312,14 +312,14 @@ integer_given : (words : Words) → Holds (λ f rest. OneInteger f words rest) (
 integer_given words = weaker_holds (integer_gives words) (λ f rest e. rw e is_integer)
 
 -- the number of an error in a group
-data NumberIn (p : Place) (group : ℕ) : Basic → Words → Words → Type 0 where
-  number_in : {m : Place} {number : ℕ} {a : Words} → NumberIn p group (SendError p group number) (integer_then number m a) a
+data NumberIn (p g : Place) (group : ℕ) : Basic → Words → Words → Type 0 where
+  number_in : {m : Place} {number : ℕ} {a : Words} → NumberIn p g group (SendError p g group m number) (integer_then number m a) a
 
-number_gives : (p : Place) (group : ℕ) (words : Words) → Holds (λ x rest. NumberIn p group x words rest) (made_of (λ number. SendError p group number.1) (integer_at words))
-number_gives p group words = made_holds _ (integer_gives words) (λ f rest e. rw e number_in)
+number_gives : (p g : Place) (group : ℕ) (words : Words) → Holds (λ x rest. NumberIn p g group x words rest) (made_of (λ number. SendError p g group number.0 number.1) (integer_at words))
+number_gives p g group words = made_holds _ (integer_gives words) (λ f rest e. rw e number_in)
 
 sends_spelled : {n : ℕ} {f : Place × ℕ} {x : Basic} {p q r s : Place} {b m a : Words} → Ended symbol.Colon OneInteger f b m →
-    Ended symbol.Semicolon (Ended symbol.RightParenthesis (NumberIn p f.1)) x m a →
+    Ended symbol.Semicolon (Ended symbol.RightParenthesis (NumberIn p f.0 f.1)) x m a →
     BasicOf n x (reserved_then reserved.Send p (reserved_then reserved.Error q (symbol_then symbol.Dollar r (symbol_then symbol.LeftParenthesis s b)))) a
 sends_spelled (ended is_integer) (ended (ended number_in)) = (sends, omega arith)
 
@@ -328,7 +328,7 @@ sent_gives : (n : ℕ) (p q r s : Place) (words : Words) →
 unfolding error_sent
 sent_gives n p q r s words =
     followed_holds (gives_ended symbol.Colon words (integer_given words))
-    (λ f rest d. weaker_holds (gives_ended symbol.Semicolon rest (gives_ended symbol.RightParenthesis rest (number_gives p f.1 rest))) (λ x after e. sends_spelled d e))
+    (λ f rest d. weaker_holds (gives_ended symbol.Semicolon rest (gives_ended symbol.RightParenthesis rest (number_gives p f.0 f.1 rest))) (λ x after e. sends_spelled d e))
 
 pub sends_gives : (n : ℕ) (p : Place) (words : Words) → Holds (λ x rest. BasicOf n x (reserved_then reserved.Send p words) rest) (sends_at p words)
 unfolding sends_at
@@ -338,7 +338,7 @@ sends_gives n p words =
 
 pub sends_is : (p q d l g c m r s : Place) (group number : ℕ) (words : Words) →
     sends_at p (reserved_then reserved.Error q (symbol_then symbol.Dollar d (symbol_then symbol.LeftParenthesis l (integer_then group g (symbol_then symbol.Colon c
-    (integer_then number m (symbol_then symbol.RightParenthesis r (symbol_then symbol.Semicolon s words)))))))) ≡ Some (SendError p group number, words)
+    (integer_then number m (symbol_then symbol.RightParenthesis r (symbol_then symbol.Semicolon s words)))))))) ≡ Some (SendError p g group m number, words)
 unfolding sends_at error_sent past is_reserved past_symbol is_symbol where_true integer_at
 sends_is p q d l g c m r s group number words =
     followed_is _ refl ∙ followed_is _ refl ∙ followed_is _ refl ∙ followed_is _ (before_symbol_is refl) ∙ before_symbol_is (before_symbol_is (made_equals _ refl))

@@ -65,19 +65,19 @@ unfoldable pub span_at : ℕ → Reader Span
 span_at n words = followed (expression_at n words) (λ t rest. decided (past reserved.To rest) (λ p after. stepped_from n t after) (listed_from n t rest))
 
 -- behind the colon of a group of errors: `*`, a number, or nothing
-unfoldable pub error_number : Place → ℕ → Reader Selector
-error_number p group words =
-    decided (past_symbol symbol.Star words) (λ q rest. Some (GroupErrors p group, rest))
-    (decided (integer_at words) (λ f rest. Some (OneError p group f.1, rest)) (Some (GroupErrors p group, words)))
+unfoldable pub error_number : Place → Place → ℕ → Reader Selector
+error_number p at group words =
+    decided (past_symbol symbol.Star words) (λ q rest. Some (GroupErrors p at group, rest))
+    (decided (integer_at words) (λ f rest. Some (OneError p at group f.0 f.1, rest)) (Some (GroupErrors p at group, words)))
 
 -- a group of errors, and a colon and what follows it, or none
 unfoldable pub error_group : Place → Reader Selector
 error_group p words =
-    followed (integer_at words) (λ f rest. decided (past_symbol symbol.Colon rest) (λ q after. error_number p f.1 after) (Some (GroupErrors p f.1, rest)))
+    followed (integer_at words) (λ f rest. decided (past_symbol symbol.Colon rest) (λ q after. error_number p f.0 f.1 after) (Some (GroupErrors p f.0 f.1, rest)))
 
 -- behind `$`: a group, or what is in parentheses
 unfoldable pub selector_behind : Place → Reader Selector
-selector_behind p words = decided (integer_at words) (λ f rest. Some (GroupErrors p f.1, rest)) (in_parentheses (error_group p) words)
+selector_behind p words = decided (integer_at words) (λ f rest. Some (GroupErrors p f.0 f.1, rest)) (in_parentheses (error_group p) words)
 
 -- which errors are meant
 unfoldable pub selector_at : Reader Selector
@@ -229,7 +229,7 @@ forgets_at p words = followed (past reserved.Error words) (λ q rest. made_of (�
 unfoldable pub error_sent : Place → Reader Basic
 error_sent p words =
     followed (before_symbol symbol.Colon (integer_at words)) (λ group rest.
-    before_symbol symbol.Semicolon (before_symbol symbol.RightParenthesis (made_of (λ number. SendError p group.1 number.1) (integer_at rest))))
+    before_symbol symbol.Semicolon (before_symbol symbol.RightParenthesis (made_of (λ number. SendError p group.0 group.1 number.0 number.1) (integer_at rest))))
 
 -- behind SEND
 unfoldable pub sends_at : Place → Reader Basic

@@ -27,10 +27,17 @@ pub(crate) fn selector(words: &[Token]) -> Option<(Selector, &[Token])>
 fn selector_behind(place: Place, words: &[Token]) -> Option<(Selector, &[Token])>
     ensures { seen_as seen_selector result ≡ selector_behind place words.now }
 {
-    let Some((_, group, rest)) = integer(words) else {
+    let Some((group_at, group, rest)) = integer(words) else {
         return enclosed_group(place, words);
     };
-    Some((Selector::Group { place, group }, rest))
+    Some((
+        Selector::Group {
+            place,
+            group_at,
+            group,
+        },
+        rest,
+    ))
 }
 
 /// A group of errors in parentheses, and what follows its colon, if there is one.
@@ -55,32 +62,44 @@ fn enclosed_group(place: Place, words: &[Token]) -> Option<(Selector, &[Token])>
 fn error_group(place: Place, words: &[Token]) -> Option<(Selector, &[Token])>
     ensures { seen_as seen_selector result ≡ error_group place words.now }
 {
-    let Some((_, group, behind)) = integer(words) else {
+    let Some((group_at, group, behind)) = integer(words) else {
         return None;
     };
     let Some((_, rest)) = past_symbol(behind, Symbol::Colon) else {
-        return Some((Selector::Group { place, group }, behind));
+        let whole = Selector::Group {
+            place,
+            group_at,
+            group,
+        };
+        return Some((whole, behind));
     };
-    Some(error_number(place, group, rest))
+    Some(error_number(place, group_at, group, rest))
 }
 
 /// Behind the colon of a group of errors: `*`, a number, or nothing.
 #[tactic(auto, unfolding(crate::specs::ReadingStatements::error_number, hal_parse_expr::specs::Reading::decided, hal_parse_expr::specs::Seen::seen, hal_parse_expr::specs::Seen::seen_placed))]
-fn error_number(place: Place, group: u32, words: &[Token]) -> (Selector, &[Token])
-    ensures { Some (seen_selector result.0, result.1.now) ≡ error_number place group words.now }
+fn error_number(place: Place, group_at: Place, group: u32, words: &[Token]) -> (Selector, &[Token])
+    ensures { Some (seen_selector result.0, result.1.now) ≡ error_number place group_at group words.now }
 {
+    let whole = Selector::Group {
+        place,
+        group_at,
+        group,
+    };
     if let Some((_, rest)) = past_symbol(words, Symbol::Star) {
-        return (Selector::Group { place, group }, rest);
+        return (whole, rest);
     }
     match integer(words) {
-        Some((_, number, rest)) => (
+        Some((number_at, number, rest)) => (
             Selector::One {
                 place,
+                group_at,
                 group,
+                number_at,
                 number,
             },
             rest,
         ),
-        None => (Selector::Group { place, group }, words),
+        None => (whole, words),
     }
 }

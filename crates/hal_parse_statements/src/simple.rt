@@ -318,13 +318,13 @@ pub(crate) fn send_error(place: Place, words: &[Token]) -> Option<(Basic, &[Toke
 fn error_sent(place: Place, words: &[Token]) -> Option<(Basic, &[Token])>
     ensures { seen_as seen_basic result ≡ error_sent place words.now }
 {
-    let Some((_, group, colon)) = integer(words) else {
+    let Some((group_at, group, colon)) = integer(words) else {
         return None;
     };
     let Some((_, behind)) = past_symbol(colon, Symbol::Colon) else {
         return None;
     };
-    let Some((_, number, close)) = integer(behind) else {
+    let Some((number_at, number, close)) = integer(behind) else {
         return None;
     };
     let Some((_, end)) = past_symbol(close, Symbol::RightParenthesis) else {
@@ -335,7 +335,9 @@ fn error_sent(place: Place, words: &[Token]) -> Option<(Basic, &[Token])>
     };
     let whole = Basic::SendError {
         place,
+        group_at,
         group,
+        number_at,
         number,
     };
     Some((whole, rest))

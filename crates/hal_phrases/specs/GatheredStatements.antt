@@ -115,7 +115,7 @@ unfoldable mutual
   gathered_basic d a labels (OnErrorStatement p selector handler) = gathered_statement (add d a (OfHandler p selector)) (inside a) handler
   gathered_basic d a labels (OnErrorResponse p selector response event) = gathered_any (gathered_event (below d a)) (add d a (OfResponse p selector)) event
   gathered_basic d a labels (OffError p selector) = add d a (OfOffError p selector)
-  gathered_basic d a labels (SendError p group number) = add d a (OfSendError p group number)
+  gathered_basic d a labels (SendError p group_at group number_at number) = add d a (OfSendError group_at group number_at number)
 
   -- what stands after ELSE
   pub gathered_alternative : List Phrase → Around → Alternative → List Phrase

@@ -43,7 +43,7 @@ pub data Node : Type 0 where
   OfProcess : (name : Naming) → Node
   OfEvent : (event : Eventful) → Node
   OfHandler OfResponse OfOffError : (place : Place) (selector : Selector) → Node
-  OfSendError : (place : Place) (group number : ℕ) → Node
+  OfSendError : (group_at : Place) (group : ℕ) (number_at : Place) (number : ℕ) → Node
 
 -- a phrase; its number is its place in the list of phrases, from 0
 pub record Phrase : Type 0 where

@@ -50,7 +50,7 @@ seen_node (node.Event event) = Phrases.OfEvent (seen_event event.now)
 seen_node (node.Handler place selector) = Phrases.OfHandler place (seen_selector selector)
 seen_node (node.Response place selector) = Phrases.OfResponse place (seen_selector selector)
 seen_node (node.OffError place selector) = Phrases.OfOffError place (seen_selector selector)
-seen_node (node.SendError place group number) = Phrases.OfSendError place group number
+seen_node (node.SendError group_at group number_at number) = Phrases.OfSendError group_at group number_at number
 
 -- a phrase
 abbrev pub seen_phrase : rust-phrase.Phrase → Phrases.Phrase

@@ -172,8 +172,9 @@ pub enum Node<'a> {
         selector: Selector,
     },
     SendError {
-        place: Place,
+        group_at: Place,
         group: u32,
+        number_at: Place,
         number: u32,
     },
 }

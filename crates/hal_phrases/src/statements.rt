@@ -283,15 +283,18 @@ fn gather_basic<'a>(
             )
         }
         Basic::SendError {
-            place,
+            place: _,
+            group_at,
             group,
+            number_at,
             number,
         } => push(
             into,
             around,
             Node::SendError {
-                place: *place,
+                group_at: *group_at,
                 group: *group,
+                number_at: *number_at,
                 number: *number,
             },
         ),

@@ -3,7 +3,7 @@ use Rattle.std.proofs.Common.{◌≡◌, ℕ, ◌⊎◌, inl, inr, List, [], ◌
 use Rattle.std.specs.Option.{option_or}
 use Rattle.hal_base.specs.declared.refusal.Place.{Place}
 use Rattle.hal_phrases.specs.Phrases.{Phrase}
-use Rattle.hal_scope.specs.Rules.{Row, IsAmong, Breaks, IsSound, ruled, fault, first_fault}
+use Rattle.hal_scope.specs.Rules.{Row, IsAmong, Breaks, IsSound, fault, first_fault}
 
 -- what was found
 abbrev Found : Type 0
@@ -17,25 +17,10 @@ or_some : (x y : Option Found) (f : Found) → option_or x y ≡ Some f → (x �
 or_some None y f e = inr e
 or_some (Some v) y f e = inl e
 
-ruled-none : (rule : ℕ) (x : Option Place) → ruled rule x ≡ None → x ≡ None
-ruled-none rule None e = refl
-ruled-none rule (Some place) e = absurd (cc)
-
-found_or : Found → Option Found → Found
-found_or f None = f
-found_or f (Some g) = g
-
-ruled-some : (rule : ℕ) (x : Option Place) (f : Found) → ruled rule x ≡ Some f → (rule ≡ f.0) × (x ≡ Some f.1)
-unfolding found_or
-ruled-some rule None f e = absurd (cc)
-ruled-some rule (Some place) f e =
-    let same : (rule, place) ≡ f = ap (found_or f) e in
-    (ap (λ (g : Found). g.0) same, ap (λ (g : Found). Some g.1) same)
-
-fault-none : (table : List Row) (ps : List Phrase) (p : Phrase) → fault table ps p ≡ None → (row : Row) → IsAmong row table → row.1 ps p ≡ None
+fault-none : (table : List Row) (ps : List Phrase) (p : Phrase) → fault table ps p ≡ None → (row : Row) → IsAmong row table → row ps p ≡ None
 unfolding fault
 fault-none [] ps p e row among = absurd among
-fault-none (r ∷ table) ps p e row (inl same) = ap (λ (w : Row). w.1 ps p) same ∙ ruled-none r.0 (r.1 ps p) (or_none _ _ e).0
+fault-none (r ∷ table) ps p e row (inl same) = ap (λ (w : Row). w ps p) same ∙ (or_none _ _ e).0
 fault-none (r ∷ table) ps p e row (inr later) = fault-none table ps p (or_none _ _ e).1 row later
 
 first-none : (table : List Row) (ps rest : List Phrase) → first_fault table ps rest ≡ None → (p : Phrase) → IsAmong p rest → fault table ps p ≡ None
@@ -46,8 +31,8 @@ first-none table ps (q ∷ rest) e p (inr later) = first-none table ps rest (or_
 
 pub sound : (table : List Row) (ps : List Phrase) → first_fault table ps ps ≡ None → IsSound table ps
 sound table ps none rule place breaks =
-    let clear : breaks.row.1 ps breaks.phrase ≡ None = fault-none table ps breaks.phrase (first-none table ps ps none breaks.phrase breaks.there) breaks.row breaks.listed in
-    let both : None ≡ Some place = sym clear ∙ breaks.broken in
+    let clear : breaks.row ps breaks.phrase ≡ None = fault-none table ps breaks.phrase (first-none table ps ps none breaks.phrase breaks.there) breaks.row breaks.listed in
+    let both : None ≡ Some (rule, place) = sym clear ∙ breaks.broken in
     absurd (cc)
 
 pub sound_of : (table : List Row) (ps qs : List Phrase) → qs ≡ ps → first_fault table qs qs ≡ None → IsSound table ps
@@ -57,15 +42,14 @@ sound_of table ps qs same none = sound table ps (subst (λ (list : List Phrase).
 record IsRowOf (table : List Row) (ps : List Phrase) (p : Phrase) (f : Found) : Type 0 where
   row : Row
   listed : IsAmong row table
-  numbered : row.0 ≡ f.0
-  broken : row.1 ps p ≡ Some f.1
+  broken : row ps p ≡ Some f
 
 fault-some : (table : List Row) (ps : List Phrase) (p : Phrase) (f : Found) → fault table ps p ≡ Some f → IsRowOf table ps p f
 unfolding fault
 fault-some [] ps p f e = absurd (cc)
 fault-some (r ∷ table) ps p f e = elim (or_some _ _ f e) [
-  | inl here ↦ let told : (r.0 ≡ f.0) × (r.1 ps p ≡ Some f.1) = ruled-some r.0 (r.1 ps p) f here in record { row = r; listed = inl refl; numbered = told.0; broken = told.1 }
-  | inr there ↦ let later : IsRowOf table ps p f = fault-some table ps p f there in record { row = later.row; listed = inr later.listed; numbered = later.numbered; broken = later.broken }
+  | inl here ↦ record { row = r; listed = inl refl; broken = here }
+  | inr there ↦ let later : IsRowOf table ps p f = fault-some table ps p f there in record { row = later.row; listed = inr later.listed; broken = later.broken }
 ]
 
 -- the phrase of a fault
@@ -85,4 +69,4 @@ first-some table ps (p ∷ rest) f e = elim (or_some _ _ f e) [
 pub broken : (table : List Row) (ps : List Phrase) (rule : ℕ) (place : Place) → first_fault table ps ps ≡ Some (rule, place) → Breaks table ps rule place
 broken table ps rule place e =
     let found : IsPhraseOf table ps ps (rule, place) = first-some table ps ps (rule, place) e in
-    record { row = found.faulty.row; listed = found.faulty.listed; phrase = found.phrase; there = found.there; numbered = found.faulty.numbered; broken = found.faulty.broken }
+    record { row = found.faulty.row; listed = found.faulty.listed; phrase = found.phrase; there = found.there; broken = found.faulty.broken }

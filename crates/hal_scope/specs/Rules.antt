@@ -8,15 +8,20 @@ use Rattle.hal_scope.specs.Repeated.{repeated, undeclared}
 use Rattle.hal_scope.specs.Labels.{misclosed, misled, astray}
 use Rattle.hal_scope.specs.Components.{lacks}
 
--- a rule's number, and where a phrase of a set breaks it
+-- the rule and the place, where there is one
+abbrev pub ruled : ℕ → Option Place → Option (ℕ × Place)
+ruled rule None = None
+ruled rule (Some place) = Some (rule, place)
+
+-- which rule a phrase of a set breaks, and where
 abbrev pub Row : Type 0
-Row = ℕ × (List Phrase → Phrase → Option Place)
+Row = List Phrase → Phrase → Option (ℕ × Place)
 
 -- the rules of names
 abbrev pub rows : List Row
 rows =
-    (601, unknown) ∷ (602, repeated) ∷ (603, misused) ∷ (604, λ ps p. misclosed ps p p.node) ∷ (605, λ ps p. misled ps p p.node)
-    ∷ (606, λ ps p. undeclared ps p p.node) ∷ (607, λ ps p. astray ps p p.node) ∷ (608, λ ps p. lacks ps p p.node) ∷ []
+    (λ ps p. ruled 601 (unknown ps p)) ∷ (λ ps p. ruled 602 (repeated ps p)) ∷ (λ ps p. ruled 603 (misused ps p)) ∷ (λ ps p. ruled 604 (misclosed ps p p.node))
+    ∷ (λ ps p. ruled 605 (misled ps p p.node)) ∷ (λ ps p. ruled 606 (undeclared ps p p.node)) ∷ (λ ps p. ruled 607 (astray ps p p.node)) ∷ (λ ps p. ruled 608 (lacks ps p p.node)) ∷ []
 
 -- a member of a list
 abbrev pub IsAmong : {X : Type 0} → X → List X → Type 0
@@ -29,22 +34,16 @@ pub record Breaks (table : List Row) (ps : List Phrase) (rule : ℕ) (place : Pl
   pub listed : IsAmong row table
   pub phrase : Phrase
   pub there : IsAmong phrase ps
-  pub numbered : row.0 ≡ rule
-  pub broken : row.1 ps phrase ≡ Some place
+  pub broken : row ps phrase ≡ Some (rule, place)
 
 -- it breaks none
 abbrev pub IsSound : List Row → List Phrase → Type 0
 IsSound table ps = (rule : ℕ) (place : Place) → Breaks table ps rule place → ⊥
 
--- the rule and the place, where there is one
-abbrev pub ruled : ℕ → Option Place → Option (ℕ × Place)
-ruled rule None = None
-ruled rule (Some place) = Some (rule, place)
-
 -- the first rule of a table that a phrase breaks, and where
 unfoldable pub fault : List Row → List Phrase → Phrase → Option (ℕ × Place)
 fault [] ps p = None
-fault (row ∷ table) ps p = option_or (ruled row.0 (row.1 ps p)) (fault table ps p)
+fault (row ∷ table) ps p = option_or (row ps p) (fault table ps p)
 
 -- the first rule that one of the phrases breaks, and where
 unfoldable pub first_fault : List Row → List Phrase → List Phrase → Option (ℕ × Place)

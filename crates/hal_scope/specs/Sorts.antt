@@ -13,8 +13,8 @@ use Rattle.hal_scope.specs.declared.sort.Sort.{Sort}
 use Rattle.hal_scope.specs.declared.sort.Sort.TheVariants as sort
 use Rattle.hal_scope.specs.declared.usage.Usage.{Usage}
 use Rattle.hal_scope.specs.declared.usage.Usage.TheVariants as usage
-use Rattle.hal_scope.specs.declared.builtin.Builtin.{Builtin}
-use Rattle.hal_scope.specs.declared.builtin.Builtin.TheVariants as builtin
+use Rattle.hal_scope.specs.declared.builtin.Form.{Form}
+use Rattle.hal_scope.specs.declared.builtin.Form.TheVariants as form
 
 -- the type that an attribute is
 unfoldable pub type_in : Attribute → Option Kind
@@ -108,17 +108,17 @@ fits usage.CallForm other = true
 fits usage.Variable other = true
 fits usage.Process other = true
 
--- whether a built-in function is known where its name is used so
-abbrev pub is_known : Usage → Builtin → Bool
-is_known u builtin.Listed = true
-is_known u builtin.Alone = true
-is_known usage.CallForm builtin.Arrayed = true
-is_known other builtin.Arrayed = false
+-- whether a built-in function that is named so is known where its name is used so
+abbrev pub is_known : Usage → Form → Bool
+is_known u form.Listed = true
+is_known u form.Alone = true
+is_known usage.CallForm form.Arrayed = true
+is_known other form.Arrayed = false
 
 -- whether a built-in function that is known there may be used so, or another rule names the case
-abbrev pub fits_builtin : Usage → Builtin → Bool
-fits_builtin usage.Value builtin.Alone = true
-fits_builtin usage.EventOrTime builtin.Alone = true
+abbrev pub fits_builtin : Usage → Form → Bool
+fits_builtin usage.Value form.Alone = true
+fits_builtin usage.EventOrTime form.Alone = true
 fits_builtin usage.Value other = false
 fits_builtin usage.EventOrTime other = false
 fits_builtin usage.Receiver other = false

@@ -10,7 +10,7 @@ use Rattle.hal_scope.specs.declared.sort.Sort.{Sort}
 use Rattle.hal_scope.specs.declared.sort.Sort.TheVariants as sort
 use Rattle.hal_scope.specs.declared.usage.Usage.{Usage}
 use Rattle.hal_scope.specs.declared.usage.Usage.TheVariants as usage
-use Rattle.hal_scope.specs.Builtins.{builtin_named}
+use Rattle.hal_scope.specs.Builtins.{builtin_named, form_of}
 use Rattle.hal_scope.specs.declared.used.Use.{Use}
 use Rattle.hal_scope.specs.Sorts.{sort_of, used, fits, is_known, fits_builtin}
 
@@ -25,7 +25,7 @@ sort_at ps k = option_and_then (λ (p : Phrase). sort_of p.node) (slice_get ps k
 
 -- whether the built-in function of this name is known where it is used so
 abbrev pub is_known_builtin : List ℕ → Usage → Bool
-is_known_builtin name u = elim (builtin_named name) [ None ↦ false | Some b ↦ is_known u b ]
+is_known_builtin name u = elim (builtin_named name) [ None ↦ false | Some b ↦ is_known u (form_of b) ]
 
 -- whether a name is known where it is used
 abbrev pub is_known_use : List Phrase → ℕ → Use → Bool
@@ -98,7 +98,7 @@ fits_declared ps p u (Some s) = fits u s
 
 -- whether a built-in function, where its name is one that is known, may be used so
 abbrev pub fits_named : List ℕ → Usage → Bool
-fits_named name u = elim (builtin_named name) [ None ↦ true | Some b ↦ not (is_known u b) || fits_builtin u b ]
+fits_named name u = elim (builtin_named name) [ None ↦ true | Some b ↦ not (is_known u (form_of b)) || fits_builtin u (form_of b) ]
 
 -- whether a name, where it is known, is a name of the right sort
 abbrev pub fits_use : List Phrase → Phrase → Use → Bool

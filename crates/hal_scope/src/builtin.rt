@@ -3,13 +3,40 @@
 ghost use Rattle.std.specs.Prelude.{◌≡◌, map};
 ghost use Rattle.hal_words.specs.Reserved.{look_up};
 ghost use Rattle.hal_words.specs.Tables.{entry};
-ghost use Rattle.hal_scope.specs.Builtins.{builtin_named, builtins};
+ghost use Rattle.hal_scope.specs.Builtins.{builtin_named, builtins, form_of};
 
 use hal_words::Name;
 
-/// How a built-in function is named.
+/// A built-in function.
 #[derive(Clone, Copy, Debug, PartialEq, Eq)]
 pub enum Builtin {
+    Abs,
+    Div,
+    Index,
+    Length,
+    Ljust,
+    Mod,
+    Odd,
+    Remainder,
+    Rjust,
+    Shl,
+    Shr,
+    Signum,
+    Size,
+    Trim,
+    Xor,
+    Errgrp,
+    Errnum,
+    Runtime,
+    Max,
+    Min,
+    Prod,
+    Sum,
+}
+
+/// How a built-in function is named.
+#[derive(Clone, Copy, Debug, PartialEq, Eq)]
+pub enum Form {
     /// With a list of arguments.
     Listed,
     /// Without one.
@@ -18,30 +45,43 @@ pub enum Builtin {
     Arrayed,
 }
 
+impl Builtin {
+    /// How it is named.
+    pub fn form(self) -> Form
+        ensures { result ≡ form_of self }
+    {
+        match self {
+            Builtin::Errgrp | Builtin::Errnum | Builtin::Runtime => Form::Alone,
+            Builtin::Max | Builtin::Min | Builtin::Prod | Builtin::Sum => Form::Arrayed,
+            _ => Form::Listed,
+        }
+    }
+}
+
 /// The names of the built-in functions.
 const BUILTINS: [(&str, Builtin); 22] = [
-    ("ABS", Builtin::Listed),
-    ("DIV", Builtin::Listed),
-    ("INDEX", Builtin::Listed),
-    ("LENGTH", Builtin::Listed),
-    ("LJUST", Builtin::Listed),
-    ("MOD", Builtin::Listed),
-    ("ODD", Builtin::Listed),
-    ("REMAINDER", Builtin::Listed),
-    ("RJUST", Builtin::Listed),
-    ("SHL", Builtin::Listed),
-    ("SHR", Builtin::Listed),
-    ("SIGNUM", Builtin::Listed),
-    ("SIZE", Builtin::Listed),
-    ("TRIM", Builtin::Listed),
-    ("XOR", Builtin::Listed),
-    ("ERRGRP", Builtin::Alone),
-    ("ERRNUM", Builtin::Alone),
-    ("RUNTIME", Builtin::Alone),
-    ("MAX", Builtin::Arrayed),
-    ("MIN", Builtin::Arrayed),
-    ("PROD", Builtin::Arrayed),
-    ("SUM", Builtin::Arrayed),
+    ("ABS", Builtin::Abs),
+    ("DIV", Builtin::Div),
+    ("INDEX", Builtin::Index),
+    ("LENGTH", Builtin::Length),
+    ("LJUST", Builtin::Ljust),
+    ("MOD", Builtin::Mod),
+    ("ODD", Builtin::Odd),
+    ("REMAINDER", Builtin::Remainder),
+    ("RJUST", Builtin::Rjust),
+    ("SHL", Builtin::Shl),
+    ("SHR", Builtin::Shr),
+    ("SIGNUM", Builtin::Signum),
+    ("SIZE", Builtin::Size),
+    ("TRIM", Builtin::Trim),
+    ("XOR", Builtin::Xor),
+    ("ERRGRP", Builtin::Errgrp),
+    ("ERRNUM", Builtin::Errnum),
+    ("RUNTIME", Builtin::Runtime),
+    ("MAX", Builtin::Max),
+    ("MIN", Builtin::Min),
+    ("PROD", Builtin::Prod),
+    ("SUM", Builtin::Sum),
 ];
 
 /// The built-in function of this name.

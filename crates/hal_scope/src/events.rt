@@ -16,7 +16,7 @@ use hal_tree::{Expr, Reference};
 use hal_words::Name;
 
 /// What the phrase with this number declares.
-pub(crate) fn sort_at(names: &Names<'_>, number: usize) -> Option<Sort>
+pub fn sort_at(names: &Names<'_>, number: usize) -> Option<Sort>
     ensures { result ≡ uses.sort_at (seen_names names.now) number }
 {
     let phrase = names.phrase(number)?;
@@ -46,7 +46,7 @@ fn means_event(names: &Names<'_>, block: usize, name: &Name) -> bool
 
 /// Whether a reference is a name alone that means an event or a process.
 #[tactic(auto, using(hal_tree::proofs::MadeExpressions::made_reference, crate::proofs::Lists::nil_seen), unfolding(crate::specs::Uses::refers_to_event))]
-fn refers_to_event(names: &Names<'_>, block: usize, reference: &Reference) -> bool
+pub fn refers_to_event(names: &Names<'_>, block: usize, reference: &Reference) -> bool
     ensures { result ≡ uses.refers_to_event (seen_names names.now) block (seen_reference reference.now) }
 {
     reference.further.is_empty() && means_event(names, block, &reference.name)
@@ -55,7 +55,7 @@ fn refers_to_event(names: &Names<'_>, block: usize, reference: &Reference) -> bo
 /// Whether an operand under AND, OR, NOT or parentheses is an event or a process.
 #[cycle(events)]
 #[tactic(auto, using(hal_tree::proofs::MadeExpressions::made_or, hal_tree::proofs::MadeExpressions::made_and, hal_tree::proofs::MadeExpressions::made_compare, hal_tree::proofs::MadeExpressions::made_cat, hal_tree::proofs::MadeExpressions::made_sum, hal_tree::proofs::MadeExpressions::made_product, hal_tree::proofs::MadeExpressions::made_power, hal_tree::proofs::MadeExpressions::made_not, hal_tree::proofs::MadeExpressions::made_literal, hal_tree::proofs::MadeExpressions::made_decimal, hal_tree::proofs::MadeExpressions::made_referred, hal_tree::proofs::MadeExpressions::made_call, hal_tree::proofs::MadeExpressions::made_convert, hal_tree::proofs::MadeExpressions::made_parenthesis), unfolding(crate::specs::Uses::holds_event))]
-pub(crate) fn holds_event(tree: &Expr, names: &Names<'_>, block: usize) -> bool
+pub fn holds_event(tree: &Expr, names: &Names<'_>, block: usize) -> bool
     ensures { result ≡ uses.holds_event (seen_names names.now) block (seen_expression tree.now) }
 {
     match tree {
@@ -96,7 +96,7 @@ fn hold_event(trees: &[Expr], names: &Names<'_>, block: usize) -> bool
 
 /// The expression behind UNTIL of SCHEDULE, where a phrase is one or a part of one.
 #[tactic(auto, unfolding(crate::specs::Uses::limit_of))]
-fn limit_of<'a>(node: Node<'a>) -> Option<&'a Expr>
+pub fn limit_of<'a>(node: Node<'a>) -> Option<&'a Expr>
     ensures { option_map (λ tree. seen_expression tree.now) result ≡ uses.limit_of (seen_node node.entry) }
 {
     match node {
@@ -110,7 +110,7 @@ fn limit_of<'a>(node: Node<'a>) -> Option<&'a Expr>
 
 /// The outermost such expression around the phrase with this number, after at most so many steps.
 #[tactic(auto, unfolding(crate::specs::Uses::limit_around))]
-fn limit_around<'a>(names: &Names<'a>, steps: usize, number: usize) -> Option<&'a Expr>
+pub fn limit_around<'a>(names: &Names<'a>, steps: usize, number: usize) -> Option<&'a Expr>
     ensures { option_map (λ tree. seen_expression tree.now) result ≡ uses.limit_around (seen_names names.now) steps number }
 {
     let Some(fewer) = steps.checked_sub(1) else {
@@ -125,7 +125,7 @@ fn limit_around<'a>(names: &Names<'a>, steps: usize, number: usize) -> Option<&'
 }
 
 /// Whether a phrase stands in an event expression behind UNTIL of SCHEDULE.
-pub(crate) fn is_in_event(names: &Names<'_>, phrase: &Phrase<'_>) -> bool
+pub fn is_in_event(names: &Names<'_>, phrase: &Phrase<'_>) -> bool
     ensures { result ≡ uses.is_in_event (seen_names names.now) (seen_phrase phrase.now) }
 {
     match limit_around(names, names.phrases().len(), phrase.around.parent) {

@@ -15,7 +15,11 @@ mod usage;
 mod used;
 mod uses;
 
-pub use builtin::{Builtin, builtin_named};
+pub use builtin::{Builtin, Form, builtin_named};
+pub use events::{holds_event, is_in_event, refers_to_event, sort_at};
 pub use resolving::resolve;
+pub use rules::ruled;
 pub use sort::Sort;
+pub use sorts::{sort_of, type_among, type_of};
 pub use usage::Usage;
+pub use uses::unless;

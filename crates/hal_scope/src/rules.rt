@@ -15,7 +15,7 @@ use hal_names::Names;
 use hal_phrases::Phrase;
 
 /// The rule and the place, where there is one.
-fn ruled(rule: u16, place: Option<Place>) -> Option<(u16, Place)>
+pub fn ruled(rule: u16, place: Option<Place>) -> Option<(u16, Place)>
     ensures { result ≡ ruled rule place }
 {
     match place {

@@ -8,7 +8,7 @@ ghost use Rattle.hal_tree.specs.SeenUnits.{seen_head};
 ghost use Rattle.hal_phrases.specs.SeenPhrases.{seen_node};
 ghost use Rattle.hal_scope.specs.Sorts as sorts;
 
-use crate::builtin::Builtin;
+use crate::builtin::Form;
 use crate::sort::Sort;
 use crate::usage::Usage;
 use crate::used::Use;
@@ -33,7 +33,7 @@ fn type_in<'a>(attribute: &'a Attribute) -> Option<&'a Type>
 
 /// The first type among attributes.
 #[tactic(auto, unfolding(crate::specs::Sorts::type_among))]
-fn type_among<'a>(attributes: &'a [Attribute]) -> Option<&'a Type>
+pub fn type_among<'a>(attributes: &'a [Attribute]) -> Option<&'a Type>
     ensures { option_map (λ kind. seen_type kind.now) result ≡ sorts.type_among (map seen_attribute attributes.now) }
 {
     for attribute in attributes {
@@ -47,7 +47,7 @@ fn type_among<'a>(attributes: &'a [Attribute]) -> Option<&'a Type>
 
 /// The type of a name that is declared: its own, else the one before the comma.
 #[tactic(auto, using(hal_tree::proofs::MadeDeclarations::made_declared))]
-pub(crate) fn type_of<'a>(common: &'a [Attribute], item: &'a Declared) -> Option<&'a Type>
+pub fn type_of<'a>(common: &'a [Attribute], item: &'a Declared) -> Option<&'a Type>
     ensures { option_map (λ kind. seen_type kind.now) result ≡ sorts.type_of (map seen_attribute common.now) (seen_declared item.now) }
 {
     let own = type_among(&item.attributes);
@@ -89,7 +89,7 @@ fn sort_of_head(head: &Head) -> Sort
 
 /// What a phrase declares; None where it declares no name that is found in a block.
 #[tactic(auto, unfolding(crate::specs::Sorts::sort_of))]
-pub(crate) fn sort_of(node: Node<'_>) -> Option<Sort>
+pub fn sort_of(node: Node<'_>) -> Option<Sort>
     ensures { result ≡ sorts.sort_of (seen_node node.entry) }
 {
     match node {
@@ -156,7 +156,7 @@ pub(crate) fn fits(usage: Usage, sort: Sort) -> bool
 }
 
 /// Whether a name of this sort may be an operand.
-pub(crate) fn is_operand(sort: Sort) -> bool
+pub fn is_operand(sort: Sort) -> bool
     ensures { result ≡ sorts.is_operand sort }
 {
     match sort {
@@ -165,22 +165,22 @@ pub(crate) fn is_operand(sort: Sort) -> bool
     }
 }
 
-/// Whether a built-in function is known where its name is used so.
-pub(crate) fn is_known(usage: Usage, builtin: Builtin) -> bool
-    ensures { result ≡ sorts.is_known usage builtin }
+/// Whether a built-in function that is named so is known where its name is used so.
+pub(crate) fn is_known(usage: Usage, form: Form) -> bool
+    ensures { result ≡ sorts.is_known usage form }
 {
-    match builtin {
-        Builtin::Listed | Builtin::Alone => true,
-        Builtin::Arrayed => matches!(usage, Usage::CallForm),
+    match form {
+        Form::Listed | Form::Alone => true,
+        Form::Arrayed => matches!(usage, Usage::CallForm),
     }
 }
 
 /// Whether a built-in function that is known there may be used so, or another rule names the case.
-pub(crate) fn fits_builtin(usage: Usage, builtin: Builtin) -> bool
-    ensures { result ≡ sorts.fits_builtin usage builtin }
+pub(crate) fn fits_builtin(usage: Usage, form: Form) -> bool
+    ensures { result ≡ sorts.fits_builtin usage form }
 {
     match usage {
-        Usage::Value | Usage::EventOrTime => matches!(builtin, Builtin::Alone),
+        Usage::Value | Usage::EventOrTime => matches!(form, Form::Alone),
         Usage::Receiver | Usage::StructureType | Usage::Called | Usage::Event => false,
         Usage::Output | Usage::EventOperand | Usage::CallForm => true,
         Usage::Variable | Usage::Process => true,

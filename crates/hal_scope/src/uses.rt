@@ -17,7 +17,7 @@ use hal_phrases::Phrase;
 use hal_words::Name;
 
 /// The place, unless all is right.
-pub(crate) fn unless(right: bool, place: Place) -> Option<Place>
+pub fn unless(right: bool, place: Place) -> Option<Place>
     ensures { result ≡ uses.unless right place }
 {
     if right { None } else { Some(place) }
@@ -29,7 +29,7 @@ fn is_known_builtin(name: &Name, usage: Usage) -> bool
 {
     match builtin_named(name) {
         None => false,
-        Some(builtin) => is_known(usage, builtin),
+        Some(builtin) => is_known(usage, builtin.form()),
     }
 }
 
@@ -68,7 +68,7 @@ fn fits_named(name: &Name, usage: Usage) -> bool
 {
     match builtin_named(name) {
         None => true,
-        Some(builtin) => !is_known(usage, builtin) || fits_builtin(usage, builtin),
+        Some(builtin) => { !is_known(usage, builtin.form()) || fits_builtin(usage, builtin.form()) }
     }
 }
 

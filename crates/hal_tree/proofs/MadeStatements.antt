@@ -185,6 +185,6 @@ pub made_off_error : (place : Place) (selector : Selector) → seen_basic (basic
 unfolding seen_statement seen_basic seen_group
 made_off_error place selector = search (rules, the_lemmas)
 
-pub made_send_error : (place : Place) (group number : ℕ) → seen_basic (basic.SendError place group number) ≡ plain.SendError place group number
+pub made_send_error : (place group_at : Place) (group : ℕ) (number_at : Place) (number : ℕ) → seen_basic (basic.SendError place group_at group number_at number) ≡ plain.SendError place group_at group number_at number
 unfolding seen_statement seen_basic seen_group
-made_send_error place group number = search (rules, the_lemmas)
+made_send_error place group_at group number_at number = search (rules, the_lemmas)

@@ -43,8 +43,8 @@ seen_span (span.List values) = Listed (expressions (map seen_expression values.i
 -- the errors that are meant
 abbrev pub seen_selector : rust-selector.Selector → Selector
 seen_selector selector.Every = EveryError
-seen_selector (selector.Group place group) = GroupErrors place group
-seen_selector (selector.One place group number) = OneError place group number
+seen_selector (selector.Group place group_at group) = GroupErrors place group_at group
+seen_selector (selector.One place group_at group number_at number) = OneError place group_at group number_at number
 
 -- SIGNAL, SET, RESET
 abbrev pub seen_action : rust-action.EventAction → EventAction
@@ -111,7 +111,7 @@ basic_step (Basic-F.UpdatePriority place name priority) = UpdatePriority place (
 basic_step (Basic-F.OnErrorStatement place selector handler) = OnErrorStatement place (seen_selector selector) handler.value
 basic_step (Basic-F.OnErrorResponse place selector response event) = OnErrorResponse place (seen_selector selector) (seen_response response) (option_map seen_event event)
 basic_step (Basic-F.OffError place selector) = OffError place (seen_selector selector)
-basic_step (Basic-F.SendError place group number) = SendError place group number
+basic_step (Basic-F.SendError place group_at group number_at number) = SendError place group_at group number_at number
 
 -- a group
 abbrev pub group_step : Group-F Basic Group Statement → Group

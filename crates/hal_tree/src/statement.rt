@@ -54,7 +54,7 @@ impl Drop for Span {
     }
 }
 
-/// The errors that are meant. The place is that of `$`.
+/// The errors that are meant. `place` is that of `$`, the others are those of the numbers.
 #[derive(Clone, Copy, Debug, PartialEq, Eq)]
 pub enum Selector {
     /// Nothing after ERROR.
@@ -62,12 +62,15 @@ pub enum Selector {
     /// `$1`, `$(1:*)`
     Group {
         place: Place,
+        group_at: Place,
         group: u32,
     },
     /// `$(1:2)`
     One {
         place: Place,
+        group_at: Place,
         group: u32,
+        number_at: Place,
         number: u32,
     },
 }
@@ -340,7 +343,9 @@ pub enum Basic {
     /// `SEND ERROR$(1:2);`
     SendError {
         place: Place,
+        group_at: Place,
         group: u32,
+        number_at: Place,
         number: u32,
     },
 }
@@ -459,7 +464,9 @@ impl Drop for Basic {
             } => {}
             Basic::SendError {
                 place: _,
+                group_at: _,
                 group: _,
+                number_at: _,
                 number: _,
             } => {}
         }

@@ -51,11 +51,17 @@ pub(crate) fn span(tree: &Span, pen: &mut Pen) {
 }
 
 /// What a selector begins with.
-fn group(place: Place, number: u32, pen: &mut Pen) {
+fn group(place: Place, at: Place, number: u32, pen: &mut Pen) {
     pen.word("$");
     pen.place(place);
     pen.join();
+    numbered(at, number, pen);
+}
+
+/// A number of an error, and its place.
+pub(crate) fn numbered(at: Place, number: u32, pen: &mut Pen) {
     pen.number(u64::from(number));
+    pen.place(at);
 }
 
 /// The errors that are meant.
@@ -64,17 +70,20 @@ pub(crate) fn selector(tree: &Selector, pen: &mut Pen) {
         Selector::Every => pen.word("every"),
         Selector::Group {
             place,
+            group_at,
             group: number,
-        } => group(*place, *number, pen),
+        } => group(*place, *group_at, *number, pen),
         Selector::One {
             place,
+            group_at,
             group: first,
+            number_at,
             number,
         } => {
-            group(*place, *first, pen);
+            group(*place, *group_at, *first, pen);
             pen.tail(":");
             pen.join();
-            pen.number(u64::from(*number));
+            numbered(*number_at, *number, pen);
         }
     }
 }

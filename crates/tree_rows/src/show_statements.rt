@@ -6,7 +6,9 @@
 
 use crate::pen::Pen;
 use crate::show_expressions::{expression, expressions, reference, references};
-use crate::show_parts::{event, guard, optional_guard, response, schedule, selector, span};
+use crate::show_parts::{
+    event, guard, numbered, optional_guard, response, schedule, selector, span,
+};
 use hal_base::Place;
 use hal_tree::{Basic, EventChange, Expr, Group, Guard, Identifier, Reference, Span, Statement};
 
@@ -348,14 +350,16 @@ fn of_errors(tree: &Basic, pen: &mut Pen) {
         }
         Basic::SendError {
             place,
+            group_at,
             group: first,
+            number_at,
             number,
         } => {
             pen.open("send", *place);
-            pen.number(u64::from(*first));
+            numbered(*group_at, *first, pen);
             pen.tail(":");
             pen.join();
-            pen.number(u64::from(*number));
+            numbered(*number_at, *number, pen);
         }
         _ => pen.word("(another statement"),
     }

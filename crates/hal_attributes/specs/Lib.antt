@@ -1,0 +1,4 @@
+pub mod Features
+pub mod Clashes
+pub mod Typed
+pub mod Storage

@@ -1,0 +1,4 @@
+pub mod Attributes
+pub mod Data
+pub mod Subscripts
+pub mod Classes

@@ -1,0 +1,24 @@
+//! What kind of value each name and each expression of a set of files has, as far as no constant has to be known for it: its class, its array and its copies.
+#![tactic(auto)]
+
+mod attributes;
+mod called;
+mod choice;
+mod chosen;
+mod class;
+mod classes;
+mod data;
+mod named;
+mod references;
+
+pub use attributes::{
+    constant_among, constant_of, has_mark, initial_among, initial_of, is_marked, sizes_among,
+    sizes_of,
+};
+pub use choice::Choice;
+pub use chosen::{chosen, has_copies_left, has_places_left};
+pub use class::Class;
+pub use classes::{beside, class_of, joined};
+pub use data::Data;
+pub use named::{component_of, data_at, data_named, part_data};
+pub use references::{class_of_reference, class_of_returns};
