@@ -5,7 +5,7 @@ use Rattle.hal_base.specs.declared.refusal.Place.{Place}
 use Rattle.hal_grammar.specs.Expressions.{Reference, Refers}
 use Rattle.hal_phrases.specs.Phrases.{Node, Phrase, OfItem, OfReference}
 use Rattle.hal_names.specs.Means.{means}
-use Rattle.hal_scope.specs.Rules.{Row}
+use Rattle.hal_scope.specs.Rules.{Row, ruled}
 use Rattle.hal_scope.specs.Uses.{unless}
 
 -- whether a phrase declares a variable
@@ -28,4 +28,4 @@ unbuilt_reference ps block other = None
 
 -- rule 410 of references
 abbrev pub reference_rows : List Row
-reference_rows = (410, λ ps p. unbuilt_reference ps p.around.block p.node) ∷ []
+reference_rows = (λ ps p. ruled 410 (unbuilt_reference ps p.around.block p.node)) ∷ []

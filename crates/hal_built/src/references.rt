@@ -11,6 +11,7 @@ ghost use Rattle.hal_built.specs.References as references;
 use hal_base::Place;
 use hal_names::Names;
 use hal_phrases::{Node, Phrase};
+use hal_scope::{ruled, unless};
 use hal_tree::Reference;
 use hal_words::Name;
 
@@ -43,11 +44,10 @@ fn means_variable(names: &Names<'_>, block: usize, name: &Name) -> bool
 fn no_variable(names: &Names<'_>, block: usize, reference: &Reference) -> Option<Place>
     ensures { result ≡ references.no_variable (seen_names names.now) block (seen_reference reference.now) }
 {
-    if means_variable(names, block, &reference.name) {
-        None
-    } else {
-        Some(reference.place)
-    }
+    unless(
+        means_variable(names, block, &reference.name),
+        reference.place,
+    )
 }
 
 /// Where a phrase is a reference to something else than a variable.
@@ -68,10 +68,7 @@ fn reference_without(names: &Names<'_>, phrase: &Phrase<'_>) -> Option<Place>
 fn fault(names: &Names<'_>, phrase: &Phrase<'_>) -> Option<(u16, Place)>
     ensures { result ≡ fault references.reference_rows (seen_names names.now) (seen_phrase phrase.now) }
 {
-    match reference_without(names, phrase) {
-        Some(place) => Some((410, place)),
-        None => None,
-    }
+    ruled(410, reference_without(names, phrase))
 }
 
 /// The first such phrase.
