@@ -1,5 +1,6 @@
 -- What each stage says is what is said of the text.
-use Rattle.std.proofs.Common.{◌≡◌, ℕ, inl, inr, List, arith}
+use Rattle.std.proofs.Common.{ℕ, inl, inr, List, Result, Ok, Err, IfOk, arith}
+use Rattle.std.specs.Prelude.{IfErr}
 use Rattle.hal_base.specs.declared.refusal.Fault.{Fault}
 use Rattle.hal_base.specs.declared.refusal.Fault.TheVariants as fault
 use Rattle.hal_words.specs.declared.word.Token.{Token}
@@ -52,3 +53,13 @@ program_found text tokens file program cut parsed named inside =
         small = record { few = omega (arith, few_declarations file (unit_tree program.unit) tokens inside.built parsed.is.spelled, cut.few); short = omega (arith, inside.short) };
       };
     }
+
+-- what is said of a file is said of its text
+pub program_told : (text : List ℕ) (tokens : List Token) (file : File) (result : Result Program Fault) → IsCut 0 text tokens → IsParsed tokens file
+    → IfOk result (λ program. IsSound rows (phrases_in file)) → IfOk result (IsProgramIn file) → IfOk result (IsProgramOf text)
+program_told text tokens file (Ok program) cut parsed named inside = program_found text tokens file program cut parsed named inside
+program_told text tokens file (Err why) cut parsed named inside = tt
+
+pub fault_told : (text : List ℕ) (tokens : List Token) (file : File) (result : Result Program Fault) → IsCut 0 text tokens → IsParsed tokens file → IfErr result (IsFaultOf file) → IfErr result (BreaksBy 0 text)
+fault_told text tokens file (Ok program) cut parsed broken = tt
+fault_told text tokens file (Err why) cut parsed broken = wrong_file 0 text tokens file why cut parsed broken

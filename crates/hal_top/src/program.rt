@@ -31,7 +31,11 @@ pub struct Program {
 const MEANINGLESS: Rule = Rule(410);
 
 /// The program of a unit, or the place of its first reference that has no meaning.
-fn referring(alloc: Global, unit: Unit, names: &Names<'_>) -> Result<Result<Program, Place>, AllocError>
+fn referring(
+    alloc: Global,
+    unit: Unit,
+    names: &Names<'_>,
+) -> Result<Result<Program, Place>, AllocError>
     ensures unit { IfOk result (λ found. IfOk found (λ program. (unit_tree program.unit ≡ unit_tree unit) × (program.cells ≡ declared_names (unit_tree unit)))) }
     ensures sound { IfOk result (λ found. IfOk found (λ program. IsSound reference_rows (seen_names names.now))) }
     ensures place { IfOk result (λ found. IfErr found (λ place. Breaks reference_rows (seen_names names.now) 410 place)) }
@@ -44,7 +48,11 @@ fn referring(alloc: Global, unit: Unit, names: &Names<'_>) -> Result<Result<Prog
 }
 
 /// The program in a file with these names, or the place of its first phrase that has no meaning.
-fn program_in(alloc: Global, file: &File, names: &Names<'_>) -> Result<Result<Program, Place>, AllocError>
+fn program_in(
+    alloc: Global,
+    file: &File,
+    names: &Names<'_>,
+) -> Result<Result<Program, Place>, AllocError>
     requires { seen_names names.now ≡ phrases_in (seen_file file.now) }
     ensures program { IfOk result (λ found. IfOk found (IsProgramIn (seen_file file.now))) }
     ensures place { IfOk result (λ found. IfErr found (HasNoMeaningAt (seen_file file.now))) }

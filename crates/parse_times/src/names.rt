@@ -32,12 +32,7 @@ const FIRST: usize = 10_000;
 const STEM: &str = "A_NAME_THAT_HAS_27_BYTES_OF";
 
 /// Two texts so many times, each time with another number of five digits between them.
-fn numbered(
-    alloc: Global,
-    count: usize,
-    before: &str,
-    behind: &str,
-) -> Result<String, AllocError> {
+fn numbered(alloc: Global, count: usize, before: &str, behind: &str) -> Result<String, AllocError> {
     let mut text = String::new(alloc);
     for number in 0..count {
         let digits = FIRST.saturating_add(number);
