@@ -1,7 +1,6 @@
 //! References that have no meaning so far.
 
 ghost use Rattle.std.specs.Prelude.{◌≡◌, map, IfNone, IfSome};
-ghost use Rattle.hal_base.specs.declared.refusal.Place.{Place};
 ghost use Rattle.hal_tree.specs.SeenExpressions.{seen_reference};
 ghost use Rattle.hal_phrases.specs.SeenPhrases.{seen_node, seen_phrase};
 ghost use Rattle.hal_names.specs.SeenNames.{seen_names};
@@ -86,14 +85,11 @@ fn first_fault(names: &Names<'_>) -> Option<(u16, Place)>
     None
 }
 
-/// The place of the first reference of a set of files to something else than a variable, which has no meaning so far; None where there is none. See
-/// docs/LANGUAGE.md, "What has a meaning so far".
-pub fn unbuilt_reference(names: &Names<'_>) -> Option<Place>
+/// Rule 410 and the place of the first reference of a set of files to something else than a variable, which has no meaning so far; None where there
+/// is none. See docs/LANGUAGE.md, "What has a meaning so far".
+pub fn unbuilt_reference(names: &Names<'_>) -> Option<(u16, Place)>
     ensures none { IfNone result (IsSound references.reference_rows (seen_names names.now)) }
-    ensures place { IfSome result (λ place. Breaks references.reference_rows (seen_names names.now) 410 place) }
+    ensures broken { IfSome result (λ found. Breaks references.reference_rows (seen_names names.now) found.0 found.1) }
 {
-    match first_fault(names) {
-        Some((_, place)) => Some(place),
-        None => None,
-    }
+    first_fault(names)
 }

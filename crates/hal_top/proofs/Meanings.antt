@@ -19,7 +19,7 @@ use Rattle.hal_built.specs.References.{reference_rows}
 use Rattle.hal_built.specs.SecondForm.{second_form}
 use Rattle.hal_built.specs.Unbuilt.{unbuilt_file}
 use Rattle.hal_built.proofs.Formed.{formed_built_by}
-use Rattle.hal_top.specs.UnitTexts.{IsRead, HasMeaning, HasNoMeaningAt, FileBreaks, Breaks, phrases_in}
+use Rattle.hal_top.specs.UnitTexts.{IsRead, HasMeaning, LacksMeaning, FileBreaks, Breaks, phrases_in}
 
 abbrev token_at : Word → Place → Token
 token_at word place = record { word = word; place = place }
@@ -63,17 +63,17 @@ pub one_meaning : (number : ℕ) (text : List ℕ) (tree other : UnitTree) → H
 one_meaning number text tree other has also =
     same_Some tree other (sym has.built ∙ (ap second_form (one_read number text has.file also.file has.read also.read) ∙ also.built))
 
--- a file that has a tree, and refers to variables alone, has no place without a meaning
-has_no_place : (file : File) (tree : UnitTree) (place : Place) → second_form file ≡ Some tree → IsSound reference_rows (phrases_in file) → HasNoMeaningAt file place → ⊥
-has_no_place file tree place built referring (inl unbuilt) = clash (unbuilt_file file) (formed_built_by file tree built) unbuilt
+-- a file that has a tree, and refers to variables alone, lacks no meaning
+lacks_none : (file : File) (tree : UnitTree) (refusal : Refusal) → second_form file ≡ Some tree → IsSound reference_rows (phrases_in file) → LacksMeaning file refusal → ⊥
+lacks_none file tree refusal built referring (inl unbuilt) = clash (unbuilt_file file) (formed_built_by file tree built) unbuilt.1
   where
-    clash : (found : _) → found ≡ None → found ≡ Some place → ⊥
+    clash : (found : _) → found ≡ None → found ≡ Some refusal.place → ⊥
     clash found none some = cc
-has_no_place file tree place built referring (inr (other, also, breaks)) = referring 410 place breaks
+lacks_none file tree refusal built referring (inr (other, also, breaks)) = referring refusal.rule.0 refusal.place breaks
 
 unbroken : (file : File) (tree : UnitTree) (refusal : Refusal) → IsSound rows (phrases_in file) → second_form file ≡ Some tree → IsSound reference_rows (phrases_in file) → FileBreaks file refusal → ⊥
 unbroken file tree refusal named built referring (inl breaks) = named refusal.rule.0 refusal.place breaks
-unbroken file tree refusal named built referring (inr unmeant) = has_no_place file tree refusal.place built referring unmeant.place
+unbroken file tree refusal named built referring (inr unmeant) = lacks_none file tree refusal built referring unmeant.lacking
 
 pub meaning_breaks_nothing : (number : ℕ) (text : List ℕ) (tree : UnitTree) (refusal : Refusal) → HasMeaning number text tree → Breaks number text refusal → ⊥
 meaning_breaks_nothing number text tree refusal has (inl breach) = no_breach number text has.read.tokens refusal.rule.0 refusal.place has.read.cut breach

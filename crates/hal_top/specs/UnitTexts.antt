@@ -1,6 +1,5 @@
 -- What the text of a unit says, and which rules it breaks.
 use Rattle.std.specs.Prelude.{◌≡◌, ℕ, ◌⊎◌, List, [], ◌∷◌, Some, ⊤}
-use Rattle.hal_base.specs.declared.refusal.Place.{Place}
 use Rattle.hal_base.specs.declared.refusal.Refusal.{Refusal}
 use Rattle.hal_base.specs.declared.refusal.Fault.{Fault}
 use Rattle.hal_base.specs.declared.refusal.Fault.TheVariants as fault
@@ -35,10 +34,6 @@ pub record HasMeaning (number : ℕ) (text : List ℕ) (tree : UnitTree) : Type 
   pub built : second_form file ≡ Some tree
   pub referring : IsSound reference_rows (phrases_in file)
 
--- this is the place of the first smallest phrase without a meaning, or all phrases have one and this is that of a reference to something else than a variable
-abbrev pub HasNoMeaningAt : File → Place → Type 0
-HasNoMeaningAt file place = (unbuilt_file file ≡ Some place) ⊎ ((tree : UnitTree) × (second_form file ≡ Some tree) × scope.Breaks reference_rows (phrases_in file) 410 place)
-
 -- rule 401 is broken: the text has words, and they are those of no file
 pub record BreaksGrammar (number : ℕ) (text : List ℕ) (refusal : Refusal) : Type 0 where
   pub tokens : List Token
@@ -49,11 +44,14 @@ pub record BreaksGrammar (number : ℕ) (text : List ℕ) (refusal : Refusal) : 
 abbrev pub BreaksRow : List Row → File → Refusal → Type 0
 BreaksRow table file refusal = scope.Breaks table (phrases_in file) refusal.rule.0 refusal.place
 
--- rule 410: the file breaks no rule of names, and a phrase of it has no meaning
+-- rule 410, of phrases: this is the place of the first smallest phrase without a meaning; or all phrases have one, and a reference is to something else than a variable
+abbrev pub LacksMeaning : File → Refusal → Type 0
+LacksMeaning file refusal = ((refusal.rule.0 ≡ 410) × (unbuilt_file file ≡ Some refusal.place)) ⊎ ((tree : UnitTree) × (second_form file ≡ Some tree) × BreaksRow reference_rows file refusal)
+
+-- it is told where the file breaks no rule of names
 pub record HasNoMeaning (file : File) (refusal : Refusal) : Type 0 where
   pub named : IsSound rows (phrases_in file)
-  pub rule : refusal.rule.0 ≡ 410
-  pub place : HasNoMeaningAt file refusal.place
+  pub lacking : LacksMeaning file refusal
 
 -- a file breaks a rule of names, or 410
 abbrev pub FileBreaks : File → Refusal → Type 0

@@ -6,9 +6,9 @@ ghost use Rattle.hal_core.specs.Naming.{declared_names};
 ghost use Rattle.hal_core.specs.View.{unit_tree};
 ghost use Rattle.hal_built.specs.References.{reference_rows};
 ghost use Rattle.hal_top.specs.Programs.{IsProgramIn, IsProgramOf};
-ghost use Rattle.hal_top.specs.UnitTexts.{BreaksBy, HasNoMeaningAt, IsFaultOf, phrases_in};
+ghost use Rattle.hal_top.specs.UnitTexts.{BreaksBy, IsFaultOf, LacksMeaning, phrases_in};
 
-use hal_base::{Fault, Place, Refusal, Rule};
+use hal_base::{Fault, Refusal, Rule};
 use hal_built::{built, unbuilt_reference};
 use hal_core::Unit;
 use hal_lexer::tokens;
@@ -30,36 +30,43 @@ pub struct Program {
 /// The rule that a phrase without a meaning breaks.
 const MEANINGLESS: Rule = Rule(410);
 
-/// The program of a unit, or the place of its first reference that has no meaning.
+/// The program of a unit with these names, or rule 410 at its first reference that has no meaning.
 fn referring(
     alloc: Global,
     unit: Unit,
     names: &Names<'_>,
-) -> Result<Result<Program, Place>, AllocError>
-    ensures unit { IfOk result (λ found. IfOk found (λ program. (unit_tree program.unit ≡ unit_tree unit) × (program.cells ≡ declared_names (unit_tree unit)))) }
+) -> Result<Result<Program, Refusal>, AllocError>
+    ensures unit { IfOk result (λ found. IfOk found (λ program. program.unit ≡ unit)) }
+    ensures cells { IfOk result (λ found. IfOk found (λ program. program.cells ≡ declared_names (unit_tree unit))) }
     ensures sound { IfOk result (λ found. IfOk found (λ program. IsSound reference_rows (seen_names names.now))) }
-    ensures place { IfOk result (λ found. IfErr found (λ place. Breaks reference_rows (seen_names names.now) 410 place)) }
+    ensures broken { IfOk result (λ found. IfErr found (λ refusal. Breaks reference_rows (seen_names names.now) refusal.rule.0 refusal.place)) }
 {
-    if let Some(place) = unbuilt_reference(names) {
-        return Ok(Err(place));
+    if let Some((rule, place)) = unbuilt_reference(names) {
+        return Ok(Err(Refusal {
+            rule: Rule(rule),
+            place,
+        }));
     }
     let cells = Cells::of(alloc, unit.declarations.as_slice())?;
     Ok(Ok(Program { unit, cells }))
 }
 
-/// The program in a file with these names, or the place of its first phrase that has no meaning.
+/// The program in a file with these names, or rule 410 at its first phrase that has no meaning.
 fn program_in(
     alloc: Global,
     file: &File,
     names: &Names<'_>,
-) -> Result<Result<Program, Place>, AllocError>
+) -> Result<Result<Program, Refusal>, AllocError>
     requires { seen_names names.now ≡ phrases_in (seen_file file.now) }
     ensures program { IfOk result (λ found. IfOk found (IsProgramIn (seen_file file.now))) }
-    ensures place { IfOk result (λ found. IfErr found (HasNoMeaningAt (seen_file file.now))) }
+    ensures broken { IfOk result (λ found. IfErr found (LacksMeaning (seen_file file.now))) }
 {
     match built(alloc, file)? {
         Ok(unit) => referring(alloc, unit, names),
-        Err(place) => Ok(Err(place)),
+        Err(place) => Ok(Err(Refusal {
+            rule: MEANINGLESS,
+            place,
+        })),
     }
 }
 
@@ -72,10 +79,7 @@ fn program_of_file(alloc: Global, file: &File) -> Result<Program, Fault>
     let names = resolve(alloc, from_ref(file))?;
     match program_in(alloc, file, &names) {
         Ok(Ok(program)) => Ok(program),
-        Ok(Err(place)) => Err(Fault::Broken(Refusal {
-            rule: MEANINGLESS,
-            place,
-        })),
+        Ok(Err(refusal)) => Err(Fault::Broken(refusal)),
         Err(error) => Err(Fault::Memory(error)),
     }
 }
