@@ -1,8 +1,9 @@
-ghost use Rattle.std.specs.Prelude.{◌≡◌, IfOk, OnOk, map};
-ghost use Rattle.hal_core.specs.declared.tree.Declaration.{Declaration};
+ghost use Rattle.std.specs.Prelude.{◌≡◌, IfOk, OnOk};
+ghost use Rattle.hal_core.specs.Naming.{declared_names};
+ghost use Rattle.hal_core.specs.View.{unit_tree};
 ghost use Rattle.hal_meaning.specs.CellTable.{IsNoted};
 
-use hal_core::Declaration;
+use hal_core::Unit;
 use hal_words::Name;
 use indexmap::IndexMap;
 use std::alloc::{AllocError, Global};
@@ -30,13 +31,13 @@ impl Cells {
     ghost use Rattle.std.specs.Prelude.{◌≡◌};
     ghost use Rattle.hal_meaning.specs.Values.{cell_of};
 
-    /// The cells of the names that these declare, or an error where there is no memory.
-    pub fn of(alloc: Global, declarations: &[Declaration]) -> Result<Cells, AllocError>
-        ensures { IfOk result (λ cells. cells ≡ map (λ (declaration : Declaration). declaration.name) declarations.now) }
+    /// The cells of the names that a unit declares, or an error where there is no memory.
+    pub fn of(alloc: Global, unit: &Unit) -> Result<Cells, AllocError>
+        ensures { IfOk result (λ cells. cells ≡ declared_names (unit_tree unit.now)) }
     {
         let mut names = Vec::new(alloc);
         let mut index = IndexMap::new(alloc);
-        for declaration in declarations {
+        for declaration in &unit.declarations {
             note(&mut index, declaration.name, names.len())?;
             names.push(declaration.name)?;
         }

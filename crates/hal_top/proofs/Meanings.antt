@@ -64,7 +64,7 @@ one_meaning number text tree other has also =
     same_Some tree other (sym has.built ∙ (ap second_form (one_read number text has.file also.file has.read also.read) ∙ also.built))
 
 -- a file that has a tree, and refers to variables alone, lacks no meaning
-lacks_none : (file : File) (tree : UnitTree) (refusal : Refusal) → second_form file ≡ Some tree → IsSound reference_rows (phrases_in file) → LacksMeaning file refusal → ⊥
+lacks_none : (file : File) (tree : UnitTree) (refusal : Refusal) → second_form file ≡ Some tree → IsSound reference_rows (phrases_in file) → LacksMeaning file (phrases_in file) refusal → ⊥
 lacks_none file tree refusal built referring (inl unbuilt) = clash (unbuilt_file file) (formed_built_by file tree built) unbuilt.1
   where
     clash : (found : _) → found ≡ None → found ≡ Some refusal.place → ⊥

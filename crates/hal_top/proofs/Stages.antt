@@ -36,12 +36,13 @@ wrong_file number text tokens file (fault.Broken refusal) cut parsed broken = in
 wrong_file number text tokens file (fault.Memory error) cut parsed broken = tt
 
 -- it breaks a rule of names
-pub wrong_names : (file : File) (why : Fault) → IsBrokenBy (phrases_in file) why → IsFaultOf file why
-wrong_names file (fault.Broken refusal) breaks = inl breaks
-wrong_names file (fault.Memory error) breaks = tt
+pub wrong_names : {X : Type 0} (file : File) (result : Result X Fault) → IfErr result (IsBrokenBy (phrases_in file)) → IfErr result (IsFaultOf file)
+wrong_names file (Ok x) breaks = tt
+wrong_names file (Err (fault.Broken refusal)) breaks = inl breaks
+wrong_names file (Err (fault.Memory error)) breaks = tt
 
 -- the program in the file is that of the text
-pub program_found : (text : List ℕ) (tokens : List Token) (file : File) (program : Program) → IsCut 0 text tokens → IsParsed tokens file → IsSound rows (phrases_in file) → IsProgramIn file program → IsProgramOf text program
+pub program_found : (text : List ℕ) (tokens : List Token) (file : File) (program : Program) → IsCut 0 text tokens → IsParsed tokens file → IsSound rows (phrases_in file) → IsProgramIn file (phrases_in file) program → IsProgramOf text program
 program_found text tokens file program cut parsed named inside =
     let has : HasMeaning 0 text (unit_tree program.unit) =
     record { file = file; read = read_as 0 text tokens file cut parsed; named = named; built = inside.built; referring = inside.referring } in
@@ -56,7 +57,7 @@ program_found text tokens file program cut parsed named inside =
 
 -- what is said of a file is said of its text
 pub program_told : (text : List ℕ) (tokens : List Token) (file : File) (result : Result Program Fault) → IsCut 0 text tokens → IsParsed tokens file
-    → IfOk result (λ program. IsSound rows (phrases_in file)) → IfOk result (IsProgramIn file) → IfOk result (IsProgramOf text)
+    → IfOk result (λ program. IsSound rows (phrases_in file)) → IfOk result (IsProgramIn file (phrases_in file)) → IfOk result (IsProgramOf text)
 program_told text tokens file (Ok program) cut parsed named inside = program_found text tokens file program cut parsed named inside
 program_told text tokens file (Err why) cut parsed named inside = tt
 

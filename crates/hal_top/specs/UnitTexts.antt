@@ -40,22 +40,22 @@ pub record BreaksGrammar (number : ℕ) (text : List ℕ) (refusal : Refusal) : 
   pub cut : words.IsCut number text tokens
   pub unread : IsUnread number tokens refusal.rule.0 refusal.place
 
--- rules 601 to 608: a phrase of the file breaks a row of a table
-abbrev pub BreaksRow : List Row → File → Refusal → Type 0
-BreaksRow table file refusal = scope.Breaks table (phrases_in file) refusal.rule.0 refusal.place
+-- one of these phrases breaks a row of a table of rules
+abbrev pub BreaksRow : List Row → List Phrase → Refusal → Type 0
+BreaksRow table ps refusal = scope.Breaks table ps refusal.rule.0 refusal.place
 
--- rule 410, of phrases: this is the place of the first smallest phrase without a meaning; or all phrases have one, and a reference is to something else than a variable
-abbrev pub LacksMeaning : File → Refusal → Type 0
-LacksMeaning file refusal = ((refusal.rule.0 ≡ 410) × (unbuilt_file file ≡ Some refusal.place)) ⊎ ((tree : UnitTree) × (second_form file ≡ Some tree) × BreaksRow reference_rows file refusal)
+-- rule 410, of a file with these phrases: this is the place of its first smallest phrase without a meaning; or all have one, and a reference is to something else than a variable
+abbrev pub LacksMeaning : File → List Phrase → Refusal → Type 0
+LacksMeaning file ps refusal = ((refusal.rule.0 ≡ 410) × (unbuilt_file file ≡ Some refusal.place)) ⊎ ((tree : UnitTree) × (second_form file ≡ Some tree) × BreaksRow reference_rows ps refusal)
 
 -- it is told where the file breaks no rule of names
 pub record HasNoMeaning (file : File) (refusal : Refusal) : Type 0 where
   pub named : IsSound rows (phrases_in file)
-  pub lacking : LacksMeaning file refusal
+  pub lacking : LacksMeaning file (phrases_in file) refusal
 
 -- a file breaks a rule of names, or 410
 abbrev pub FileBreaks : File → Refusal → Type 0
-FileBreaks file refusal = BreaksRow rows file refusal ⊎ HasNoMeaning file refusal
+FileBreaks file refusal = BreaksRow rows (phrases_in file) refusal ⊎ HasNoMeaning file refusal
 
 -- the text is that of a file that breaks a rule
 pub record BreaksMeaning (number : ℕ) (text : List ℕ) (refusal : Refusal) : Type 0 where

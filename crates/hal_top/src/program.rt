@@ -1,10 +1,7 @@
 ghost use Rattle.std.specs.Prelude.{◌≡◌, IfErr, IfOk};
 ghost use Rattle.hal_tree.specs.SeenUnits.{seen_file};
 ghost use Rattle.hal_names.specs.SeenNames.{seen_names};
-ghost use Rattle.hal_scope.specs.Rules.{Breaks, IsSound, rows};
-ghost use Rattle.hal_core.specs.Naming.{declared_names};
-ghost use Rattle.hal_core.specs.View.{unit_tree};
-ghost use Rattle.hal_built.specs.References.{reference_rows};
+ghost use Rattle.hal_scope.specs.Rules.{IsSound, rows};
 ghost use Rattle.hal_top.specs.Programs.{IsProgramIn, IsProgramOf};
 ghost use Rattle.hal_top.specs.UnitTexts.{BreaksBy, IsFaultOf, LacksMeaning, phrases_in};
 
@@ -30,25 +27,13 @@ pub struct Program {
 /// The rule that a phrase without a meaning breaks.
 const MEANINGLESS: Rule = Rule(410);
 
-/// The program of a unit with these names, or rule 410 at its first reference that has no meaning.
-fn referring(
-    alloc: Global,
-    unit: Unit,
-    names: &Names<'_>,
-) -> Result<Result<Program, Refusal>, AllocError>
-    ensures unit { IfOk result (λ found. IfOk found (λ program. program.unit ≡ unit)) }
-    ensures cells { IfOk result (λ found. IfOk found (λ program. program.cells ≡ declared_names (unit_tree unit))) }
-    ensures sound { IfOk result (λ found. IfOk found (λ program. IsSound reference_rows (seen_names names.now))) }
-    ensures broken { IfOk result (λ found. IfErr found (λ refusal. Breaks reference_rows (seen_names names.now) refusal.rule.0 refusal.place)) }
+/// The names of a file that breaks no rule of names; or a rule of names that it breaks, at its place; or want of memory.
+fn names_in<'a>(alloc: Global, file: &'a File) -> Result<Names<'a>, Fault>
+    ensures names { IfOk result (λ names. seen_names names ≡ phrases_in (seen_file file.now)) }
+    ensures sound { IfOk result (λ names. IsSound rows (phrases_in (seen_file file.now))) }
+    ensures broken { IfErr result (IsFaultOf (seen_file file.now)) }
 {
-    if let Some((rule, place)) = unbuilt_reference(names) {
-        return Ok(Err(Refusal {
-            rule: Rule(rule),
-            place,
-        }));
-    }
-    let cells = Cells::of(alloc, unit.declarations.as_slice())?;
-    Ok(Ok(Program { unit, cells }))
+    resolve(alloc, from_ref(file))
 }
 
 /// The program in a file with these names, or rule 410 at its first phrase that has no meaning.
@@ -57,14 +42,25 @@ fn program_in(
     file: &File,
     names: &Names<'_>,
 ) -> Result<Result<Program, Refusal>, AllocError>
-    requires { seen_names names.now ≡ phrases_in (seen_file file.now) }
-    ensures program { IfOk result (λ found. IfOk found (IsProgramIn (seen_file file.now))) }
-    ensures broken { IfOk result (λ found. IfErr found (LacksMeaning (seen_file file.now))) }
+    ensures program { IfOk result (λ found. IfOk found (IsProgramIn (seen_file file.now) (seen_names names.now))) }
+    ensures broken { IfOk result (λ found. IfErr found (LacksMeaning (seen_file file.now) (seen_names names.now))) }
 {
-    match built(alloc, file)? {
-        Ok(unit) => referring(alloc, unit, names),
-        Err(place) => Ok(Err(Refusal {
-            rule: MEANINGLESS,
+    let unit = match built(alloc, file)? {
+        Ok(unit) => unit,
+        Err(place) => {
+            return Ok(Err(Refusal {
+                rule: MEANINGLESS,
+                place,
+            }));
+        }
+    };
+    match unbuilt_reference(names) {
+        None => {
+            let cells = Cells::of(alloc, &unit)?;
+            Ok(Ok(Program { unit, cells }))
+        }
+        Some((rule, place)) => Ok(Err(Refusal {
+            rule: Rule(rule),
             place,
         })),
     }
@@ -73,10 +69,10 @@ fn program_in(
 /// The program of a file, or a rule of names that it breaks, or 410, at its place; or want of memory.
 fn program_of_file(alloc: Global, file: &File) -> Result<Program, Fault>
     ensures sound { IfOk result (λ program. IsSound rows (phrases_in (seen_file file.now))) }
-    ensures program { IfOk result (IsProgramIn (seen_file file.now)) }
+    ensures program { IfOk result (IsProgramIn (seen_file file.now) (phrases_in (seen_file file.now))) }
     ensures broken { IfErr result (IsFaultOf (seen_file file.now)) }
 {
-    let names = resolve(alloc, from_ref(file))?;
+    let names = names_in(alloc, file)?;
     match program_in(alloc, file, &names) {
         Ok(Ok(program)) => Ok(program),
         Ok(Err(refusal)) => Err(Fault::Broken(refusal)),

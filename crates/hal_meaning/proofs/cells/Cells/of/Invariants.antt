@@ -6,5 +6,5 @@ use Rattle.hal_meaning.proofs.cells.Cells.of.Given as goal
 abbrev pub invariant-loop-declaration : goal.invariant-loop-declaration
 invariant-loop-declaration l = record {
   table : IsTable l.index.entries l.names.items;
-  whole : l.names.items ++ map (λ (d : Declaration). d.name) (drop l.declaration-index l.declarations) ≡ map (λ (d : Declaration). d.name) l.declarations;
+  whole : l.names.items ++ map (λ (d : Declaration). d.name) (drop l.declaration-index l.declaration-items) ≡ map (λ (d : Declaration). d.name) l.declaration-items;
 }
