@@ -1,5 +1,5 @@
 -- The text of the unit with a group has the words of its file, whose tree is that of the unit.
-use Rattle.std.proofs.Common.{◌≡◌, Some, [], ◌∷◌, codes, refl, arith, lit≤}
+use Rattle.std.proofs.Common.{◌≡◌, Some, [], refl, arith, lit≤}
 use Rattle.hal_base.specs.declared.refusal.Place.{Place}
 use Rattle.hal_words.specs.declared.reserved.Reserved.TheVariants as reserved
 use Rattle.hal_words.specs.declared.word.Word.TheVariants as word

@@ -1,5 +1,5 @@
 -- The text of HELLO has the words of its file, whose tree is that of HELLO.
-use Rattle.std.proofs.Common.{◌≡◌, Some, [], ◌∷◌, codes, refl, arith, lit≤}
+use Rattle.std.proofs.Common.{◌≡◌, Some, [], refl, arith, lit≤}
 use Rattle.hal_words.specs.Reserved.{reserved_words, left_out_words}
 use Rattle.hal_words.specs.Words.{IsCut}
 use Rattle.hal_grammar.specs.SpellsExpressions.{plus, factor, primary, summed, more_terms, no_terms, no_further, unsubscripted, refers, last_expression}

@@ -1,4 +1,4 @@
-use Rattle.std.proofs.Common.{◌≡◌, List, Option, IfOk, map, subst}
+use Rattle.std.proofs.Common.{◌≡◌, List, IfOk, map, subst}
 use Rattle.std.specs.Prelude.{IfErr}
 use Rattle.hal_tree.specs.declared.unit.File.{File}
 use Rattle.hal_tree.specs.SeenUnits.{seen_file}
