@@ -1,4 +1,5 @@
 pub mod Answered
+pub mod FirstReference
 pub mod Formed
 pub mod Gathered
 pub mod Parts

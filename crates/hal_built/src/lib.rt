@@ -3,9 +3,11 @@
 
 mod building;
 mod laws;
+mod references;
 mod second_form;
 mod unbuilt;
 
 pub use building::built;
 pub use laws::a_file_has_a_meaning_or_a_phrase_without;
+pub use references::unbuilt_reference;
 pub use unbuilt::unbuilt_file;

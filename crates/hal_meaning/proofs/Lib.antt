@@ -1,8 +1,5 @@
+pub mod CellEntries
 pub mod Cycles
-pub mod Entries
-pub mod NameEquality
-pub mod OwnName
+pub mod FirstCells
 pub mod Seen
 pub mod Turns
-pub mod Uses
-pub mod WrongNames

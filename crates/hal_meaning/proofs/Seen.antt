@@ -1,4 +1,4 @@
--- How a statement of a known kind is seen, what its names are, and what it comes to.
+-- How a statement of a known kind is seen, and what it comes to.
 use Rattle.std.proofs.Common.{◌≡◌, ◌<◌, ℕ, ℤ, List, [], ◌∷◌, length, map, Bool, true, false, Option, Some, None, Box, Bor, Vec, sym, ap, subst, ◌∙◌, arith}
 use Rattle.std.specs.declared.alloc.Global.{Global}
 use Rattle.hal_base.specs.declared.refusal.Place.{Place}
@@ -8,7 +8,6 @@ use Rattle.hal_core.specs.declared.tree.Statement.{Statement}
 use Rattle.hal_core.specs.declared.tree.StatementKind.{Assign, Write, If, While}
 use Rattle.hal_core.specs.declared.tree.Sum.{Sum}
 use Rattle.hal_core.specs.Tree.{ComparisonTree, StatementTree, Assigned, Written, Chosen, Looped, AlternativeTree, NoElse, Else}
-use Rattle.hal_core.specs.Uses.{first_stray, statement_uses, body_uses}
 use Rattle.hal_core.specs.View.{sum_tree, comparison_tree, statement_tree, alternative_tree, body_tree, kind_tree}
 use Rattle.hal_core.proofs.Made.{made_assigned, made_written, made_chosen, made_looped}
 use Rattle.hal_values.specs.declared.environment.ErrNo.{ErrNo}
@@ -46,18 +45,6 @@ seen_no_else one condition consequence alternative is none =
 pub seen_looped : (one : Statement) (condition : Comparison) (body : Vec Statement Global)
     → one.kind ≡ While condition body → statement_tree one ≡ Looped one.place (comparison_tree condition) (body_tree body.items)
 seen_looped one condition body is = ap (kind_tree one.place) is ∙ made_looped one.place condition body
-
--- the first stray of a statement, where it is seen so
-pub stray-seen : (names : List (List ℕ)) (result : Option Place) (one seen : StatementTree) → one ≡ seen → result ≡ first_stray names (statement_uses seen) → result ≡ first_stray names (statement_uses one)
-stray-seen names result one seen is found = found ∙ ap (λ (tree : StatementTree). first_stray names (statement_uses tree)) (sym is)
-
--- that of a statement in a box
-pub stray-boxed : (names : List (List ℕ)) (result : Option Place) (one boxed : Statement) → one ≡ boxed → result ≡ first_stray names (statement_uses (statement_tree one)) → result ≡ first_stray names (statement_uses (statement_tree boxed))
-stray-boxed names result one boxed is found = found ∙ ap (λ (s : Statement). first_stray names (statement_uses (statement_tree s))) is
-
--- that of a group's body
-pub stray-body : (names : List (List ℕ)) (result : Option Place) (listed items : List Statement) → listed ≡ items → result ≡ first_stray names (body_uses (body_tree listed)) → result ≡ first_stray names (body_uses (body_tree items))
-stray-body names result listed items is found = found ∙ ap (λ (list : List Statement). first_stray names (body_uses (body_tree list))) is
 
 -- what a statement comes to, where it is seen so
 pub ComesTo-seen : (names : List (List ℕ)) (left : List Heard) (one seen : StatementTree) (state : State) (result : Result Flow) → one ≡ seen

@@ -1,7 +1,7 @@
 pub mod Values
 pub mod UnitMeaning
 pub mod Course
-pub mod NameTable
+pub mod CellTable
 pub mod Adequate
 pub mod Following
 pub mod TreeLoad

@@ -4,9 +4,9 @@ ghost use Rattle.hal_core.specs.Naming.{declared_names};
 ghost use Rattle.hal_meaning.specs.UnitMeaning.{Asks, first_values, meaning, next_heard, own_heard};
 ghost use Rattle.hal_meaning.specs.Course.{ComesTo, IsShorter, body_then_finish, passage, result_of, state_of};
 
+use crate::cells::Cells;
 use crate::course::{Course, asks};
 use crate::heard::Heard;
-use crate::names::Names;
 use crate::own::Own;
 use crate::statements::statements;
 use hal_core::Unit;
@@ -35,15 +35,15 @@ fn first_values(alloc: Global, unit: &Unit) -> Result<Vec<i32>, AllocError>
 fn body_then_finish<'a>(
     alloc: Global,
     unit: &Unit,
-    names: &Names,
+    cells: &Cells,
     own: &mut [i32],
     left: &'a [Heard],
 ) -> Result<Course<'a>, AllocError>
-    requires { names.now ≡ declared_names (unit_tree unit.now) }
-    ensures meaning { IfOk result (λ course. ComesTo names.now left.now (body_then_finish (unit_tree unit.now) (state_of own.old left.now)) (result_of course own.new)) }
+    requires { cells.now ≡ declared_names (unit_tree unit.now) }
+    ensures meaning { IfOk result (λ course. ComesTo cells.now left.now (body_then_finish (unit_tree unit.now) (state_of own.old left.now)) (result_of course own.new)) }
     ensures shorter { IfOk result (IsShorter left.now) }
 {
-    match statements(unit.body.as_slice(), alloc, names, own, left)? {
+    match statements(unit.body.as_slice(), alloc, cells, own, left)? {
         Course::Done(done) => Ok(asks(Request::Finish, done)),
         Course::Asks(request) => Ok(Course::Asks(request)),
         Course::Restarts(rest) => Ok(Course::Restarts(rest)),
@@ -54,16 +54,16 @@ fn body_then_finish<'a>(
 fn passage<'a>(
     alloc: Global,
     unit: &Unit,
-    names: &Names,
+    cells: &Cells,
     own: &mut [i32],
     left: &'a [Heard],
 ) -> Result<Course<'a>, AllocError>
-    requires { names.now ≡ declared_names (unit_tree unit.now) }
-    ensures meaning { IfOk result (λ course. ComesTo names.now left.now (passage (unit_tree unit.now) (state_of own.old left.now)) (result_of course own.new)) }
+    requires { cells.now ≡ declared_names (unit_tree unit.now) }
+    ensures meaning { IfOk result (λ course. ComesTo cells.now left.now (passage (unit_tree unit.now) (state_of own.old left.now)) (result_of course own.new)) }
     ensures shorter { IfOk result (IsShorter left.now) }
 {
     match asks(Request::Begin, left) {
-        Course::Done(begun) => body_then_finish(alloc, unit, names, own, begun),
+        Course::Done(begun) => body_then_finish(alloc, unit, cells, own, begun),
         Course::Asks(request) => Ok(Course::Asks(request)),
         Course::Restarts(rest) => Ok(Course::Restarts(rest)),
     }
@@ -73,16 +73,16 @@ fn passage<'a>(
 pub fn oracle(
     alloc: Global,
     unit: &Unit,
-    names: &Names,
+    cells: &Cells,
     heards: &[Heard],
 ) -> Result<Asked, AllocError>
-    requires { names.now ≡ declared_names (unit_tree unit.now) }
+    requires { cells.now ≡ declared_names (unit_tree unit.now) }
     ensures { IfOk result (λ asked. meaning (unit_tree unit.now) heards.now ≡ Asks asked.request asked.own) }
 {
     let mut own = first_values(alloc, unit)?;
     let mut left = heards;
     loop {
-        match passage(alloc, unit, names, &mut own, left)? {
+        match passage(alloc, unit, cells, &mut own, left)? {
             Course::Done(rest) | Course::Restarts(rest) => left = rest,
             Course::Asks(request) => {
                 return Ok(Asked {
@@ -98,13 +98,13 @@ pub fn oracle(
 pub fn oracle_next(
     alloc: Global,
     unit: &Unit,
-    names: &Names,
+    cells: &Cells,
     heards: &[Heard],
 ) -> Result<Request, AllocError>
-    requires { names.now ≡ declared_names (unit_tree unit.now) }
+    requires { cells.now ≡ declared_names (unit_tree unit.now) }
     ensures { IfOk result (λ request. request ≡ next_heard (unit_tree unit.now) heards.now) }
 {
-    let asked = oracle(alloc, unit, names, heards)?;
+    let asked = oracle(alloc, unit, cells, heards)?;
     Ok(asked.request)
 }
 
@@ -112,12 +112,12 @@ pub fn oracle_next(
 pub fn oracle_own(
     alloc: Global,
     unit: &Unit,
-    names: &Names,
+    cells: &Cells,
     heards: &[Heard],
 ) -> Result<Own, AllocError>
-    requires { names.now ≡ declared_names (unit_tree unit.now) }
+    requires { cells.now ≡ declared_names (unit_tree unit.now) }
     ensures { IfOk result (λ own. own ≡ own_heard (unit_tree unit.now) heards.now) }
 {
-    let asked = oracle(alloc, unit, names, heards)?;
+    let asked = oracle(alloc, unit, cells, heards)?;
     Ok(asked.own)
 }

@@ -4,7 +4,7 @@ ghost use Rattle.hal_meaning.specs.Values.{checked_then};
 ghost use Rattle.hal_meaning.specs.UnitMeaning.{in_line, items_values, line_text};
 ghost use Rattle.hal_meaning.specs.Course.{checked, values_checked};
 
-use crate::names::Names;
+use crate::cells::Cells;
 use crate::sums::sum_value;
 use hal_core::Sum;
 use hal_values::{ErrNo, Line};
@@ -19,15 +19,15 @@ const LINE_ERROR: ErrNo = ErrNo {
 /// The values of a WRITE's items, from left to right.
 fn items_values(
     alloc: Global,
-    names: &Names,
+    cells: &Cells,
     own: &[i32],
     items: &[Sum],
 ) -> Result<Result<Vec<i64>, ErrNo>, AllocError>
-    ensures { IfOk result (λ values. values_checked values ≡ items_values names.now own.now (map sum_tree items.now)) }
+    ensures { IfOk result (λ values. values_checked values ≡ items_values cells.now own.now (map sum_tree items.now)) }
 {
     let mut values = Vec::new(alloc);
     for item in items {
-        match sum_value(names, own, item) {
+        match sum_value(cells, own, item) {
             Ok(value) => values.push(value)?,
             Err(error) => return Ok(Err(error)),
         }
@@ -52,13 +52,13 @@ fn line_of(alloc: Global, values: &[i64]) -> Result<Result<Line, ErrNo>, AllocEr
 /// The line of a WRITE, or the error that arises in its place.
 pub(crate) fn written(
     alloc: Global,
-    names: &Names,
+    cells: &Cells,
     own: &[i32],
     items: &[Sum],
 ) -> Result<Result<Line, ErrNo>, AllocError>
-    ensures { IfOk result (λ line. checked line ≡ checked_then (items_values names.now own.now (map sum_tree items.now)) (λ values. in_line (line_text values))) }
+    ensures { IfOk result (λ line. checked line ≡ checked_then (items_values cells.now own.now (map sum_tree items.now)) (λ values. in_line (line_text values))) }
 {
-    match items_values(alloc, names, own, items)? {
+    match items_values(alloc, cells, own, items)? {
         Ok(values) => line_of(alloc, values.as_slice()),
         Err(error) => Ok(Err(error)),
     }

@@ -4,10 +4,10 @@ ghost use Rattle.hal_meaning.specs.Values.{cell_of};
 ghost use Rattle.hal_meaning.specs.UnitMeaning.{assignment, statement, statements, stored_at, write};
 ghost use Rattle.hal_meaning.specs.Course.{ComesTo, IsShorter, IsWithin, group, result_of, state_of, turn};
 
+use crate::cells::Cells;
 use crate::course::{Course, asks, fails};
 use crate::heard::Heard;
 use crate::lines::written;
-use crate::names::Names;
 use crate::sums::{comparison_value, single_value};
 use hal_core::{Channel, Comparison, Statement, StatementKind, Sum};
 use hal_values::Request;
@@ -15,10 +15,10 @@ use hal_words::Name;
 use std::alloc::{AllocError, Global};
 
 /// Gives the variable of this name a value. Where there is none, nothing is stored.
-fn store(names: &Names, own: &mut [i32], target: &Name, value: i32)
-    ensures { own.new ≡ stored_at (cell_of names.now target.now) value own.old }
+fn store(cells: &Cells, own: &mut [i32], target: &Name, value: i32)
+    ensures { own.new ≡ stored_at (cell_of cells.now target.now) value own.old }
 {
-    if let Some(cell) = names.cell(target) {
+    if let Some(cell) = cells.cell(target) {
         if cell < own.len() {
             own[cell] = value;
         }
@@ -27,18 +27,18 @@ fn store(names: &Names, own: &mut [i32], target: &Name, value: i32)
 
 /// The course of an assignment.
 fn assign<'a>(
-    names: &Names,
+    cells: &Cells,
     target: &Name,
     value: &Sum,
     own: &mut [i32],
     left: &'a [Heard],
 ) -> Course<'a>
-    ensures meaning { assignment names.now target.now (sum_tree value.now) (state_of own.old left.now) ≡ result_of result own.new }
+    ensures meaning { assignment cells.now target.now (sum_tree value.now) (state_of own.old left.now) ≡ result_of result own.new }
     ensures within { IsWithin left.now result }
 {
-    match single_value(names, own, value) {
+    match single_value(cells, own, value) {
         Ok(value) => {
-            store(names, own, target, value);
+            store(cells, own, target, value);
             Course::Done(left)
         }
         Err(error) => fails(error, left),
@@ -48,16 +48,16 @@ fn assign<'a>(
 /// The course of a WRITE.
 fn write<'a>(
     alloc: Global,
-    names: &Names,
+    cells: &Cells,
     channel: &Channel,
     items: &[Sum],
     own: &[i32],
     left: &'a [Heard],
 ) -> Result<Course<'a>, AllocError>
-    ensures meaning { IfOk result (λ course. write names.now channel.now.number (map sum_tree items.now) (state_of own.now left.now) ≡ result_of course own.now) }
+    ensures meaning { IfOk result (λ course. write cells.now channel.now.number (map sum_tree items.now) (state_of own.now left.now) ≡ result_of course own.now) }
     ensures within { IfOk result (IsWithin left.now) }
 {
-    match written(alloc, names, own, items)? {
+    match written(alloc, cells, own, items)? {
         Ok(line) => Ok(asks(Request::Print(channel.number, line), left)),
         Err(error) => Ok(fails(error, left)),
     }
@@ -68,32 +68,32 @@ fn write<'a>(
 fn statement<'a>(
     one: &Statement,
     alloc: Global,
-    names: &Names,
+    cells: &Cells,
     own: &mut [i32],
     left: &'a [Heard],
 ) -> Result<Course<'a>, AllocError>
-    ensures meaning { IfOk result (λ course. ComesTo names.now left.now (λ rec. statement rec names.now (statement_tree one.now) (state_of own.old left.now)) (result_of course own.new)) }
+    ensures meaning { IfOk result (λ course. ComesTo cells.now left.now (λ rec. statement rec cells.now (statement_tree one.now) (state_of own.old left.now)) (result_of course own.new)) }
     ensures within { IfOk result (IsWithin left.now) }
 {
     match &one.kind {
-        StatementKind::Assign { target, value } => Ok(assign(names, target, value, own, left)),
+        StatementKind::Assign { target, value } => Ok(assign(cells, target, value, own, left)),
         StatementKind::Write { channel, items } => {
-            write(alloc, names, channel, items.as_slice(), own, left)
+            write(alloc, cells, channel, items.as_slice(), own, left)
         }
         StatementKind::If {
             condition,
             consequence,
             alternative,
-        } => match comparison_value(names, own, condition) {
-            Ok(true) => statement(consequence, alloc, names, own, left),
+        } => match comparison_value(cells, own, condition) {
+            Ok(true) => statement(consequence, alloc, cells, own, left),
             Ok(false) => match alternative {
-                Some(alternative) => statement(alternative, alloc, names, own, left),
+                Some(alternative) => statement(alternative, alloc, cells, own, left),
                 None => Ok(Course::Done(left)),
             },
             Err(error) => Ok(fails(error, left)),
         },
         StatementKind::While { condition, body } => {
-            group(body.as_slice(), condition, alloc, names, own, left)
+            group(body.as_slice(), condition, alloc, cells, own, left)
         }
     }
 }
@@ -104,17 +104,17 @@ fn group<'a>(
     body: &[Statement],
     condition: &Comparison,
     alloc: Global,
-    names: &Names,
+    cells: &Cells,
     own: &mut [i32],
     left: &'a [Heard],
 ) -> Result<Course<'a>, AllocError>
-    ensures meaning { IfOk result (λ course. ComesTo names.now left.now (group names.now (comparison_tree condition.now) (body_tree body.now) (state_of own.old left.now)) (result_of course own.new)) }
+    ensures meaning { IfOk result (λ course. ComesTo cells.now left.now (group cells.now (comparison_tree condition.now) (body_tree body.now) (state_of own.old left.now)) (result_of course own.new)) }
     ensures within { IfOk result (IsWithin left.now) }
 {
     let mut rest = left;
     loop {
-        match comparison_value(names, own, condition) {
-            Ok(true) => match turn(body, alloc, names, own, rest)? {
+        match comparison_value(cells, own, condition) {
+            Ok(true) => match turn(body, alloc, cells, own, rest)? {
                 Course::Done(after) => rest = after,
                 Course::Asks(request) => return Ok(Course::Asks(request)),
                 Course::Restarts(after) => return Ok(Course::Restarts(after)),
@@ -130,15 +130,15 @@ fn group<'a>(
 fn turn<'a>(
     body: &[Statement],
     alloc: Global,
-    names: &Names,
+    cells: &Cells,
     own: &mut [i32],
     left: &'a [Heard],
 ) -> Result<Course<'a>, AllocError>
-    ensures meaning { IfOk result (λ course. ComesTo names.now left.now (turn names.now (body_tree body.now) (state_of own.old left.now)) (result_of course own.new)) }
+    ensures meaning { IfOk result (λ course. ComesTo cells.now left.now (turn cells.now (body_tree body.now) (state_of own.old left.now)) (result_of course own.new)) }
     ensures shorter { IfOk result (IsShorter left.now) }
 {
     match asks(Request::Pass, left) {
-        Course::Done(begun) => statements(body, alloc, names, own, begun),
+        Course::Done(begun) => statements(body, alloc, cells, own, begun),
         Course::Asks(request) => Ok(Course::Asks(request)),
         Course::Restarts(after) => Ok(Course::Restarts(after)),
     }
@@ -149,16 +149,16 @@ fn turn<'a>(
 pub(crate) fn statements<'a>(
     body: &[Statement],
     alloc: Global,
-    names: &Names,
+    cells: &Cells,
     own: &mut [i32],
     left: &'a [Heard],
 ) -> Result<Course<'a>, AllocError>
-    ensures meaning { IfOk result (λ course. ComesTo names.now left.now (λ rec. statements rec names.now (body_tree body.now) (state_of own.old left.now)) (result_of course own.new)) }
+    ensures meaning { IfOk result (λ course. ComesTo cells.now left.now (λ rec. statements rec cells.now (body_tree body.now) (state_of own.old left.now)) (result_of course own.new)) }
     ensures within { IfOk result (IsWithin left.now) }
 {
     let mut rest = left;
     for one in body {
-        match statement(one, alloc, names, own, rest)? {
+        match statement(one, alloc, cells, own, rest)? {
             Course::Done(after) => rest = after,
             Course::Asks(request) => return Ok(Course::Asks(request)),
             Course::Restarts(after) => return Ok(Course::Restarts(after)),

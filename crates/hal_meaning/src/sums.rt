@@ -3,7 +3,7 @@ ghost use Rattle.hal_core.specs.View.{comparison_tree, sum_tree};
 ghost use Rattle.hal_meaning.specs.Values.{checked_then, comparison_value, in_double, in_single, operand_value, relation_holds, signed_sum, sum_value};
 ghost use Rattle.hal_meaning.specs.Course.{checked};
 
-use crate::names::Names;
+use crate::cells::Cells;
 use hal_core::{Comparison, OperandKind, Relation, Sign, Sum};
 use hal_values::ErrNo;
 
@@ -14,11 +14,11 @@ const RANGE_ERROR: ErrNo = ErrNo {
 };
 
 /// The value of a variable or a literal. A name that isn't declared reads 0.
-fn operand_value(names: &Names, own: &[i32], operand: &OperandKind) -> i64
-    ensures { result ≡ operand_value names.now own.now operand.now }
+fn operand_value(cells: &Cells, own: &[i32], operand: &OperandKind) -> i64
+    ensures { result ≡ operand_value cells.now own.now operand.now }
 {
     match operand {
-        OperandKind::Variable(name) => match names.cell(name) {
+        OperandKind::Variable(name) => match cells.cell(name) {
             Some(cell) => own.get(cell).copied().map_or(0, i64::from),
             None => 0,
         },
@@ -41,22 +41,22 @@ fn signed_sum(sign: Sign, value: i64, operand: i64) -> Result<i64, ErrNo>
 }
 
 /// The value of a sum, or the error that arises in its place.
-pub(crate) fn sum_value(names: &Names, own: &[i32], sum: &Sum) -> Result<i64, ErrNo>
-    ensures { checked result ≡ sum_value names.now own.now (sum_tree sum.now) }
+pub(crate) fn sum_value(cells: &Cells, own: &[i32], sum: &Sum) -> Result<i64, ErrNo>
+    ensures { checked result ≡ sum_value cells.now own.now (sum_tree sum.now) }
 {
-    let mut value = operand_value(names, own, &sum.first.kind);
+    let mut value = operand_value(cells, own, &sum.first.kind);
     for term in &sum.others {
-        let operand = operand_value(names, own, &term.operand.kind);
+        let operand = operand_value(cells, own, &term.operand.kind);
         value = signed_sum(term.sign, value, operand)?;
     }
     Ok(value)
 }
 
 /// The value of a sum for a variable, which has 16 bits.
-pub(crate) fn single_value(names: &Names, own: &[i32], sum: &Sum) -> Result<i32, ErrNo>
-    ensures { checked result ≡ checked_then (sum_value names.now own.now (sum_tree sum.now)) in_single }
+pub(crate) fn single_value(cells: &Cells, own: &[i32], sum: &Sum) -> Result<i32, ErrNo>
+    ensures { checked result ≡ checked_then (sum_value cells.now own.now (sum_tree sum.now)) in_single }
 {
-    let value = sum_value(names, own, sum)?;
+    let value = sum_value(cells, own, sum)?;
     if value < -32768 || 32767 < value {
         return Err(RANGE_ERROR);
     }
@@ -76,13 +76,13 @@ fn relation_holds(relation: Relation, left: i64, right: i64) -> bool
 
 /// Whether a comparison holds, or the error that arises in its place.
 pub(crate) fn comparison_value(
-    names: &Names,
+    cells: &Cells,
     own: &[i32],
     comparison: &Comparison,
 ) -> Result<bool, ErrNo>
-    ensures { checked result ≡ comparison_value names.now own.now (comparison_tree comparison.now) }
+    ensures { checked result ≡ comparison_value cells.now own.now (comparison_tree comparison.now) }
 {
-    let left = sum_value(names, own, &comparison.left)?;
-    let right = sum_value(names, own, &comparison.right)?;
+    let left = sum_value(cells, own, &comparison.left)?;
+    let right = sum_value(cells, own, &comparison.right)?;
     Ok(relation_holds(comparison.relation, left, right))
 }

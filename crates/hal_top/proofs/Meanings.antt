@@ -12,15 +12,14 @@ use Rattle.hal_lexer.proofs.NoBreach.{no_breach}
 use Rattle.hal_grammar.specs.Units.{File}
 use Rattle.hal_grammar.specs.SpellsFiles.{SpellsFile}
 use Rattle.hal_grammar.proofs.OneFile.{one_file}
+use Rattle.hal_scope.specs.Rules.{IsSound, rows}
 use Rattle.hal_parse.specs.Parsed.{IsFileOf}
 use Rattle.hal_core.specs.Tree.{UnitTree}
-use Rattle.hal_core.specs.Naming.{HasRightNames}
-use Rattle.hal_core.specs.Uses.{misnamed}
+use Rattle.hal_built.specs.References.{reference_rows}
 use Rattle.hal_built.specs.SecondForm.{second_form}
 use Rattle.hal_built.specs.Unbuilt.{unbuilt_file}
 use Rattle.hal_built.proofs.Formed.{formed_built_by}
-use Rattle.hal_meaning.proofs.WrongNames.{right_named}
-use Rattle.hal_top.specs.UnitTexts.{IsRead, HasMeaning, HasNoMeaningAt, Breaks}
+use Rattle.hal_top.specs.UnitTexts.{IsRead, HasMeaning, LacksMeaning, FileBreaks, Breaks, phrases_in}
 
 abbrev token_at : Word → Place → Token
 token_at word place = record { word = word; place = place }
@@ -64,21 +63,22 @@ pub one_meaning : (number : ℕ) (text : List ℕ) (tree other : UnitTree) → H
 one_meaning number text tree other has also =
     same_Some tree other (sym has.built ∙ (ap second_form (one_read number text has.file also.file has.read also.read) ∙ also.built))
 
--- a file whose phrases and names have a meaning has none without
-has_no_place : (file : File) (tree : UnitTree) (place : Place) → second_form file ≡ Some tree → HasRightNames tree → HasNoMeaningAt file place → ⊥
-has_no_place file tree place built named (inl unbuilt) = clash (unbuilt_file file) (formed_built_by file tree built) unbuilt
+-- a file that has a tree, and refers to variables alone, lacks no meaning
+lacks_none : (file : File) (tree : UnitTree) (refusal : Refusal) → second_form file ≡ Some tree → IsSound reference_rows (phrases_in file) → LacksMeaning file (phrases_in file) refusal → ⊥
+lacks_none file tree refusal built referring (inl unbuilt) = clash (unbuilt_file file) (formed_built_by file tree built) unbuilt.1
   where
-    clash : (found : _) → found ≡ None → found ≡ Some place → ⊥
+    clash : (found : _) → found ≡ None → found ≡ Some refusal.place → ⊥
     clash found none some = cc
-has_no_place file tree place built named (inr (other, also, wrong)) =
-    clash (misnamed tree) (right_named tree named) (ap misnamed (same_Some tree other (sym built ∙ also)) ∙ wrong)
-  where
-    clash : (found : _) → found ≡ None → found ≡ Some place → ⊥
-    clash found none some = cc
+lacks_none file tree refusal built referring (inr (other, also, breaks)) = referring refusal.rule.0 refusal.place breaks
+
+unbroken : (file : File) (tree : UnitTree) (refusal : Refusal) → IsSound rows (phrases_in file) → second_form file ≡ Some tree → IsSound reference_rows (phrases_in file) → FileBreaks file refusal → ⊥
+unbroken file tree refusal named built referring (inl breaks) = named refusal.rule.0 refusal.place breaks
+unbroken file tree refusal named built referring (inr unmeant) = lacks_none file tree refusal built referring unmeant.lacking
 
 pub meaning_breaks_nothing : (number : ℕ) (text : List ℕ) (tree : UnitTree) (refusal : Refusal) → HasMeaning number text tree → Breaks number text refusal → ⊥
 meaning_breaks_nothing number text tree refusal has (inl breach) = no_breach number text has.read.tokens refusal.rule.0 refusal.place has.read.cut breach
 meaning_breaks_nothing number text tree refusal has (inr (inl unread)) =
     unread.unread.none has.file (subst (λ (tokens : List Token). IsFileOf tokens has.file) (one_cut number text has.read.tokens unread.tokens has.read.cut unread.cut) has.read.parsed)
-meaning_breaks_nothing number text tree refusal has (inr (inr unmeant)) =
-    has_no_place unmeant.file tree refusal.place (ap second_form (one_read number text unmeant.file has.file unmeant.read has.read) ∙ has.built) has.named unmeant.place
+meaning_breaks_nothing number text tree refusal has (inr (inr breaks)) =
+    unbroken has.file tree refusal has.named has.built has.referring
+    (subst (λ (file : File). FileBreaks file refusal) (one_read number text breaks.file has.file breaks.read has.read) breaks.broken)

@@ -17,9 +17,9 @@ pub record Asking : Type 0 where
   pub heards : List Heard
   pub room : ℕ
 
--- the names and the tables are those of the unit, and there is the room that is told
-pub record IsAsking (load : TreeLoad) (names : List (List ℕ)) (tables : Tables) (length_ room capacity : ℕ) : Type 0 where
-  pub names_are : names ≡ declared_names (unit_tree load.unit)
+-- the cells and the tables are those of the unit, and there is the room that is told
+pub record IsAsking (load : TreeLoad) (cells : List (List ℕ)) (tables : Tables) (length_ room capacity : ℕ) : Type 0 where
+  pub cells_are : cells ≡ declared_names (unit_tree load.unit)
   pub tables_are : tables ≡ tables_of (unit_tree load.unit)
   pub fits : length_ + room ≤ capacity
 

@@ -1,39 +1,82 @@
-ghost use Rattle.std.specs.Prelude.{IfErr, IfOk};
+ghost use Rattle.std.specs.Prelude.{◌≡◌, IfErr, IfOk};
 ghost use Rattle.hal_tree.specs.SeenUnits.{seen_file};
+ghost use Rattle.hal_names.specs.SeenNames.{seen_names};
+ghost use Rattle.hal_scope.specs.Rules.{IsSound, rows};
 ghost use Rattle.hal_top.specs.Programs.{IsProgramIn, IsProgramOf};
-ghost use Rattle.hal_top.specs.UnitTexts.{BreaksBy, HasNoMeaningAt};
+ghost use Rattle.hal_top.specs.UnitTexts.{BreaksBy, IsFaultOf, LacksMeaning, phrases_in};
 
-use hal_base::{Fault, Place, Refusal, Rule};
-use hal_built::built;
+use hal_base::{Fault, Refusal, Rule};
+use hal_built::{built, unbuilt_reference};
 use hal_core::Unit;
 use hal_lexer::tokens;
-use hal_meaning::{Names, resolve};
+use hal_meaning::Cells;
+use hal_names::Names;
 use hal_parse::parse;
+use hal_scope::resolve;
 use hal_tree::File;
 use std::alloc::{AllocError, Global};
+use std::slice::from_ref;
 
-/// A unit with the names that it declares.
+/// A unit with the cells of the names that it declares.
 #[derive(Drop)]
 pub struct Program {
     pub unit: Unit,
-    pub names: Names,
+    pub cells: Cells,
 }
 
-/// The rule that a phrase or a name without a meaning breaks.
+/// The rule that a phrase without a meaning breaks.
 const MEANINGLESS: Rule = Rule(410);
 
-/// The program in a file, or the place of its first phrase, else of its first name, that has no meaning.
-fn program_in(alloc: Global, file: &File) -> Result<Result<Program, Place>, AllocError>
-    ensures program { IfOk result (λ found. IfOk found (IsProgramIn (seen_file file.now))) }
-    ensures place { IfOk result (λ found. IfErr found (HasNoMeaningAt (seen_file file.now))) }
+/// The names of a file that breaks no rule of names; or a rule of names that it breaks, at its place; or want of memory.
+fn names_in<'a>(alloc: Global, file: &'a File) -> Result<Names<'a>, Fault>
+    ensures names { IfOk result (λ names. seen_names names ≡ phrases_in (seen_file file.now)) }
+    ensures sound { IfOk result (λ names. IsSound rows (phrases_in (seen_file file.now))) }
+    ensures broken { IfErr result (IsFaultOf (seen_file file.now)) }
+{
+    resolve(alloc, from_ref(file))
+}
+
+/// The program in a file with these names, or rule 410 at its first phrase that has no meaning.
+fn program_in(
+    alloc: Global,
+    file: &File,
+    names: &Names<'_>,
+) -> Result<Result<Program, Refusal>, AllocError>
+    ensures program { IfOk result (λ found. IfOk found (IsProgramIn (seen_file file.now) (seen_names names.now))) }
+    ensures broken { IfOk result (λ found. IfErr found (LacksMeaning (seen_file file.now) (seen_names names.now))) }
 {
     let unit = match built(alloc, file)? {
         Ok(unit) => unit,
-        Err(place) => return Ok(Err(place)),
+        Err(place) => {
+            return Ok(Err(Refusal {
+                rule: MEANINGLESS,
+                place,
+            }));
+        }
     };
-    match resolve(alloc, &unit)? {
-        Ok(names) => Ok(Ok(Program { unit, names })),
-        Err(place) => Ok(Err(place)),
+    match unbuilt_reference(names) {
+        None => {
+            let cells = Cells::of(alloc, &unit)?;
+            Ok(Ok(Program { unit, cells }))
+        }
+        Some((rule, place)) => Ok(Err(Refusal {
+            rule: Rule(rule),
+            place,
+        })),
+    }
+}
+
+/// The program of a file, or a rule of names that it breaks, or 410, at its place; or want of memory.
+fn program_of_file(alloc: Global, file: &File) -> Result<Program, Fault>
+    ensures sound { IfOk result (λ program. IsSound rows (phrases_in (seen_file file.now))) }
+    ensures program { IfOk result (IsProgramIn (seen_file file.now) (phrases_in (seen_file file.now))) }
+    ensures broken { IfErr result (IsFaultOf (seen_file file.now)) }
+{
+    let names = names_in(alloc, file)?;
+    match program_in(alloc, file, &names) {
+        Ok(Ok(program)) => Ok(program),
+        Ok(Err(refusal)) => Err(Fault::Broken(refusal)),
+        Err(error) => Err(Fault::Memory(error)),
     }
 }
 
@@ -44,12 +87,5 @@ pub fn program_of(alloc: Global, text: &[u8]) -> Result<Program, Fault>
 {
     let words = tokens(alloc, text, 0)?;
     let file = parse(alloc, words.as_slice(), 0)?;
-    match program_in(alloc, &file) {
-        Ok(Ok(program)) => Ok(program),
-        Ok(Err(place)) => Err(Fault::Broken(Refusal {
-            rule: MEANINGLESS,
-            place,
-        })),
-        Err(error) => Err(Fault::Memory(error)),
-    }
+    program_of_file(alloc, &file)
 }

@@ -1,18 +1,18 @@
 use crate::program::Program;
 use exec_model::Procs;
-use hal_meaning::{Heard, Names, TreeLoad, oracle_next, oracle_own, unit_tables};
+use hal_meaning::{Cells, Heard, TreeLoad, oracle_next, oracle_own, unit_tables};
 use hal_values::{Answer, Listing, Request, Tables, Value};
 use script_run::Owners;
 use std::alloc::{AllocError, Global};
 use std::marker::Model;
 
-/// The one process of a unit: the unit, its declared names and its tables, and what the process heard
+/// The one process of a unit: the unit, the cells of its declared names and its tables, and what the process heard
 /// of its answers. `room` is for how many more of them there is room.
 #[derive(Drop)]
 pub(crate) struct TreeProcs {
     alloc: Global,
     load: TreeLoad,
-    names: Names,
+    cells: Cells,
     tables: Tables,
     heards: Vec<Heard>,
     room: usize,
@@ -30,7 +30,7 @@ impl Model for TreeProcs {
 
     ghost view = { λ procs. record { load = procs.load; heards = procs.heards.items; room = procs.room } };
 
-    ghost invariant = { λ procs. IsAsking procs.load procs.names procs.tables (vec_len procs.heards) procs.room (vec_capacity procs.heards) };
+    ghost invariant = { λ procs. IsAsking procs.load procs.cells procs.tables (vec_len procs.heards) procs.room (vec_capacity procs.heards) };
 }
 
 impl TreeProcs {
@@ -47,7 +47,7 @@ impl TreeProcs {
         Ok(TreeProcs {
             alloc,
             load: TreeLoad { unit: program.unit },
-            names: program.names,
+            cells: program.cells,
             tables,
             heards: Vec::new(alloc),
             room: 0,
@@ -61,7 +61,7 @@ impl Owners for TreeProcs {
         let own = oracle_own(
             self.alloc,
             &self.load.unit,
-            &self.names,
+            &self.cells,
             self.heards.as_slice(),
         )?;
         let values = integers(self.alloc, own.as_slice())?;
@@ -91,7 +91,7 @@ impl Procs for TreeProcs {
         let request = oracle_next(
             self.alloc,
             &self.load.unit,
-            &self.names,
+            &self.cells,
             self.heards.as_slice(),
         )?;
         Ok(request)

@@ -1,13 +1,18 @@
 //! Makes a unit of so many bytes, as its first word says, 1000 where it has none, and parses its words so many times as its
 //! second word says, once where it has none; of the kind that its third word names, or of each kind. It prints how many
-//! words the unit has, and how often they were parsed. bench/parsing.py times it.
+//! words the unit has, and how often they were parsed. bench/parsing.py times it. Kinds of units that are full of names have so
+//! many of them, and it is the rules of names that are tried so many times; bench/names.py times that.
 #![tactic(auto)]
 
+mod names;
 mod texts;
 
 use hal_lexer::tokens;
 use hal_parse::parse;
+use hal_scope::resolve;
+use names::{NAMINGS, Naming};
 use std::alloc::Global;
+use std::slice::from_ref;
 use std::{env, io};
 use texts::{KINDS, Kind};
 
@@ -19,11 +24,11 @@ fn number(words: &[String], place: usize, or: usize) -> usize {
     }
 }
 
-/// Whether the third word names the kind, or there is none.
-fn is_asked(words: &[String], kind: Kind) -> bool {
+/// Whether the third word is this name of a kind, or there is none.
+fn is_asked(words: &[String], name: &str) -> bool {
     match words.get(2) {
         None => true,
-        Some(word) => word.as_str() == kind.name(),
+        Some(word) => word.as_str() == name,
     }
 }
 
@@ -41,16 +46,51 @@ fn counts_of(alloc: Global, text: &[u8], times: usize) -> (usize, usize) {
     (tokens.as_slice().len(), count)
 }
 
+/// How many words the text has, and how often of so many times its unit breaks no rule of names; no word where it is none.
+fn named_counts_of(alloc: Global, text: &[u8], times: usize) -> (usize, usize) {
+    let Ok(tokens) = tokens(alloc, text, 0) else {
+        return (0, 0);
+    };
+    let Ok(file) = parse(alloc, tokens.as_slice(), 0) else {
+        return (0, 0);
+    };
+    let mut count = 0usize;
+    for _ in 0..times {
+        if resolve(alloc, from_ref(&file)).is_ok() {
+            count = count.saturating_add(1);
+        }
+    }
+    (tokens.as_slice().len(), count)
+}
+
+/// Parses a unit of a kind, and tells it.
+fn try_kind(rt: &HostRuntime, kind: Kind, size: usize, times: usize) -> io::Result<()> {
+    let text = kind.text(rt.alloc(), size)?;
+    let (count, parsed) = counts_of(rt.alloc(), text.as_slice(), times);
+    let name = kind.name();
+    println!(rt; "{name} {count} words parsed {parsed}")
+}
+
+/// Tries the rules of names on a unit that is full of names, and tells it.
+fn try_naming(rt: &HostRuntime, naming: Naming, size: usize, times: usize) -> io::Result<()> {
+    let text = naming.text(rt.alloc(), size)?;
+    let (count, right) = named_counts_of(rt.alloc(), text.as_bytes(), times);
+    let name = naming.name();
+    println!(rt; "{name} {count} words resolved {right}")
+}
+
 fn main(rt: HostRuntime) -> io::Result<()> {
     let words: Vec<String> = env::args(&rt)?.skip(1).collect(rt.alloc())?;
     let size = number(words.as_slice(), 0, 1_000);
     let times = number(words.as_slice(), 1, 1);
     for kind in KINDS {
-        if is_asked(words.as_slice(), kind) {
-            let text = kind.text(rt.alloc(), size)?;
-            let (count, parsed) = counts_of(rt.alloc(), text.as_slice(), times);
-            let name = kind.name();
-            println!(rt; "{name} {count} words parsed {parsed}")?;
+        if is_asked(words.as_slice(), kind.name()) {
+            try_kind(&rt, kind, size, times)?;
+        }
+    }
+    for naming in NAMINGS {
+        if is_asked(words.as_slice(), naming.name()) {
+            try_naming(&rt, naming, size, times)?;
         }
     }
     Ok(())

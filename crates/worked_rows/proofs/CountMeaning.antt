@@ -1,6 +1,5 @@
--- The text of the unit with a group has the words of its file, whose tree is that of the unit, and its names are declared.
-use Rattle.std.proofs.Common.{◌≡◌, Some, [], ◌∷◌, codes, refl, arith, lit≤}
-use Rattle.std.proofs.lemmas.List.Elements.{All-from_recursion}
+-- The text of the unit with a group has the words of its file, whose tree is that of the unit.
+use Rattle.std.proofs.Common.{◌≡◌, Some, [], refl, arith, lit≤}
 use Rattle.hal_base.specs.declared.refusal.Place.{Place}
 use Rattle.hal_words.specs.declared.reserved.Reserved.TheVariants as reserved
 use Rattle.hal_words.specs.declared.word.Word.TheVariants as word
@@ -12,13 +11,10 @@ use Rattle.hal_grammar.specs.SpellsDeclarations.{last, declares, declared, attri
 use Rattle.hal_grammar.specs.SpellsStatements.{labelled, no_labels, assigned, outputs, chosen, looped_while, no_alternative, groups, statements_end, statements_more}
 use Rattle.hal_grammar.specs.SpellsFiles.{SpellsFile, block_alone, block, program_head, statement_first, closed}
 use Rattle.hal_grammar.proofs.Derived.{first_is, equals_no_label, reserved_no_label, sum_of, expression_of, number, named}
-use Rattle.hal_core.specs.Naming.{IsOnce, HasRightNames}
 use Rattle.hal_built.specs.SecondForm.{both as built_both, operand_of, terms_of, sum_of as built_sum, sums_of, relation_of, comparison_of, channel_of, target_of, statement_of, basic_of, alternative_of, body_of, declared_of, declaration_of, declarations_of, elements_of, closes, block_of, second_form}
 use Rattle.worked_rows.specs.Files.{count_file}
 use Rattle.worked_rows.specs.CountWords.{count_text, count_tokens}
 use Rattle.worked_rows.specs.Trees.{count_tree}
-use Rattle.worked_rows.proofs.HelloMeaning.{once}
-use Rattle.worked_rows.proofs.Texts.{not_among}
 
 -- the words of its text
 pub IsCut-count : IsCut 0 count_text count_tokens
@@ -60,9 +56,3 @@ SpellsFile-count =
 pub built-count : second_form count_file ≡ Some count_tree
 unfolding built_both operand_of terms_of built_sum sums_of relation_of comparison_of channel_of target_of statement_of basic_of alternative_of body_of declared_of declaration_of declarations_of elements_of closes block_of second_form
 built-count = refl
-
-pub HasRightNames-count : HasRightNames count_tree
-HasRightNames-count = record {
-  used = All-from_recursion (IsOnce (codes "N" ∷ [])) (codes "N" ∷ codes "N" ∷ codes "N" ∷ codes "N" ∷ codes "N" ∷ []) (once, (once, (once, (once, (once, tt)))));
-  own = not_among (codes "N" ∷ []) (codes "P") refl;
-}

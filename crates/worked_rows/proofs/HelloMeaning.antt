@@ -1,6 +1,5 @@
--- The text of HELLO has the words of its file, whose tree is that of HELLO, and its names are declared.
-use Rattle.std.proofs.Common.{◌≡◌, Some, [], ◌∷◌, codes, refl, arith, lit≤}
-use Rattle.std.proofs.lemmas.List.Elements.{All-from_recursion}
+-- The text of HELLO has the words of its file, whose tree is that of HELLO.
+use Rattle.std.proofs.Common.{◌≡◌, Some, [], refl, arith, lit≤}
 use Rattle.hal_words.specs.Reserved.{reserved_words, left_out_words}
 use Rattle.hal_words.specs.Words.{IsCut}
 use Rattle.hal_grammar.specs.SpellsExpressions.{plus, factor, primary, summed, more_terms, no_terms, no_further, unsubscripted, refers, last_expression}
@@ -8,12 +7,10 @@ use Rattle.hal_grammar.specs.SpellsDeclarations.{last, declares, declared, attri
 use Rattle.hal_grammar.specs.SpellsStatements.{labelled, no_labels, assigned, outputs}
 use Rattle.hal_grammar.specs.SpellsFiles.{SpellsFile, block_alone, block, program_head, statement_first, closed}
 use Rattle.hal_grammar.proofs.Derived.{name_not_reserved, equals_no_label, reserved_no_label, sum_of, expression_of, number, named}
-use Rattle.hal_core.specs.Naming.{IsOnce, HasRightNames}
 use Rattle.hal_built.specs.SecondForm.{both, operand_of, terms_of, sum_of as built_sum, sums_of, channel_of, target_of, statement_of, basic_of, initial_of, declared_of, declaration_of, declarations_of, elements_of, closes, block_of, second_form}
 use Rattle.worked_rows.specs.Files.{hello_file}
 use Rattle.worked_rows.specs.HelloWords.{hello_text, hello_tokens}
 use Rattle.worked_rows.specs.Trees.{hello_tree}
-use Rattle.worked_rows.proofs.Texts.{not_among}
 
 -- the words of its text
 pub IsCut-hello : IsCut 0 hello_text hello_tokens
@@ -38,13 +35,3 @@ SpellsFile-hello =
 pub built-hello : second_form hello_file ≡ Some hello_tree
 unfolding both operand_of terms_of built_sum sums_of channel_of target_of statement_of basic_of initial_of declared_of declaration_of declarations_of elements_of closes block_of second_form
 built-hello = refl
-
--- the one name is declared once
-pub once : IsOnce (codes "N" ∷ []) (codes "N")
-once = record { before = []; after = []; here = refl; first = λ h. omega (arith, h.1); last = λ h. omega (arith, h.1) }
-
-pub HasRightNames-hello : HasRightNames hello_tree
-HasRightNames-hello = record {
-  used = All-from_recursion (IsOnce (codes "N" ∷ [])) (codes "N" ∷ codes "N" ∷ codes "N" ∷ []) (once, (once, (once, tt)));
-  own = not_among (codes "N" ∷ []) (codes "HELLO") refl;
-}

@@ -1,3 +1,3 @@
-pub mod Texts
 pub mod HelloMeaning
 pub mod CountMeaning
+pub mod Names

@@ -4,7 +4,8 @@ ghost use Rattle.std.specs.Prelude.{◌≡◌, [], ◌∷◌, Some, codes};
 ghost use Rattle.std.specs.Str.Lines.{lines};
 ghost use Rattle.hal_words.specs.Words.{IsCut};
 ghost use Rattle.hal_grammar.specs.SpellsFiles.{SpellsFile};
-ghost use Rattle.hal_core.specs.Naming.{HasRightNames};
+ghost use Rattle.hal_phrases.specs.GatheredUnits.{phrases_of};
+ghost use Rattle.hal_scope.specs.Rules.{IsSound, rows};
 ghost use Rattle.hal_built.specs.SecondForm.{second_form};
 ghost use Rattle.hal_top.specs.UnitTexts.{HasMeaning};
 ghost use Rattle.hal_script.specs.ScriptTexts.{IsScriptOf};
@@ -60,9 +61,9 @@ pub fn hello_is_built()
     ensures { second_form hello_file ≡ Some hello_tree }
 {}
 
-/// HELLO declares the names that it uses, each once.
+/// HELLO breaks no rule of names.
 pub fn hello_is_named()
-    ensures { HasRightNames hello_tree }
+    ensures { IsSound rows (phrases_of (hello_file ∷ [])) }
 {}
 
 /// A script of one line.

@@ -6,5 +6,5 @@ use Rattle.hal_meaning.proofs.lines.items_values.Given as goal
 
 abbrev pub invariant-loop-item : goal.invariant-loop-item
 invariant-loop-item l =
-    checked_then (items_values l.names l.own (map sum_tree (drop l.item-index l.items))) (λ later. Good (l.values.items ++ later))
-    ≡ items_values l.names l.own (map sum_tree l.items)
+    checked_then (items_values l.cells l.own (map sum_tree (drop l.item-index l.items))) (λ later. Good (l.values.items ++ later))
+    ≡ items_values l.cells l.own (map sum_tree l.items)

@@ -23,7 +23,7 @@ statement-returns-in-Write-clause-meaning t c =
     IfOk-weaker c.write.result _ _
     (λ course is.
     ComesTo-seen _ _ _ _ _ _ (seen_written c.args.one.now c.in-Write.channel c.in-Write.items c.in-Write.is)
-    (ComesTo-plain _ _ _ _ (ap (λ (items : List Sum). write c.args.names.now c.in-Write.channel.number (map sum_tree items) (state_of c.args.own.now c.args.left.now)) (sym c.as_slice.ensures.value) ∙ is)))
+    (ComesTo-plain _ _ _ _ (ap (λ (items : List Sum). write c.args.cells.now c.in-Write.channel.number (map sum_tree items) (state_of c.args.own.now c.args.left.now)) (sym c.as_slice.ensures.value) ∙ is)))
     c.write.ensures.meaning
 
 pub statement-returns-in-Ok-true-clause-meaning : goal.statement-returns-in-Ok-true-clause-meaning
@@ -31,7 +31,7 @@ statement-returns-in-Ok-true-clause-meaning t c =
     IfOk-weaker c.statement.result _ _
     (λ course comes.
     ComesTo-seen _ _ _ _ _ _ (seen_chosen c.args.one.now c.in-If.condition c.in-If.consequence c.in-If.alternative c.in-If.is)
-    (ComesTo-held c.args.names.now c.args.one.now.place (comparison_tree c.in-If.condition) c.deref.result.now c.in-If.consequence.value (alternative_tree c.in-If.alternative) c.args.own.now c.args.left.now (checked c.comparison_value.result) _ c.comparison_value.ensures (ap checked c.in-Ok-true.is ∙ ap Good c.in-Ok-true.field-0-test) c.deref.ensures comes))
+    (ComesTo-held c.args.cells.now c.args.one.now.place (comparison_tree c.in-If.condition) c.deref.result.now c.in-If.consequence.value (alternative_tree c.in-If.alternative) c.args.own.now c.args.left.now (checked c.comparison_value.result) _ c.comparison_value.ensures (ap checked c.in-Ok-true.is ∙ ap Good c.in-Ok-true.field-0-test) c.deref.ensures comes))
     c.statement.ensures.meaning
 
 pub statement-returns-in-Some-clause-meaning : goal.statement-returns-in-Some-clause-meaning
@@ -39,30 +39,30 @@ statement-returns-in-Some-clause-meaning t c =
     IfOk-weaker c.statement-in-Some.result _ _
     (λ course comes.
     ComesTo-seen _ _ _ _ _ _ (seen_else c.args.one.now c.in-If.condition c.in-If.consequence c.in-If.alternative c.in-Some.alternative c.in-If.is c.in-Some.is)
-    (ComesTo-else c.args.names.now c.args.one.now.place (comparison_tree c.in-If.condition) (statement_tree c.in-If.consequence.value) c.deref-in-Some.result.now c.in-Some.alternative.value c.args.own.now c.args.left.now (checked c.comparison_value.result) _ c.comparison_value.ensures (ap checked c.in-Ok-false.is ∙ ap Good c.in-Ok-false.field-0-test) c.deref-in-Some.ensures comes))
+    (ComesTo-else c.args.cells.now c.args.one.now.place (comparison_tree c.in-If.condition) (statement_tree c.in-If.consequence.value) c.deref-in-Some.result.now c.in-Some.alternative.value c.args.own.now c.args.left.now (checked c.comparison_value.result) _ c.comparison_value.ensures (ap checked c.in-Ok-false.is ∙ ap Good c.in-Ok-false.field-0-test) c.deref-in-Some.ensures comes))
     c.statement-in-Some.ensures.meaning
 
 pub statement-returns-in-None-clause-meaning : goal.statement-returns-in-None-clause-meaning
 statement-returns-in-None-clause-meaning t c =
     ComesTo-seen _ _ _ _ _ _ (seen_no_else c.args.one.now c.in-If.condition c.in-If.consequence c.in-If.alternative c.in-If.is c.in-None.is)
-    (ComesTo-no_else c.args.names.now c.args.one.now.place (comparison_tree c.in-If.condition) (statement_tree c.in-If.consequence.value) c.args.own.now c.args.left.now (checked c.comparison_value.result) c.comparison_value.ensures (ap checked c.in-Ok-false.is ∙ ap Good c.in-Ok-false.field-0-test))
+    (ComesTo-no_else c.args.cells.now c.args.one.now.place (comparison_tree c.in-If.condition) (statement_tree c.in-If.consequence.value) c.args.own.now c.args.left.now (checked c.comparison_value.result) c.comparison_value.ensures (ap checked c.in-Ok-false.is ∙ ap Good c.in-Ok-false.field-0-test))
 
 pub statement-returns-in-Err-clause-meaning : goal.statement-returns-in-Err-clause-meaning
 statement-returns-in-Err-clause-meaning t c =
     ComesTo-seen _ _ _ _ _ _ (seen_chosen c.args.one.now c.in-If.condition c.in-If.consequence c.in-If.alternative c.in-If.is)
-    (ComesTo-bad c.args.names.now c.args.one.now.place (comparison_tree c.in-If.condition) (statement_tree c.in-If.consequence.value) (alternative_tree c.in-If.alternative) c.args.own.now c.args.left.now (checked c.comparison_value.result) _ _ c.comparison_value.ensures (ap checked c.in-Err.is) (c.fails.ensures.meaning c.args.own.now))
+    (ComesTo-bad c.args.cells.now c.args.one.now.place (comparison_tree c.in-If.condition) (statement_tree c.in-If.consequence.value) (alternative_tree c.in-If.alternative) c.args.own.now c.args.left.now (checked c.comparison_value.result) _ _ c.comparison_value.ensures (ap checked c.in-Err.is) (c.fails.ensures.meaning c.args.own.now))
 
 pub statement-returns-in-While-clause-meaning : goal.statement-returns-in-While-clause-meaning
 statement-returns-in-While-clause-meaning t c =
     IfOk-weaker c.group.result _ _
     (λ course comes.
     ComesTo-seen _ _ _ _ _ _ (seen_looped c.args.one.now c.in-While.condition c.in-While.body c.in-While.is)
-    (ComesTo-looped c.args.names.now c.args.one.now.place (comparison_tree c.in-While.condition) c.as_slice-in-While.result.now c.in-While.body.items c.args.own.now c.args.left.now _ c.as_slice-in-While.ensures.value comes))
+    (ComesTo-looped c.args.cells.now c.args.one.now.place (comparison_tree c.in-While.condition) c.as_slice-in-While.result.now c.in-While.body.items c.args.own.now c.args.left.now _ c.as_slice-in-While.ensures.value comes))
     c.group.ensures.meaning
 
 pub turn-returns-in-Done-clause-meaning : goal.turn-returns-in-Done-clause-meaning
 turn-returns-in-Done-clause-meaning t c =
     IfOk-weaker c.statements.result _ _
     (λ course comes.
-    ComesTo-asked _ _ _ _ _ _ (λ begun rec. statements rec c.args.names.now (body_tree c.args.body.now) begun) _ c.asks.ensures.meaning c.asks.ensures.shorter c.in-Done.is comes)
+    ComesTo-asked _ _ _ _ _ _ (λ begun rec. statements rec c.args.cells.now (body_tree c.args.body.now) begun) _ c.asks.ensures.meaning c.asks.ensures.shorter c.in-Done.is comes)
     c.statements.ensures.meaning

@@ -4,4 +4,4 @@ use Rattle.hal_meaning.proofs.sums.sum_value.Given as goal
 
 abbrev pub invariant-loop-term : goal.invariant-loop-term
 invariant-loop-term l =
-    terms_value l.names l.own l.value (drop l.term-index l.term-items) ≡ terms_value l.names l.own l.initial.value l.term-items
+    terms_value l.cells l.own l.value (drop l.term-index l.term-items) ≡ terms_value l.cells l.own l.initial.value l.term-items

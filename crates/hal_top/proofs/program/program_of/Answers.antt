@@ -2,12 +2,17 @@ use Rattle.std.proofs.Common.{List, subst}
 use Rattle.hal_words.specs.declared.word.Token.{Token}
 use Rattle.hal_parse.specs.Parsed.{IsParsed}
 use Rattle.hal_tree.specs.SeenUnits.{seen_file}
-use Rattle.hal_top.specs.Programs.{IsProgramIn}
-use Rattle.hal_top.proofs.Stages.{program_found}
+use Rattle.hal_top.proofs.Stages.{program_told, fault_told}
 use Rattle.hal_top.proofs.program.program_of.Goals as goal
 
-pub returns-in-Ok-Ok-clause-program : goal.returns-in-Ok-Ok-clause-program
-returns-in-Ok-Ok-clause-program c =
-    let inside : IsProgramIn (seen_file c.in_ok-file.file) c.in-Ok-Ok.program = rw c.in-Ok-Ok.field-0-is at c.in-Ok-Ok.ensures.program in
-    program_found c.args.text.now c.in_ok-words.words (seen_file c.in_ok-file.file) c.in-Ok-Ok.program c.in_ok-words.ensures.cut
-    (subst (λ (tokens : List Token). IsParsed tokens (seen_file c.in_ok-file.file)) c.as_slice.ensures.words c.in_ok-file.ensures.parsed) inside
+pub returns-clause-program : goal.returns-clause-program
+returns-clause-program c =
+    program_told c.args.text.now c.in_ok-words.words (seen_file c.in_ok-file.file) c.program_of_file.result c.in_ok-words.ensures.cut
+    (subst (λ (tokens : List Token). IsParsed tokens (seen_file c.in_ok-file.file)) c.as_slice.ensures.words c.in_ok-file.ensures.parsed)
+    c.program_of_file.ensures.sound c.program_of_file.ensures.program
+
+pub returns-clause-broken : goal.returns-clause-broken
+returns-clause-broken c =
+    fault_told c.args.text.now c.in_ok-words.words (seen_file c.in_ok-file.file) c.program_of_file.result c.in_ok-words.ensures.cut
+    (subst (λ (tokens : List Token). IsParsed tokens (seen_file c.in_ok-file.file)) c.as_slice.ensures.words c.in_ok-file.ensures.parsed)
+    c.program_of_file.ensures.broken
