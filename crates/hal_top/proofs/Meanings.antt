@@ -13,6 +13,7 @@ use Rattle.hal_grammar.specs.Units.{File}
 use Rattle.hal_grammar.specs.SpellsFiles.{SpellsFile}
 use Rattle.hal_grammar.proofs.OneFile.{one_file}
 use Rattle.hal_scope.specs.Rules.{IsSound, rows}
+use Rattle.hal_types.specs.Rules.{type_rows}
 use Rattle.hal_parse.specs.Parsed.{IsFileOf}
 use Rattle.hal_core.specs.Tree.{UnitTree}
 use Rattle.hal_built.specs.References.{reference_rows}
@@ -71,14 +72,15 @@ lacks_none file tree refusal built referring (inl unbuilt) = clash (unbuilt_file
     clash found none some = cc
 lacks_none file tree refusal built referring (inr (other, also, breaks)) = referring refusal.rule.0 refusal.place breaks
 
-unbroken : (file : File) (tree : UnitTree) (refusal : Refusal) → IsSound rows (phrases_in file) → second_form file ≡ Some tree → IsSound reference_rows (phrases_in file) → FileBreaks file refusal → ⊥
-unbroken file tree refusal named built referring (inl breaks) = named refusal.rule.0 refusal.place breaks
-unbroken file tree refusal named built referring (inr unmeant) = lacks_none file tree refusal built referring unmeant.lacking
+unbroken : (file : File) (tree : UnitTree) (refusal : Refusal) → IsSound rows (phrases_in file) → IsSound type_rows (phrases_in file) → second_form file ≡ Some tree → IsSound reference_rows (phrases_in file) → FileBreaks file refusal → ⊥
+unbroken file tree refusal named typed built referring (inl breaks) = named refusal.rule.0 refusal.place breaks
+unbroken file tree refusal named typed built referring (inr (inl breaks)) = typed refusal.rule.0 refusal.place breaks
+unbroken file tree refusal named typed built referring (inr (inr unmeant)) = lacks_none file tree refusal built referring unmeant.lacking
 
 pub meaning_breaks_nothing : (number : ℕ) (text : List ℕ) (tree : UnitTree) (refusal : Refusal) → HasMeaning number text tree → Breaks number text refusal → ⊥
 meaning_breaks_nothing number text tree refusal has (inl breach) = no_breach number text has.read.tokens refusal.rule.0 refusal.place has.read.cut breach
 meaning_breaks_nothing number text tree refusal has (inr (inl unread)) =
     unread.unread.none has.file (subst (λ (tokens : List Token). IsFileOf tokens has.file) (one_cut number text has.read.tokens unread.tokens has.read.cut unread.cut) has.read.parsed)
 meaning_breaks_nothing number text tree refusal has (inr (inr breaks)) =
-    unbroken has.file tree refusal has.named has.built has.referring
+    unbroken has.file tree refusal has.named has.typed has.built has.referring
     (subst (λ (file : File). FileBreaks file refusal) (one_read number text breaks.file has.file breaks.read has.read) breaks.broken)

@@ -9,6 +9,8 @@ use Rattle.hal_lexer.specs.Faults as words
 use Rattle.hal_grammar.specs.Units.{File}
 use Rattle.hal_scope.specs.Rules.{IsSound, rows}
 use Rattle.hal_scope.specs.Faults.{IsBrokenBy}
+use Rattle.hal_types.specs.Rules.{type_rows}
+use Rattle.hal_types.specs.Faults.{IsMistypedBy}
 use Rattle.hal_parse.specs.Parsed.{IsParsed, Refuses}
 use Rattle.hal_core.specs.View.{unit_tree}
 use Rattle.hal_top.specs.declared.program.Program.{Program}
@@ -41,11 +43,16 @@ wrong_names file (Ok x) breaks = tt
 wrong_names file (Err (fault.Broken refusal)) breaks = inl breaks
 wrong_names file (Err (fault.Memory error)) breaks = tt
 
+-- it breaks a rule of types
+pub wrong_types : (file : File) (why : Fault) → IsMistypedBy (phrases_in file) why → IsFaultOf file why
+wrong_types file (fault.Broken refusal) breaks = inr (inl breaks)
+wrong_types file (fault.Memory error) breaks = tt
+
 -- the program in the file is that of the text
-pub program_found : (text : List ℕ) (tokens : List Token) (file : File) (program : Program) → IsCut 0 text tokens → IsParsed tokens file → IsSound rows (phrases_in file) → IsProgramIn file (phrases_in file) program → IsProgramOf text program
-program_found text tokens file program cut parsed named inside =
+pub program_found : (text : List ℕ) (tokens : List Token) (file : File) (program : Program) → IsCut 0 text tokens → IsParsed tokens file → IsSound rows (phrases_in file) → IsSound type_rows (phrases_in file) → IsProgramIn file (phrases_in file) program → IsProgramOf text program
+program_found text tokens file program cut parsed named typed inside =
     let has : HasMeaning 0 text (unit_tree program.unit) =
-    record { file = file; read = read_as 0 text tokens file cut parsed; named = named; built = inside.built; referring = inside.referring } in
+    record { file = file; read = read_as 0 text tokens file cut parsed; named = named; typed = typed; built = inside.built; referring = inside.referring } in
     record {
       has = has;
       only = λ tree other. one_meaning 0 text tree (unit_tree program.unit) other has;
@@ -57,9 +64,9 @@ program_found text tokens file program cut parsed named inside =
 
 -- what is said of a file is said of its text
 pub program_told : (text : List ℕ) (tokens : List Token) (file : File) (result : Result Program Fault) → IsCut 0 text tokens → IsParsed tokens file
-    → IfOk result (λ program. IsSound rows (phrases_in file)) → IfOk result (IsProgramIn file (phrases_in file)) → IfOk result (IsProgramOf text)
-program_told text tokens file (Ok program) cut parsed named inside = program_found text tokens file program cut parsed named inside
-program_told text tokens file (Err why) cut parsed named inside = tt
+    → IfOk result (λ program. IsSound rows (phrases_in file)) → IfOk result (λ program. IsSound type_rows (phrases_in file)) → IfOk result (IsProgramIn file (phrases_in file)) → IfOk result (IsProgramOf text)
+program_told text tokens file (Ok program) cut parsed named typed inside = program_found text tokens file program cut parsed named typed inside
+program_told text tokens file (Err why) cut parsed named typed inside = tt
 
 pub fault_told : (text : List ℕ) (tokens : List Token) (file : File) (result : Result Program Fault) → IsCut 0 text tokens → IsParsed tokens file → IfErr result (IsFaultOf file) → IfErr result (BreaksBy 0 text)
 fault_told text tokens file (Ok program) cut parsed broken = tt

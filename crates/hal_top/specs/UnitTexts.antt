@@ -10,6 +10,7 @@ use Rattle.hal_phrases.specs.Phrases.{Phrase}
 use Rattle.hal_phrases.specs.GatheredUnits.{phrases_of}
 use Rattle.hal_scope.specs.Rules.{Row, IsSound, rows}
 use Rattle.hal_scope.specs.Rules as scope
+use Rattle.hal_types.specs.Rules.{type_rows}
 use Rattle.hal_parse.specs.Parsed.{IsFileOf, IsUnread}
 use Rattle.hal_core.specs.Tree.{UnitTree}
 use Rattle.hal_built.specs.References.{reference_rows}
@@ -26,11 +27,12 @@ pub record IsRead (number : ℕ) (text : List ℕ) (file : File) : Type 0 where
 abbrev pub phrases_in : File → List Phrase
 phrases_in file = phrases_of (file ∷ [])
 
--- no rule of names is broken, each phrase of the file has a meaning, each reference is to a variable, and this is the tree
+-- no rule of names or types is broken, each phrase of the file has a meaning, each reference is to a variable, and this is the tree
 pub record HasMeaning (number : ℕ) (text : List ℕ) (tree : UnitTree) : Type 0 where
   pub file : File
   pub read : IsRead number text file
   pub named : IsSound rows (phrases_in file)
+  pub typed : IsSound type_rows (phrases_in file)
   pub built : second_form file ≡ Some tree
   pub referring : IsSound reference_rows (phrases_in file)
 
@@ -48,14 +50,15 @@ BreaksRow table ps refusal = scope.Breaks table ps refusal.rule.0 refusal.place
 abbrev pub LacksMeaning : File → List Phrase → Refusal → Type 0
 LacksMeaning file ps refusal = ((refusal.rule.0 ≡ 410) × (unbuilt_file file ≡ Some refusal.place)) ⊎ ((tree : UnitTree) × (second_form file ≡ Some tree) × BreaksRow reference_rows ps refusal)
 
--- it is told where the file breaks no rule of names
+-- it is told where the file breaks no rule of names or types
 pub record HasNoMeaning (file : File) (refusal : Refusal) : Type 0 where
   pub named : IsSound rows (phrases_in file)
+  pub typed : IsSound type_rows (phrases_in file)
   pub lacking : LacksMeaning file (phrases_in file) refusal
 
--- a file breaks a rule of names, or 410
+-- a file breaks a rule of names, of types, or 410
 abbrev pub FileBreaks : File → Refusal → Type 0
-FileBreaks file refusal = BreaksRow rows (phrases_in file) refusal ⊎ HasNoMeaning file refusal
+FileBreaks file refusal = BreaksRow rows (phrases_in file) refusal ⊎ BreaksRow type_rows (phrases_in file) refusal ⊎ HasNoMeaning file refusal
 
 -- the text is that of a file that breaks a rule
 pub record BreaksMeaning (number : ℕ) (text : List ℕ) (refusal : Refusal) : Type 0 where
@@ -63,7 +66,7 @@ pub record BreaksMeaning (number : ℕ) (text : List ℕ) (refusal : Refusal) : 
   pub read : IsRead number text file
   pub broken : FileBreaks file refusal
 
--- a rule of words, 401, a rule of names, or 410
+-- a rule of words, 401, a rule of names or types, or 410
 abbrev pub Breaks : ℕ → List ℕ → Refusal → Type 0
 Breaks number text refusal = words.BreaksWordRule number text refusal.rule.0 refusal.place ⊎ BreaksGrammar number text refusal ⊎ BreaksMeaning number text refusal
 

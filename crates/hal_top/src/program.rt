@@ -2,6 +2,7 @@ ghost use Rattle.std.specs.Prelude.{◌≡◌, IfErr, IfOk};
 ghost use Rattle.hal_tree.specs.SeenUnits.{seen_file};
 ghost use Rattle.hal_names.specs.SeenNames.{seen_names};
 ghost use Rattle.hal_scope.specs.Rules.{IsSound, rows};
+ghost use Rattle.hal_types.specs.Rules.{type_rows};
 ghost use Rattle.hal_top.specs.Programs.{IsProgramIn, IsProgramOf};
 ghost use Rattle.hal_top.specs.UnitTexts.{BreaksBy, IsFaultOf, LacksMeaning, phrases_in};
 
@@ -14,6 +15,7 @@ use hal_names::Names;
 use hal_parse::parse;
 use hal_scope::resolve;
 use hal_tree::File;
+use hal_types::check_types;
 use std::alloc::{AllocError, Global};
 use std::slice::from_ref;
 
@@ -34,6 +36,18 @@ fn names_in<'a>(alloc: Global, file: &'a File) -> Result<Names<'a>, Fault>
     ensures broken { IfErr result (IsFaultOf (seen_file file.now)) }
 {
     resolve(alloc, from_ref(file))
+}
+
+/// The names of a file that breaks no rule of names or types; or a rule of these that it breaks, at its place; or want of memory.
+fn checked_names<'a>(alloc: Global, file: &'a File) -> Result<Names<'a>, Fault>
+    ensures names { IfOk result (λ names. seen_names names ≡ phrases_in (seen_file file.now)) }
+    ensures named { IfOk result (λ names. IsSound rows (phrases_in (seen_file file.now))) }
+    ensures typed { IfOk result (λ names. IsSound type_rows (phrases_in (seen_file file.now))) }
+    ensures broken { IfErr result (IsFaultOf (seen_file file.now)) }
+{
+    let names = names_in(alloc, file)?;
+    check_types(&names)?;
+    Ok(names)
 }
 
 /// The program in a file with these names, or rule 410 at its first phrase that has no meaning.
@@ -66,13 +80,14 @@ fn program_in(
     }
 }
 
-/// The program of a file, or a rule of names that it breaks, or 410, at its place; or want of memory.
+/// The program of a file, or a rule of names or types that it breaks, or 410, at its place; or want of memory.
 fn program_of_file(alloc: Global, file: &File) -> Result<Program, Fault>
-    ensures sound { IfOk result (λ program. IsSound rows (phrases_in (seen_file file.now))) }
+    ensures named { IfOk result (λ program. IsSound rows (phrases_in (seen_file file.now))) }
+    ensures typed { IfOk result (λ program. IsSound type_rows (phrases_in (seen_file file.now))) }
     ensures program { IfOk result (IsProgramIn (seen_file file.now) (phrases_in (seen_file file.now))) }
     ensures broken { IfErr result (IsFaultOf (seen_file file.now)) }
 {
-    let names = names_in(alloc, file)?;
+    let names = checked_names(alloc, file)?;
     match program_in(alloc, file, &names) {
         Ok(Ok(program)) => Ok(program),
         Ok(Err(refusal)) => Err(Fault::Broken(refusal)),

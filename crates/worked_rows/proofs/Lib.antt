@@ -1,3 +1,4 @@
 pub mod HelloMeaning
 pub mod CountMeaning
 pub mod Names
+pub mod Types

@@ -9,7 +9,7 @@ pub returns-clause-program : goal.returns-clause-program
 returns-clause-program c =
     program_told c.args.text.now c.in_ok-words.words (seen_file c.in_ok-file.file) c.program_of_file.result c.in_ok-words.ensures.cut
     (subst (λ (tokens : List Token). IsParsed tokens (seen_file c.in_ok-file.file)) c.as_slice.ensures.words c.in_ok-file.ensures.parsed)
-    c.program_of_file.ensures.sound c.program_of_file.ensures.program
+    c.program_of_file.ensures.named c.program_of_file.ensures.typed c.program_of_file.ensures.program
 
 pub returns-clause-broken : goal.returns-clause-broken
 returns-clause-broken c =

@@ -14,7 +14,8 @@ returns-in-Ok-Ok-clause-program c =
 pub returns-in-Ok-Err-clause-broken : goal.returns-in-Ok-Err-clause-broken
 returns-in-Ok-Err-clause-broken c =
     let lacks : LacksMeaning (seen_file c.args.file.now) (seen_names c.in_ok-names.names) c.in-Ok-Err.refusal = rw c.in-Ok-Err.field-0-is at c.in-Ok-Err.ensures.broken in
-    inr (record {
-      named = c.in_ok-names.ensures.sound;
+    inr (inr (record {
+      named = c.in_ok-names.ensures.named;
+      typed = c.in_ok-names.ensures.typed;
       lacking = subst (λ (ps : List Phrase). LacksMeaning (seen_file c.args.file.now) ps c.in-Ok-Err.refusal) c.in_ok-names.ensures.names lacks;
-    })
+    }))

@@ -1,0 +1,48 @@
+-- The files of the worked units break no rule of types: computed phrase by phrase.
+use Rattle.std.proofs.Common.{◌≡◌, None, refl}
+use Rattle.hal_phrases.specs.GatheredDeclarations.{gathered_kind, gathered_initial, gathered_initials, gathered_attribute, gathered_item, gathered_declaration}
+use Rattle.hal_phrases.specs.GatheredExpressions.{gathered, gathered_all, gathered_terms, gathered_reference, gathered_subscript}
+use Rattle.hal_phrases.specs.GatheredStatements.{gathered_guard, gathered_statement, gathered_basic, gathered_alternative, gathered_group, gathered_statements}
+use Rattle.hal_phrases.specs.GatheredUnits.{gathered_head, gathered_block, gathered_elements, gathered_prefaces, name_of_block, gathered_file, phrases_of}
+use Rattle.hal_names.specs.Keys.{declared_at, same_space, same_key, own}
+use Rattle.hal_names.specs.Means.{is_compool_unit, unit_named, given_by, shown, shown_by, included, included_before, prefaces_of, nearest}
+use Rattle.hal_scope.specs.Builtins.{builtins}
+use Rattle.hal_scope.specs.Sorts.{type_in, type_among, sort_of_type, sort_of_head, sort_of}
+use Rattle.hal_scope.specs.Uses.{is_eventful, is_nil, refers_to_event, holds_event, hold_event, limit_of, limit_around}
+use Rattle.hal_scope.specs.Rules.{IsSound, fault, first_fault}
+use Rattle.hal_scope.proofs.Broken.{sound}
+use Rattle.hal_kinds.specs.Attributes.{count_of, no_more, sizes_in, sizes_among, initial_in, initial_among, constant_in, constant_among, same_mark, is_mark}
+use Rattle.hal_kinds.specs.Data.{class_of_type, has_copies, dimensions_of, data_of, part_data, part_under, data_at_part, component_of, component_data, data_at, is_event_type}
+use Rattle.hal_kinds.specs.Subscripts.{subscript_count, is_many, are_many, parts_chosen, choice_of, is_structure_class}
+use Rattle.hal_kinds.specs.Classes.{class_of_result, class_of_returns, class_of_head, class_of_form, class_of_builtin, class_at, class_of_reference, class_of_function, class_of_called_head, class_of_called, class_of_literal, class_of_conversion, beside, joined, enclosed, class_of, class_beside, class_joined}
+use Rattle.hal_attributes.specs.Features.{place_of_kind, place_of_attribute, feature_of_kind, feature_of_mark, feature_of, sort_of, excludes}
+use Rattle.hal_attributes.specs.Clashes.{clash_behind, clash_among, place_of_precision, clash_of_precision, clash_of_returns, clash_of_head, clashing}
+use Rattle.hal_attributes.specs.Levels.{may_follow, level_fault, misleveled, is_of_bottom, first_of_bottom, is_parent, parent_fault, overtyped}
+use Rattle.hal_attributes.specs.Typed.{is_untyped, untyped_head, untyped, is_template, named_as_template, is_structure_type, nested, misplaced_event, is_no_result, gives_no_value, no_result_head, no_result}
+use Rattle.hal_attributes.specs.Storage.{is_entered_head, is_entered, misstored}
+use Rattle.hal_operands.specs.Wants.{wanted, misfit_of_value, misfit_of_condition, misfit_of_whole, misfit, misfit_of_receiver, receiver_misfit, unfit}
+use Rattle.hal_operands.specs.Pairs.{is_equality, compared_fault, is_value, joined_fault, is_comparison, is_bits, mixed_behind, mixed_before, pair_fault, is_eventual, mismatched}
+use Rattle.hal_operands.specs.Taken.{takes, all_take, assigned_taken, head_takes, returned_taken, is_taken, untaken}
+use Rattle.hal_operands.specs.Times.{is_whole_time, is_timely, untimely, misfit_of_time, is_unsubscripted, is_plain, is_event_operand, is_event_part, timed, mistimed}
+use Rattle.hal_uses.specs.Forms.{is_integer_value, is_integer_literal, is_exponent, no_exponent, is_function_head, is_function, misreturned, selector_fault, no_error}
+use Rattle.hal_uses.specs.Real.{is_unlatched, is_kept, unlatched, is_process, no_process}
+use Rattle.hal_uses.specs.Receivers.{is_input, may_receive, is_component, put_fault, put, is_integer, counted_fault, variable_fault, reference_receives, misreceived}
+use Rattle.hal_uses.specs.Subscripts.{is_string, is_eventful_head, head_fault, is_event_name, data_fault, fault_at, reference_fault, missubscripted}
+use Rattle.hal_uses.specs.Calls.{signature_of, second_fault, listed_fault, has_copies_of, is_copied, misfit_of_size, sized, size_fault, formed_fault, is_condition, condition_fault, product_fault, is_base, declared_fault, called_head_fault, called_fault, lacks_arguments_head, lacks_arguments, is_operand_role, alone_fault, miscalled}
+use Rattle.hal_types.specs.Rules.{attribute_rows, operand_rows, use_rows, type_rows}
+use Rattle.hal_top.specs.UnitTexts.{phrases_in}
+use Rattle.worked_rows.specs.Files.{hello_file, count_file}
+
+untyped_none-hello : first_fault type_rows (phrases_in hello_file) (phrases_in hello_file) ≡ None
+unfolding gathered_kind gathered_initial gathered_initials gathered_attribute gathered_item gathered_declaration gathered gathered_all gathered_terms gathered_reference gathered_subscript gathered_guard gathered_statement gathered_basic gathered_alternative gathered_group gathered_statements gathered_head gathered_block gathered_elements gathered_prefaces name_of_block gathered_file phrases_of declared_at same_space same_key own is_compool_unit unit_named given_by shown shown_by included included_before prefaces_of nearest builtins type_in type_among sort_of_type sort_of_head is_eventful is_nil refers_to_event holds_event hold_event limit_of limit_around fault first_fault count_of no_more sizes_in sizes_among initial_in initial_among constant_in constant_among same_mark is_mark class_of_type has_copies dimensions_of data_of part_data part_under data_at_part component_of component_data data_at is_event_type subscript_count is_many are_many parts_chosen choice_of is_structure_class class_of_result class_of_returns class_of_head class_of_form class_of_builtin class_at class_of_reference class_of_function class_of_called_head class_of_called class_of_literal class_of_conversion beside joined enclosed class_of class_beside class_joined place_of_kind place_of_attribute feature_of_kind feature_of_mark feature_of sort_of excludes clash_behind clash_among place_of_precision clash_of_precision clash_of_returns clash_of_head clashing may_follow level_fault misleveled is_of_bottom first_of_bottom is_parent parent_fault overtyped is_untyped untyped_head untyped is_template named_as_template is_structure_type nested misplaced_event is_no_result gives_no_value no_result_head no_result is_entered_head is_entered misstored wanted misfit_of_value misfit_of_condition misfit_of_whole misfit misfit_of_receiver receiver_misfit unfit is_equality compared_fault is_value joined_fault is_comparison is_bits mixed_behind mixed_before pair_fault is_eventual mismatched takes all_take assigned_taken head_takes returned_taken is_taken untaken is_whole_time is_timely untimely misfit_of_time is_unsubscripted is_plain is_event_operand is_event_part timed mistimed is_integer_value is_integer_literal is_exponent no_exponent is_function_head is_function misreturned selector_fault no_error is_unlatched is_kept unlatched is_process no_process is_input may_receive is_component put_fault put is_integer counted_fault variable_fault reference_receives misreceived is_string is_eventful_head head_fault is_event_name data_fault fault_at reference_fault missubscripted signature_of second_fault listed_fault has_copies_of is_copied misfit_of_size sized size_fault formed_fault is_condition condition_fault product_fault is_base declared_fault called_head_fault called_fault lacks_arguments_head lacks_arguments is_operand_role alone_fault miscalled attribute_rows operand_rows use_rows type_rows
+untyped_none-hello = refl
+
+pub typed-hello : IsSound type_rows (phrases_in hello_file)
+typed-hello = sound type_rows (phrases_in hello_file) untyped_none-hello
+
+untyped_none-count : first_fault type_rows (phrases_in count_file) (phrases_in count_file) ≡ None
+unfolding gathered_kind gathered_initial gathered_initials gathered_attribute gathered_item gathered_declaration gathered gathered_all gathered_terms gathered_reference gathered_subscript gathered_guard gathered_statement gathered_basic gathered_alternative gathered_group gathered_statements gathered_head gathered_block gathered_elements gathered_prefaces name_of_block gathered_file phrases_of declared_at same_space same_key own is_compool_unit unit_named given_by shown shown_by included included_before prefaces_of nearest builtins type_in type_among sort_of_type sort_of_head is_eventful is_nil refers_to_event holds_event hold_event limit_of limit_around fault first_fault count_of no_more sizes_in sizes_among initial_in initial_among constant_in constant_among same_mark is_mark class_of_type has_copies dimensions_of data_of part_data part_under data_at_part component_of component_data data_at is_event_type subscript_count is_many are_many parts_chosen choice_of is_structure_class class_of_result class_of_returns class_of_head class_of_form class_of_builtin class_at class_of_reference class_of_function class_of_called_head class_of_called class_of_literal class_of_conversion beside joined enclosed class_of class_beside class_joined place_of_kind place_of_attribute feature_of_kind feature_of_mark feature_of sort_of excludes clash_behind clash_among place_of_precision clash_of_precision clash_of_returns clash_of_head clashing may_follow level_fault misleveled is_of_bottom first_of_bottom is_parent parent_fault overtyped is_untyped untyped_head untyped is_template named_as_template is_structure_type nested misplaced_event is_no_result gives_no_value no_result_head no_result is_entered_head is_entered misstored wanted misfit_of_value misfit_of_condition misfit_of_whole misfit misfit_of_receiver receiver_misfit unfit is_equality compared_fault is_value joined_fault is_comparison is_bits mixed_behind mixed_before pair_fault is_eventual mismatched takes all_take assigned_taken head_takes returned_taken is_taken untaken is_whole_time is_timely untimely misfit_of_time is_unsubscripted is_plain is_event_operand is_event_part timed mistimed is_integer_value is_integer_literal is_exponent no_exponent is_function_head is_function misreturned selector_fault no_error is_unlatched is_kept unlatched is_process no_process is_input may_receive is_component put_fault put is_integer counted_fault variable_fault reference_receives misreceived is_string is_eventful_head head_fault is_event_name data_fault fault_at reference_fault missubscripted signature_of second_fault listed_fault has_copies_of is_copied misfit_of_size sized size_fault formed_fault is_condition condition_fault product_fault is_base declared_fault called_head_fault called_fault lacks_arguments_head lacks_arguments is_operand_role alone_fault miscalled attribute_rows operand_rows use_rows type_rows
+untyped_none-count = refl
+
+pub typed-count : IsSound type_rows (phrases_in count_file)
+typed-count = sound type_rows (phrases_in count_file) untyped_none-count
