@@ -1,5 +1,5 @@
-//! Rows of names. `UNIT ~~ UNIT => rule 601 0 3:7` is a set of units that breaks a rule in unit 0 at a line and a column, and `UNIT => right` one that
-//! breaks no rule of names; both are tried as `set`. A newline in a unit is written `\n`.
+//! Rows of names and types. `UNIT ~~ UNIT => rule 601 0 3:7` is a set of units that breaks a rule in unit 0 at a line and a column, and `UNIT => right` one
+//! that breaks none: no rule of names where it is tried as `names`, and none of types either where it is tried as `types`. A newline in a unit is written `\n`.
 
 use hal_base::{Fault, Place, Refusal, Rule};
 use hal_lexer::tokens;
@@ -25,10 +25,12 @@ impl Rows for NameRows {
         let Some((units, _)) = row.split_once(ARROW) else {
             return String::from_str(alloc, "a row with nothing to try");
         };
-        if way != "set" {
-            return String::from_str(alloc, "a way in which nothing is tried");
-        }
-        let came = match names_of(alloc, units) {
+        let outcome = match way {
+            "names" => names_of(alloc, units),
+            "types" => types_of(alloc, units),
+            _ => return String::from_str(alloc, "a way in which nothing is tried"),
+        };
+        let came = match outcome {
             Ok(()) => String::from_str(alloc, "right")?,
             Err(Fault::Broken(refusal)) => told(alloc, refusal)?,
             Err(Fault::Memory(error)) => return Err(error),
@@ -70,6 +72,13 @@ fn files_of(alloc: Global, units: &str) -> Result<Vec<File>, Fault> {
 
 /// Whether a set of units breaks no rule of names.
 fn names_of(alloc: Global, units: &str) -> Result<(), Fault> {
+    let files = files_of(alloc, units)?;
+    resolve(alloc, files.as_slice())?;
+    Ok(())
+}
+
+/// Whether a set of units breaks no rule of names and none of types.
+fn types_of(alloc: Global, units: &str) -> Result<(), Fault> {
     let files = files_of(alloc, units)?;
     let names = resolve(alloc, files.as_slice())?;
     check_types(&names)
