@@ -22,6 +22,7 @@ WRONG_BODIES = re.compile(r'^## Wrong bodies that are refused\n(.*?)^## ', re.MU
 WRONG_BODY = re.compile(r'^\| `(\w+)` \| `(\w+)` \| .*?(\(tried by the gate\) )?\|$', re.MULTILINE)
 # The part of docs/LANGUAGE.md on names, and a row of its table of units: the unit, and the rule and the place, or that it is right.
 NAMES = re.compile(r'^## Names\n(.*?)^## ', re.MULTILINE | re.DOTALL)
+KINDS = re.compile(r'^## Kinds\n(.*?)^## ', re.MULTILINE | re.DOTALL)
 NAMED_UNIT = re.compile(r'^\| `( [^`]*;)` \| (?:(\d+), (\d+:\d+)|right) \|$', re.MULTILINE)
 
 
@@ -53,11 +54,11 @@ def wrong_body_faults():
         yield f'{tier}/{edit} of {crate} is {"not listed" if (crate, tier, edit) in there else "listed and not there"}'
 
 
-def named_unit_faults():
-    """Units of docs/LANGUAGE.md, "Names", that are no row of the file which the document names, and rows that it leaves out."""
-    table = NAMES.search((ROOT / 'docs/LANGUAGE.md').read_text())[1]
+def named_unit_faults(section, name):
+    """Units of this section of docs/LANGUAGE.md that are no row of the file of rows, and rows that it leaves out."""
+    table = section.search((ROOT / 'docs/LANGUAGE.md').read_text())[1]
     told = {f'{unit} => {f"rule {rule} 0 {place}" if rule else "right"}' for unit, rule, place in NAMED_UNIT.findall(table)}
-    rows = {line for line in (ROOT / 'crates/name_rows/data/language.rows').read_text().splitlines() if ' => ' in line}
+    rows = {line for line in (ROOT / 'crates/name_rows/data' / name).read_text().splitlines() if ' => ' in line}
     for row in sorted(told ^ rows):
         yield f'{"no row" if row in told else "not told"}: {row}'
 
@@ -77,7 +78,8 @@ def main():
     for folder in sorted((ROOT / 'examples').iterdir()):
         faults += [f'{folder.relative_to(ROOT)}: {fault}' for fault in example_faults(folder)]
     faults += [f'docs/CLAIMS.md: {fault}' for fault in wrong_body_faults()]
-    faults += [f'docs/LANGUAGE.md: {fault}' for fault in named_unit_faults()]
+    for section, name in (NAMES, 'language.rows'), (KINDS, 'kinds.rows'):
+        faults += [f'docs/LANGUAGE.md: {fault}' for fault in named_unit_faults(section, name)]
     for path in own_files():
         text = path.read_text(errors='replace')
         name = path.relative_to(ROOT)
