@@ -7,7 +7,7 @@ use Rattle.hal_phrases.specs.GatheredUnits.{gathered_head, gathered_block, gathe
 use Rattle.hal_names.specs.Keys.{declared_at, same_space, same_key, own}
 use Rattle.hal_names.specs.Means.{is_compool_unit, unit_named, given_by, shown, shown_by, included, included_before, prefaces_of, nearest}
 use Rattle.hal_scope.specs.Builtins.{builtins}
-use Rattle.hal_scope.specs.Sorts.{type_in, type_among, sort_of_type, sort_of_head, sort_of}
+use Rattle.hal_scope.specs.Sorts.{type_in, type_among, sort_of_type, sort_of_head}
 use Rattle.hal_scope.specs.Uses.{is_eventful, is_nil, refers_to_event, holds_event, hold_event, limit_of, limit_around}
 use Rattle.hal_scope.specs.Rules.{IsSound, fault, first_fault}
 use Rattle.hal_scope.proofs.Broken.{sound}
