@@ -6,6 +6,7 @@ use Rattle.hal_grammar.specs.Expressions.{Expression, Or, And, Compare, Cat, Sum
 use Rattle.hal_phrases.specs.Phrases.{Node, Phrase, OfTemplate, OfUnit, OfItem, OfTemporaryGroup}
 use Rattle.hal_names.specs.Means.{means}
 use Rattle.hal_scope.specs.Builtins.{builtin_named}
+use Rattle.hal_kinds.specs.Attributes.{no_more}
 use Rattle.hal_values.specs.declared.value.Value.{Value}
 use Rattle.hal_operations.specs.declared.operation.Op1.{Op1}
 use Rattle.hal_operations.specs.declared.operation.Op1.TheVariants as op1
@@ -74,7 +75,8 @@ unfoldable mutual
   constant_of ps vs p (Literal place literal) = literal_constant literal
   constant_of ps vs p (Decimal place number) = constant.Unfit
   constant_of ps vs p (Referred reference) = referred ps vs p reference
-  constant_of ps vs p (Called place name arguments) = called ps vs p name arguments
+  constant_of ps vs p (Called place name arguments) =
+      elim (means ps p.around.block name) [ None ↦ computed ps vs p (operation_named name) arguments | Some k ↦ multiplied ps vs p (called_at ps vs p k) arguments ]
   constant_of ps vs p (Convert place conversion operand) = apply_one (operation_of_conversion conversion) (constant_of ps vs p operand)
   constant_of ps vs p (Parenthesis place inner) = constant_of ps vs p inner
 
@@ -88,21 +90,22 @@ unfoldable mutual
   summed ps vs p c NoTerms = c
   summed ps vs p c (MoreTerms place sign term others) = summed ps vs p (apply_two (operation_of_sign sign) c (constant_of ps vs p term)) others
 
-  -- a call form
-  pub called : List Phrase → List (Option Value) → Phrase → List ℕ → Expressions → Constant
-  called ps vs p name arguments = elim (means ps p.around.block name) [ None ↦ computed ps vs p (operation_named name) arguments | Some k ↦ multiplied ps vs p (called_at ps vs p k) arguments ]
-
   -- a built-in function of these arguments
   pub computed : List Phrase → List (Option Value) → Phrase → Operation → Expressions → Constant
-  computed ps vs p (operation.One op) (MoreExpressions x NoExpressions) = apply_one op (constant_of ps vs p x)
-  computed ps vs p (operation.Two op) (MoreExpressions x (MoreExpressions y NoExpressions)) = apply_two op (constant_of ps vs p x) (constant_of ps vs p y)
   computed ps vs p operation.Size arguments = constant.Open
+  computed ps vs p (operation.One op) (MoreExpressions x others) = if no_more others then apply_one op (constant_of ps vs p x) else constant.Unfit
+  computed ps vs p (operation.Two op) (MoreExpressions x others) = computed_second ps vs p op (constant_of ps vs p x) others
   computed ps vs p other arguments = constant.Unfit
+
+  -- a built-in function of this argument and one more
+  pub computed_second : List Phrase → List (Option Value) → Phrase → Op2 → Constant → Expressions → Constant
+  computed_second ps vs p op c NoExpressions = constant.Unfit
+  computed_second ps vs p op c (MoreExpressions y others) = if no_more others then apply_two op c (constant_of ps vs p y) else constant.Unfit
 
   -- the product of a constant and a parenthesis
   pub multiplied : List Phrase → List (Option Value) → Phrase → Constant → Expressions → Constant
-  multiplied ps vs p c (MoreExpressions x NoExpressions) = apply_two op2.Product c (constant_of ps vs p x)
-  multiplied ps vs p c other = constant.Unfit
+  multiplied ps vs p c NoExpressions = constant.Unfit
+  multiplied ps vs p c (MoreExpressions x others) = if no_more others then apply_two op2.Product c (constant_of ps vs p x) else constant.Unfit
 
   -- a reference
   pub referred : List Phrase → List (Option Value) → Phrase → Reference → Constant
@@ -122,8 +125,8 @@ unfoldable mutual
 
   -- the component of a value that a subscript chooses
   pub component_of : List Phrase → List (Option Value) → Phrase → Value → Subscripts → Constant
-  component_of ps vs p v (MoreSubscripts sub NoSubscripts) = component_by ps vs p v sub
-  component_of ps vs p v other = constant.Unfit
+  component_of ps vs p v NoSubscripts = constant.Unfit
+  component_of ps vs p v (MoreSubscripts sub others) = if is_none others then component_by ps vs p v sub else constant.Unfit
 
   pub component_by : List Phrase → List (Option Value) → Phrase → Value → Sub → Constant
   component_by ps vs p v (Every place) = picked_all v

@@ -70,6 +70,11 @@ signed_literal sign literal = signed sign (literal_constant literal)
 abbrev pub signed_name : List Phrase → Known → Phrase → Option Sign → Naming → Constant
 signed_name ps vs p sign name = signed sign (constant_named ps vs p name.name [])
 
+-- whether there is no further value
+unfoldable pub no_more : Initials → Bool
+no_more NoInitials = true
+no_more other = false
+
 unfoldable mutual
   -- the one value that an initial value gives, where it gives one
   pub only_of : List Phrase → Known → Phrase → Initial → Constant
@@ -80,8 +85,8 @@ unfoldable mutual
 
   -- the same of initial values
   pub only_among : List Phrase → Known → Phrase → Initials → Constant
-  only_among ps vs p (MoreInitials first NoInitials) = only_of ps vs p first
-  only_among ps vs p other = constant.Unfit
+  only_among ps vs p NoInitials = constant.Unfit
+  only_among ps vs p (MoreInitials first others) = if no_more others then only_of ps vs p first else constant.Unfit
 
 unfoldable pub kept : Result values.Value ErrNo → Option values.Value
 kept (Ok v) = Some v
@@ -117,19 +122,14 @@ unfoldable pub round : List Phrase → Known → List Phrase → Known
 round ps vs [] = vs
 round ps vs (p ∷ rest) = round ps (noted ps vs p) rest
 
--- so many times: a COMPOOL may stand behind the units that include its template
-unfoldable pub rounds : ℕ → List Phrase → Known → Known
-rounds zero ps vs = vs
-rounds (suc n) ps vs = rounds n ps (round ps vs ps)
-
 unfoldable pub is_file : Node → Bool
 is_file (OfFile prefaces name) = true
 is_file other = false
 
--- how many files there are
-unfoldable pub file_count : List Phrase → ℕ
-file_count [] = zero
-file_count (p ∷ ps) = if is_file p.node then suc (file_count ps) else file_count ps
+-- as many times as there are files among these phrases: a COMPOOL may stand behind the units that include its template
+unfoldable pub rounds : List Phrase → Known → List Phrase → Known
+rounds ps vs [] = vs
+rounds ps vs (p ∷ rest) = if is_file p.node then rounds ps (round ps vs ps) rest else rounds ps vs rest
 
 -- no value is known
 abbrev pub nothing_known : List Phrase → Known
@@ -137,4 +137,4 @@ nothing_known ps = map (λ (p : Phrase). None) ps
 
 -- the values of the constants of a set
 abbrev pub known : List Phrase → Known
-known ps = rounds (file_count ps) ps (nothing_known ps)
+known ps = rounds ps (nothing_known ps) ps

@@ -1,5 +1,5 @@
 -- Which names are constants, and what built-in functions constant expressions may call.
-use Rattle.std.specs.Prelude.{ℕ, ◌==◌, nat_lt, Bool, true, false, ◌&&◌, ◌||◌, not, List, [], ◌∷◌, Option, Some, None, slice_get, if◌then◌else◌}
+use Rattle.std.specs.Prelude.{ℕ, ◌==◌, nat_le, nat_lt, length, Bool, true, false, ◌&&◌, ◌||◌, not, List, [], ◌∷◌, Option, Some, None, slice_get, if◌then◌else◌}
 use Rattle.std.specs.Option.{option_and_then, is_some}
 use Rattle.hal_grammar.specs.Leaves.{Naming, LiteralValue, Integer, Text, Bits, True, False, On, Off}
 use Rattle.hal_grammar.specs.Declarations.{Kind, StructureKind, Attribute, Declared}
@@ -63,10 +63,14 @@ constant_named ps vs p name path =
       | Some k ↦ elim (slice_get ps k) [ None ↦ constant.Unfit | Some q ↦ constant_at ps vs p q path q.node ]
     ]
 
+-- a text, unless it is too long
+abbrev pub literal_text : List ℕ → Constant
+literal_text text = if nat_le (length text) 255 then constant.Worth (value.Text text) else constant.Failed
+
 -- a literal
 unfoldable pub literal_constant : LiteralValue → Constant
 literal_constant (Integer number) = whole number
-literal_constant (Text text) = constant.Worth (value.Text text)
+literal_constant (Text text) = literal_text text
 literal_constant (Bits len bits) = constant.Worth (value.Bits len bits)
 literal_constant True = constant.Worth (value.Bits 1 1)
 literal_constant On = constant.Worth (value.Bits 1 1)

@@ -4,7 +4,7 @@ ghost use Rattle.std.specs.Prelude.{◌≡◌, map};
 ghost use Rattle.std.specs.Option.{option_map};
 ghost use Rattle.hal_tree.specs.Rows.{expressions, subscripts, terms};
 ghost use Rattle.hal_tree.specs.SeenExpressions.{seen_expression, seen_position, seen_reference, seen_signed, seen_sub, seen_subscript};
-ghost use Rattle.hal_tree.specs.SeenLeaves.{seen_conversion, seen_name, seen_sign};
+ghost use Rattle.hal_tree.specs.SeenLeaves.{seen_conversion, seen_literal, seen_sign};
 ghost use Rattle.hal_phrases.specs.SeenPhrases.{seen_phrase};
 ghost use Rattle.hal_names.specs.SeenNames.{seen_names};
 ghost use Rattle.hal_constants.specs.Constants as constants;
@@ -22,7 +22,6 @@ use hal_tree::{
     Conversion, Expr, LiteralValue, Position, Reference, Sign, SignedTerm, Sub, Subscript,
 };
 use hal_values::Value;
-use hal_words::Name;
 
 /// The operation of a sign between two terms.
 #[tactic(auto, unfolding(crate::specs::Constants::operation_of_sign))]
@@ -38,7 +37,7 @@ fn operation_of_sign(sign: Sign) -> Op2
 /// A sign before a term.
 #[tactic(auto, unfolding(crate::specs::Constants::signed))]
 pub(crate) fn signed(sign: Option<Sign>, term: Constant) -> Constant
-    ensures { result ≡ constants.signed (option_map seen_sign sign) term.entry }
+    ensures { result ≡ constants.signed (option_map seen_sign sign) term }
 {
     match sign {
         None => term,
@@ -60,7 +59,7 @@ fn operation_of_conversion(conversion: Conversion) -> Op1
 }
 
 /// The exponent that a literal is.
-#[tactic(auto, unfolding(crate::specs::Constants::raised))]
+#[tactic(auto, unfolding(crate::specs::Constants::raised_to))]
 fn raised_to(base: &Constant, exponent: LiteralValue) -> Constant
     ensures { result ≡ constants.raised_to base.now (seen_literal exponent) }
 {
@@ -170,7 +169,16 @@ pub fn constant_of(tree: &Expr, names: &Names<'_>, known: &Known, phrase: &Phras
             place: _,
             name,
             arguments,
-        } => called(arguments, name, names, known, phrase),
+        } => match names.means(phrase.around.block, name) {
+            None => computed(arguments, operation_named(name), names, known, phrase),
+            Some(number) => multiplied(
+                arguments,
+                called_at(names, known, phrase, number),
+                names,
+                known,
+                phrase,
+            ),
+        },
         Expr::Convert {
             place: _,
             conversion,
@@ -194,7 +202,7 @@ fn folded(
     known: &Known,
     phrase: &Phrase<'_>,
 ) -> Constant
-    ensures { result ≡ constants.folded (seen_names names.now) (seen_known known.now) (seen_phrase phrase.now) op first.entry (expressions (map seen_expression trees.now)) }
+    ensures { result ≡ constants.folded (seen_names names.now) (seen_known known.now) (seen_phrase phrase.now) op first (expressions (map seen_expression trees.now)) }
 {
     let mut so_far = first;
     for tree in trees {
@@ -213,7 +221,7 @@ fn summed(
     known: &Known,
     phrase: &Phrase<'_>,
 ) -> Constant
-    ensures { result ≡ constants.summed (seen_names names.now) (seen_known known.now) (seen_phrase phrase.now) first.entry (terms (map seen_signed list.now)) }
+    ensures { result ≡ constants.summed (seen_names names.now) (seen_known known.now) (seen_phrase phrase.now) first (terms (map seen_signed list.now)) }
 {
     let mut so_far = first;
     for term in list {
@@ -223,32 +231,9 @@ fn summed(
     so_far
 }
 
-/// A call form.
-#[cycle(constants)]
-fn called(
-    arguments: &[Expr],
-    name: &Name,
-    names: &Names<'_>,
-    known: &Known,
-    phrase: &Phrase<'_>,
-) -> Constant
-    ensures { result ≡ constants.called (seen_names names.now) (seen_known known.now) (seen_phrase phrase.now) name.now (expressions (map seen_expression arguments.now)) }
-{
-    match names.means(phrase.around.block, name) {
-        None => computed(arguments, operation_named(name), names, known, phrase),
-        Some(number) => multiplied(
-            arguments,
-            called_at(names, known, phrase, number),
-            names,
-            known,
-            phrase,
-        ),
-    }
-}
-
 /// A built-in function of these arguments.
 #[cycle(constants)]
-#[tactic(auto, unfolding(crate::specs::Constants::computed, hal_tree::specs::Rows::expressions))]
+#[tactic(auto, using(hal_kinds::proofs::Lists::none_left), unfolding(crate::specs::Constants::computed, hal_tree::specs::Rows::expressions))]
 fn computed(
     arguments: &[Expr],
     operation: Operation,
@@ -258,21 +243,55 @@ fn computed(
 ) -> Constant
     ensures { result ≡ constants.computed (seen_names names.now) (seen_known known.now) (seen_phrase phrase.now) operation (expressions (map seen_expression arguments.now)) }
 {
-    match (operation, arguments) {
-        (Operation::One(op), [tree]) => apply_one(op, constant_of(tree, names, known, phrase)),
-        (Operation::Two(op), [left, right]) => apply_two(
-            op,
-            &constant_of(left, names, known, phrase),
-            &constant_of(right, names, known, phrase),
-        ),
-        (Operation::Size, _) => Constant::Open,
-        _ => Constant::Unfit,
+    if let Operation::Size = operation {
+        return Constant::Open;
+    }
+    let Some((tree, others)) = arguments.split_first() else {
+        return Constant::Unfit;
+    };
+    match operation {
+        Operation::Size => Constant::Open,
+        Operation::One(op) => {
+            if others.is_empty() {
+                apply_one(op, constant_of(tree, names, known, phrase))
+            } else {
+                Constant::Unfit
+            }
+        }
+        Operation::Two(op) => {
+            let first = constant_of(tree, names, known, phrase);
+            computed_second(others, &first, op, names, known, phrase)
+        }
+        Operation::Nothing => Constant::Unfit,
+    }
+}
+
+/// A built-in function of a first argument and what follows it.
+#[cycle(constants)]
+#[tactic(auto, using(hal_kinds::proofs::Lists::none_left), unfolding(crate::specs::Constants::computed_second, hal_tree::specs::Rows::expressions))]
+fn computed_second(
+    arguments: &[Expr],
+    first: &Constant,
+    op: Op2,
+    names: &Names<'_>,
+    known: &Known,
+    phrase: &Phrase<'_>,
+) -> Constant
+    ensures { result ≡ constants.computed_second (seen_names names.now) (seen_known known.now) (seen_phrase phrase.now) op first.now (expressions (map seen_expression arguments.now)) }
+{
+    let Some((tree, others)) = arguments.split_first() else {
+        return Constant::Unfit;
+    };
+    if others.is_empty() {
+        apply_two(op, first, &constant_of(tree, names, known, phrase))
+    } else {
+        Constant::Unfit
     }
 }
 
 /// The product of a constant and a parenthesis.
 #[cycle(constants)]
-#[tactic(auto, unfolding(crate::specs::Constants::multiplied, hal_tree::specs::Rows::expressions))]
+#[tactic(auto, using(hal_kinds::proofs::Lists::none_left), unfolding(crate::specs::Constants::multiplied, hal_tree::specs::Rows::expressions))]
 fn multiplied(
     arguments: &[Expr],
     factor: Constant,
@@ -280,15 +299,19 @@ fn multiplied(
     known: &Known,
     phrase: &Phrase<'_>,
 ) -> Constant
-    ensures { result ≡ constants.multiplied (seen_names names.now) (seen_known known.now) (seen_phrase phrase.now) factor.entry (expressions (map seen_expression arguments.now)) }
+    ensures { result ≡ constants.multiplied (seen_names names.now) (seen_known known.now) (seen_phrase phrase.now) factor (expressions (map seen_expression arguments.now)) }
 {
-    match arguments {
-        [tree] => apply_two(
+    let Some((tree, others)) = arguments.split_first() else {
+        return Constant::Unfit;
+    };
+    if others.is_empty() {
+        apply_two(
             Op2::Product,
             &factor,
             &constant_of(tree, names, known, phrase),
-        ),
-        _ => Constant::Unfit,
+        )
+    } else {
+        Constant::Unfit
     }
 }
 
@@ -311,7 +334,7 @@ fn referred(
 
 /// A value with a subscript.
 #[cycle(constants)]
-#[tactic(auto, using(hal_tree::proofs::MadeExpressions::made_unsubscripted, hal_tree::proofs::MadeExpressions::made_by_name, hal_tree::proofs::MadeExpressions::made_by_integer, hal_tree::proofs::MadeExpressions::made_by_parts), unfolding(crate::specs::Constants::subscripted, crate::specs::Constants::is_none, hal_tree::specs::Rows::subscripts))]
+#[tactic(auto, using(hal_tree::proofs::MadeExpressions::made_unsubscripted, hal_tree::proofs::MadeExpressions::made_by_name, hal_tree::proofs::MadeExpressions::made_by_integer, hal_tree::proofs::MadeExpressions::made_by_parts, crate::proofs::Lists::no_subscript), unfolding(crate::specs::Constants::subscripted))]
 fn subscripted(
     subscript: &Subscript,
     value: Value,
@@ -319,7 +342,7 @@ fn subscripted(
     known: &Known,
     phrase: &Phrase<'_>,
 ) -> Constant
-    ensures { result ≡ constants.subscripted (seen_names names.now) (seen_known known.now) (seen_phrase phrase.now) value.entry (seen_subscript subscript.now) }
+    ensures { result ≡ constants.subscripted (seen_names names.now) (seen_known known.now) (seen_phrase phrase.now) value (seen_subscript subscript.now) }
 {
     match subscript {
         Subscript::None => Constant::Worth(value),
@@ -345,7 +368,7 @@ fn subscripted(
 
 /// The component of a value that subscripts choose.
 #[cycle(constants)]
-#[tactic(auto, unfolding(crate::specs::Constants::component_of, hal_tree::specs::Rows::subscripts))]
+#[tactic(auto, using(crate::proofs::Lists::no_subscript), unfolding(crate::specs::Constants::component_of, hal_tree::specs::Rows::subscripts))]
 fn component_of(
     subs: &[Sub],
     value: &Value,
@@ -355,9 +378,13 @@ fn component_of(
 ) -> Constant
     ensures { result ≡ constants.component_of (seen_names names.now) (seen_known known.now) (seen_phrase phrase.now) value.now (subscripts (map seen_sub subs.now)) }
 {
-    match subs {
-        [sub] => component_by(sub, value, names, known, phrase),
-        _ => Constant::Unfit,
+    let Some((sub, others)) = subs.split_first() else {
+        return Constant::Unfit;
+    };
+    if others.is_empty() {
+        component_by(sub, value, names, known, phrase)
+    } else {
+        Constant::Unfit
     }
 }
 

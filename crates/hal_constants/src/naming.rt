@@ -124,7 +124,7 @@ pub(crate) fn constant_named(
 
 /// A text of a literal.
 fn literal_text(text: &Literal) -> Constant
-    ensures { result ≡ Constant.Worth (Value.Text text.now) }
+    ensures { result ≡ naming.literal_text text.now }
 {
     match Text::of(text.bytes()) {
         Some(text) => Constant::Worth(Value::Text(text)),

@@ -1,6 +1,6 @@
 //! Whether operations take values, and cells.
 
-ghost use Rattle.std.specs.Prelude.{◌≡◌, IfTrue};
+ghost use Rattle.std.specs.Prelude.{◌≡◌, IsTrue};
 ghost use Rattle.hal_operations.specs.Operands.{HasComponents, IsStorable, Takes, TakesBoth};
 ghost use Rattle.hal_constants.specs.Operands as operands;
 
@@ -39,7 +39,7 @@ fn takes_text(op: Op1) -> bool
 #[tactic(auto, using(crate::proofs::Taking::taken), unfolding(crate::specs::Operands::takes_one))]
 pub(crate) fn takes_one(op: Op1, value: &Value) -> bool
     ensures value { result ≡ operands.takes_one op value.now }
-    ensures taken { IfTrue result (Takes op value.now) }
+    ensures taken { IsTrue result → Takes op value.now }
 {
     match value {
         Value::Int(_) => takes_integer(op),
@@ -85,7 +85,7 @@ fn takes_integer_and_text(op: Op2) -> bool
 #[tactic(auto, using(crate::proofs::Taking::both_taken), unfolding(crate::specs::Operands::takes_two))]
 pub(crate) fn takes_two(op: Op2, left: &Value, right: &Value) -> bool
     ensures value { result ≡ operands.takes_two op left.now right.now }
-    ensures taken { IfTrue result (TakesBoth op left.now right.now) }
+    ensures taken { IsTrue result → TakesBoth op left.now right.now }
 {
     match (left, right) {
         (Value::Int(_), Value::Int(_)) => takes_integers(op),
@@ -103,7 +103,7 @@ pub(crate) fn takes_two(op: Op2, left: &Value, right: &Value) -> bool
 #[tactic(auto, using(crate::proofs::Taking::storable), unfolding(crate::specs::Operands::is_storable))]
 pub(crate) fn is_storable(kind: Kind, value: &Value) -> bool
     ensures value { result ≡ operands.is_storable kind value.now }
-    ensures storable { IfTrue result (IsStorable kind value.now) }
+    ensures storable { IsTrue result → IsStorable kind value.now }
 {
     match (kind, value) {
         (Kind::Single, Value::Int(_)) => true,
@@ -121,7 +121,7 @@ pub(crate) fn is_storable(kind: Kind, value: &Value) -> bool
 #[tactic(auto, using(crate::proofs::Taking::parted), unfolding(crate::specs::Operands::has_components))]
 pub(crate) fn has_components(value: &Value) -> bool
     ensures value { result ≡ operands.has_components value.now }
-    ensures parted { IfTrue result (HasComponents value.now) }
+    ensures parted { IsTrue result → HasComponents value.now }
 {
     match value {
         Value::Int(_) => false,

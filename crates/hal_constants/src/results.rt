@@ -11,7 +11,7 @@ use hal_values::{ErrNo, Value};
 /// A value, or an error.
 #[tactic(auto, unfolding(crate::specs::Results::worth))]
 fn worth(outcome: Result<Value, ErrNo>) -> Constant
-    ensures { result ≡ results.worth outcome.entry }
+    ensures { result ≡ results.worth outcome }
 {
     match outcome {
         Ok(value) => Constant::Worth(value),
@@ -34,7 +34,7 @@ fn worse(one: &Constant, other: &Constant) -> Constant
 /// An operation with one operand.
 #[tactic(auto, unfolding(crate::specs::Results::apply_one))]
 pub(crate) fn apply_one(op: Op1, operand: Constant) -> Constant
-    ensures { result ≡ results.apply_one op operand.entry }
+    ensures { result ≡ results.apply_one op operand }
 {
     match operand {
         Constant::Worth(value) => {
@@ -89,7 +89,7 @@ fn component(value: &Value, part: Part) -> Constant
 /// One place of a value.
 #[tactic(auto, unfolding(crate::specs::Results::picked_one, crate::specs::Results::component_at))]
 pub(crate) fn picked_one(value: &Value, place: Constant) -> Constant
-    ensures { result ≡ results.picked_one value.now place.entry }
+    ensures { result ≡ results.picked_one value.now place }
 {
     match place {
         Constant::Worth(Value::Int(place)) => component(value, Part::One(place)),

@@ -4,7 +4,7 @@ ghost use Rattle.std.specs.Prelude.{◌≡◌, IfOk, OnOk, map};
 ghost use Rattle.hal_phrases.specs.SeenPhrases.{seen_node, seen_phrase};
 ghost use Rattle.hal_names.specs.SeenNames.{seen_names};
 ghost use Rattle.hal_constants.specs.Naming as naming;
-ghost use Rattle.hal_constants.specs.Known as known;
+ghost use Rattle.hal_constants.specs.Known as facts;
 ghost use Rattle.hal_constants.specs.SeenKnown.{seen_known, seen_value};
 
 use crate::constant::Constant;
@@ -18,18 +18,21 @@ use std::alloc::{AllocError, Global};
 impl Known {
     /// The values of the constants of a set of files (language document, Constant expressions).
     pub fn of(alloc: Global, names: &Names<'_>) -> Result<Known, AllocError>
-        ensures { IfOk result (λ k. seen_known k ≡ known.known (seen_names names.now)) }
+        ensures { IfOk result (λ k. seen_known k ≡ facts.known (seen_names names.now)) }
     {
         let mut known = Known::nothing(alloc, names)?;
-        for _ in 0..file_count(names) {
-            known.round(alloc, names)?;
+        let phrases = names.phrases();
+        for phrase in phrases {
+            if is_file(phrase.node) {
+                known.round(alloc, names)?;
+            }
         }
         Ok(known)
     }
 
     /// No value is known.
     fn nothing(alloc: Global, names: &Names<'_>) -> Result<Known, AllocError>
-        ensures { IfOk result (λ k. seen_known k ≡ known.nothing_known (seen_names names.now)) }
+        ensures { IfOk result (λ k. seen_known k ≡ facts.nothing_known (seen_names names.now)) }
     {
         let mut values = Vec::new(alloc);
         let phrases = names.phrases();
@@ -41,7 +44,7 @@ impl Known {
 
     /// The values where those of all phrases are known, one after another.
     fn round(&mut self, alloc: Global, names: &Names<'_>) -> Result<(), AllocError>
-        ensures { OnOk result (seen_known self.new ≡ known.round (seen_names names.now) (seen_known self.old) (seen_names names.now)) }
+        ensures { OnOk result (seen_known self.new ≡ facts.round (seen_names names.now) (seen_known self.old) (seen_names names.now)) }
     {
         let phrases = names.phrases();
         for phrase in phrases {
@@ -53,7 +56,7 @@ impl Known {
 
     /// Notes the value of the phrase with this number.
     fn note(&mut self, alloc: Global, number: usize, value: Option<Value>) -> Result<(), AllocError>
-        ensures { OnOk result (seen_known self.new ≡ known.put_at (seen_known self.old) number value.entry) }
+        ensures { OnOk result (seen_known self.new ≡ facts.put_at (seen_known self.old) number value) }
     {
         let slot = match value {
             None => None,
@@ -66,12 +69,16 @@ impl Known {
     }
 
     /// The constant that the phrase with this number declares.
+    #[tactic(auto, unfolding(crate::specs::Naming::constant_known))]
     pub(crate) fn constant(&self, number: usize) -> Constant
         ensures { result ≡ naming.constant_known (naming.value_at (seen_known self.now) number) }
     {
-        match self.values.get(number) {
-            Some(Some(value)) => Constant::Worth(value.copy()),
-            _ => Constant::Open,
+        let Some(slot) = self.values.get(number) else {
+            return Constant::Open;
+        };
+        match slot {
+            None => Constant::Open,
+            Some(value) => Constant::Worth(value.copy()),
         }
     }
 }
@@ -79,25 +86,10 @@ impl Known {
 /// Whether a phrase is a file.
 #[tactic(auto, unfolding(crate::specs::Known::is_file))]
 fn is_file(node: Node<'_>) -> bool
-    ensures { result ≡ known.is_file (seen_node node.entry) }
+    ensures { result ≡ facts.is_file (seen_node node.entry) }
 {
     match node {
         Node::File { .. } => true,
         _ => false,
     }
-}
-
-/// How many files there are.
-#[tactic(auto, unfolding(crate::specs::Known::file_count))]
-fn file_count(names: &Names<'_>) -> usize
-    ensures { result ≡ known.file_count (seen_names names.now) }
-{
-    let phrases = names.phrases();
-    let mut count = 0;
-    for phrase in phrases {
-        if is_file(phrase.node) {
-            count += 1;
-        }
-    }
-    count
 }

@@ -7,7 +7,7 @@ ghost use Rattle.hal_tree.specs.SeenDeclarations.{seen_attribute, seen_declared,
 ghost use Rattle.hal_tree.specs.SeenLeaves.{seen_literal, seen_name, seen_sign};
 ghost use Rattle.hal_phrases.specs.SeenPhrases.{seen_phrase};
 ghost use Rattle.hal_names.specs.SeenNames.{seen_names};
-ghost use Rattle.hal_constants.specs.Known as known;
+ghost use Rattle.hal_constants.specs.Known as facts;
 ghost use Rattle.hal_constants.specs.SeenKnown.{seen_known};
 
 use crate::constant::Constant;
@@ -26,7 +26,7 @@ use hal_values::{Kind, Value};
 /// A size within a limit.
 #[tactic(auto, unfolding(crate::specs::Known::size_of, crate::specs::Known::size_of_value, crate::specs::Known::size_of_integer))]
 fn size_of(limit: u8, size: &Constant) -> Option<u8>
-    ensures { result ≡ known.size_of limit size.now }
+    ensures { result ≡ facts.size_of limit size.now }
 {
     match size {
         Constant::Worth(Value::Int(number)) => {
@@ -49,7 +49,7 @@ pub fn kind_of(
     double: bool,
     kind: &Type,
 ) -> Option<Kind>
-    ensures { result ≡ known.kind_of (seen_names names.now) (seen_known known.now) (seen_phrase phrase.now) double (seen_type kind.now) }
+    ensures { result ≡ facts.kind_of (seen_names names.now) (seen_known known.now) (seen_phrase phrase.now) double (seen_type kind.now) }
 {
     match kind {
         Type::Integer { place: _ } => Some(if double { Kind::Double } else { Kind::Single }),
@@ -76,7 +76,7 @@ pub fn kind_of_item(
     common: &[Attribute],
     item: &Declared,
 ) -> Option<Kind>
-    ensures { result ≡ known.kind_of_item (seen_names names.now) (seen_known known.now) (seen_phrase phrase.now) (map seen_attribute common.now) (seen_declared item.now) }
+    ensures { result ≡ facts.kind_of_item (seen_names names.now) (seen_known known.now) (seen_phrase phrase.now) (map seen_attribute common.now) (seen_declared item.now) }
 {
     let double = is_marked(Mark::Double, common, item);
     kind_of(names, known, phrase, double, type_of(common, item)?)
@@ -84,7 +84,7 @@ pub fn kind_of_item(
 
 /// A literal behind a sign.
 pub fn signed_literal(sign: Option<Sign>, literal: LiteralValue) -> Constant
-    ensures { result ≡ known.signed_literal (option_map seen_sign sign) (seen_literal literal) }
+    ensures { result ≡ facts.signed_literal (option_map seen_sign sign) (seen_literal literal) }
 {
     signed(sign, literal_constant(literal))
 }
@@ -97,7 +97,7 @@ pub fn signed_name(
     sign: Option<Sign>,
     name: &Identifier,
 ) -> Constant
-    ensures { result ≡ known.signed_name (seen_names names.now) (seen_known known.now) (seen_phrase phrase.now) (option_map seen_sign sign) (seen_name name.now) }
+    ensures { result ≡ facts.signed_name (seen_names names.now) (seen_known known.now) (seen_phrase phrase.now) (option_map seen_sign sign) (seen_name name.now) }
 {
     signed(sign, constant_named(names, known, phrase, &name.name, &[]))
 }
@@ -106,7 +106,7 @@ pub fn signed_name(
 #[cycle(only)]
 #[tactic(auto, using(hal_tree::proofs::MadeDeclarations::made_value, hal_tree::proofs::MadeDeclarations::made_literal_times, hal_tree::proofs::MadeDeclarations::made_name_times, hal_tree::proofs::MadeDeclarations::made_list_times), unfolding(crate::specs::Known::only_of))]
 fn only_of(initial: &Initial, names: &Names<'_>, known: &Known, phrase: &Phrase<'_>) -> Constant
-    ensures { result ≡ known.only_of (seen_names names.now) (seen_known known.now) (seen_phrase phrase.now) (seen_initial initial.now) }
+    ensures { result ≡ facts.only_of (seen_names names.now) (seen_known known.now) (seen_phrase phrase.now) (seen_initial initial.now) }
 {
     match initial {
         Initial::Value { value } => constant_of(value, names, known, phrase),
@@ -146,20 +146,24 @@ fn only_of(initial: &Initial, names: &Names<'_>, known: &Known, phrase: &Phrase<
 
 /// The same of initial values.
 #[cycle(only)]
-#[tactic(auto, unfolding(crate::specs::Known::only_among, hal_tree::specs::Rows::initials))]
+#[tactic(auto, using(crate::proofs::Lists::no_value), unfolding(crate::specs::Known::only_among, hal_tree::specs::Rows::initials))]
 fn only_among(values: &[Initial], names: &Names<'_>, known: &Known, phrase: &Phrase<'_>) -> Constant
-    ensures { result ≡ known.only_among (seen_names names.now) (seen_known known.now) (seen_phrase phrase.now) (initials (map seen_initial values.now)) }
+    ensures { result ≡ facts.only_among (seen_names names.now) (seen_known known.now) (seen_phrase phrase.now) (initials (map seen_initial values.now)) }
 {
-    match values {
-        [initial] => only_of(initial, names, known, phrase),
-        _ => Constant::Unfit,
+    let Some((initial, others)) = values.split_first() else {
+        return Constant::Unfit;
+    };
+    if others.is_empty() {
+        only_of(initial, names, known, phrase)
+    } else {
+        Constant::Unfit
     }
 }
 
 /// A value as a cell of the kind holds it.
 #[tactic(auto, unfolding(crate::specs::Known::fitted, crate::specs::Known::kept))]
 fn fitted(kind: Option<Kind>, constant: &Constant) -> Option<Value>
-    ensures { result ≡ known.fitted kind constant.now }
+    ensures { result ≡ facts.fitted kind constant.now }
 {
     match (kind, constant) {
         (Some(kind), Constant::Worth(value)) => {
@@ -176,7 +180,7 @@ fn fitted(kind: Option<Kind>, constant: &Constant) -> Option<Value>
 /// The value of a constant that a phrase declares.
 #[tactic(auto, unfolding(crate::specs::Known::declared_value, crate::specs::Known::only_in))]
 pub(crate) fn declared_value(names: &Names<'_>, known: &Known, phrase: &Phrase<'_>) -> Option<Value>
-    ensures { result ≡ known.declared_value (seen_names names.now) (seen_known known.now) (seen_phrase phrase.now) (seen_phrase phrase.now).node }
+    ensures { result ≡ facts.declared_value (seen_names names.now) (seen_known known.now) (seen_phrase phrase.now) (seen_phrase phrase.now).node }
 {
     match phrase.node {
         Node::Item { common, item } => {
