@@ -1,6 +1,0 @@
-pub mod Operands
-pub mod Results
-pub mod Naming
-pub mod Constants
-pub mod Known
-pub mod SeenKnown
