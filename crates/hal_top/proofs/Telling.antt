@@ -9,10 +9,10 @@ use Rattle.hal_values.specs.declared.tables.ReportName.{ReportName}
 use Rattle.hal_values.specs.declared.value.Value.TheVariants as value
 use Rattle.hal_values.specs.Answers.{Answered, Begun, Told, Done, Wrong, Killed, StandsFor}
 use Rattle.hal_values.specs.Loads.{FitsNext}
-use Rattle.hal_meaning.specs.declared.heard.Heard.{Heard}
-use Rattle.hal_meaning.specs.UnitMeaning.{heard, next_heard, own_heard}
-use Rattle.hal_meaning.specs.Answering.{answers_of, next-answers, own-answers, answers-pushed}
-use Rattle.hal_meaning.specs.TreeLoad.{load_of, next_of, own_of, report_name, report_names}
+use Rattle.hal_second_form.specs.declared.heard.Heard.{Heard}
+use Rattle.hal_second_form.specs.UnitMeaning.{heard, next_heard, own_heard}
+use Rattle.hal_second_form.specs.Answering.{answers_of, next-answers, own-answers, answers-pushed}
+use Rattle.hal_second_form.specs.TreeLoad.{load_of, next_of, own_of, report_name, report_names}
 use Rattle.exec_model.specs.Moments.{answers_in, pushed_answer}
 use Rattle.exec_model.specs.Processes.{look_at, told_answer}
 use Rattle.hal_report.specs.Arrays.{AreArrays, IsArray}

@@ -5,10 +5,10 @@ use Rattle.hal_core.specs.Naming.{declared_names}
 use Rattle.hal_values.specs.declared.tables.Tables.{Tables}
 use Rattle.hal_values.specs.declared.value.Value.{Value}
 use Rattle.hal_values.specs.Answers.{Answered}
-use Rattle.hal_meaning.specs.declared.heard.Heard.{Heard}
-use Rattle.hal_meaning.specs.declared.tree_load.TreeLoad.{TreeLoad}
-use Rattle.hal_meaning.specs.Answering.{answers_of}
-use Rattle.hal_meaning.specs.TreeLoad.{tables_of, own_of}
+use Rattle.hal_second_form.specs.declared.heard.Heard.{Heard}
+use Rattle.hal_second_form.specs.declared.tree_load.TreeLoad.{TreeLoad}
+use Rattle.hal_second_form.specs.Answering.{answers_of}
+use Rattle.hal_second_form.specs.TreeLoad.{tables_of, own_of}
 use Rattle.exec_model.specs.Processes.{Look}
 
 -- the load, what was heard of the answers, and for how many more of them there is room

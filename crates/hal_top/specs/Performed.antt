@@ -5,7 +5,7 @@ use Rattle.hal_base.specs.Sink.{Takes}
 use Rattle.hal_core.specs.Tree.{UnitTree}
 use Rattle.exec_model.specs.declared.script.ScriptLine.{ScriptLine}
 use Rattle.exec_model.specs.declared.event.Event.{Event}
-use Rattle.hal_meaning.specs.TreeLoad.{load_of}
+use Rattle.hal_second_form.specs.TreeLoad.{load_of}
 use Rattle.script_run.specs.Performed.{Performs}
 
 -- the journal is a run of the unit's load under the script on one lane, and the bytes are the report of the moment to which it leads

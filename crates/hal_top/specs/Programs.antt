@@ -8,7 +8,7 @@ use Rattle.hal_phrases.specs.Phrases.{Phrase}
 use Rattle.hal_scope.specs.Rules.{IsSound}
 use Rattle.hal_built.specs.References.{reference_rows}
 use Rattle.hal_built.specs.SecondForm.{second_form}
-use Rattle.hal_meaning.specs.Small.{IsSmall}
+use Rattle.hal_second_form.specs.Small.{IsSmall}
 use Rattle.hal_top.specs.declared.program.Program.{Program}
 use Rattle.hal_top.specs.UnitTexts.{HasMeaning}
 

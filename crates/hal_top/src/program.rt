@@ -10,7 +10,7 @@ use hal_base::{Fault, Refusal, Rule};
 use hal_built::{built, unbuilt_reference};
 use hal_core::Unit;
 use hal_lexer::tokens;
-use hal_meaning::Cells;
+use hal_second_form::Cells;
 use hal_names::Names;
 use hal_parse::parse;
 use hal_scope::resolve;

@@ -1,6 +1,6 @@
 use crate::program::Program;
 use exec_model::Procs;
-use hal_meaning::{Cells, Heard, TreeLoad, oracle_next, oracle_own, unit_tables};
+use hal_second_form::{Cells, Heard, TreeLoad, oracle_next, oracle_own, unit_tables};
 use hal_values::{Answer, Listing, Request, Tables, Value};
 use script_run::Owners;
 use std::alloc::{AllocError, Global};

@@ -10,7 +10,7 @@ ghost use Rattle.hal_built.specs.SecondForm.{second_form};
 ghost use Rattle.hal_top.specs.UnitTexts.{HasMeaning};
 ghost use Rattle.hal_script.specs.ScriptTexts.{IsScriptOf};
 ghost use Rattle.hal_script.specs.Journals.{journal_text};
-ghost use Rattle.hal_meaning.specs.TreeLoad.{load_of};
+ghost use Rattle.hal_second_form.specs.TreeLoad.{load_of};
 ghost use Rattle.exec_model.specs.Report.{report};
 ghost use Rattle.exec_model.specs.Runs.{IsRunTo, after};
 ghost use Rattle.worked_rows.specs.Files.{hello_file};

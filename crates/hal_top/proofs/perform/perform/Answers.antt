@@ -1,8 +1,8 @@
 use Rattle.std.proofs.Common.{◌∷◌, [], List, ap, subst}
 use Rattle.hal_core.specs.declared.tree.Unit.{Unit}
 use Rattle.hal_core.specs.View.{unit_tree}
-use Rattle.hal_meaning.specs.declared.heard.Heard.{Heard}
-use Rattle.hal_meaning.specs.Answering.{answers_of}
+use Rattle.hal_second_form.specs.declared.heard.Heard.{Heard}
+use Rattle.hal_second_form.specs.Answering.{answers_of}
 use Rattle.hal_top.specs.Performed.{HasReport}
 use Rattle.hal_top.proofs.Telling.{report_names-arrays}
 use Rattle.hal_top.proofs.perform.perform.Goals as goal

@@ -1,7 +1,7 @@
 use Rattle.std.specs.Fmt.{digits}
 use Rattle.std.proofs.Common.{◌∷◌, [], codes, refl}
 use Rattle.exec_model.specs.declared.event.Event.TheVariants.{Tick}
-use Rattle.hal_meaning.specs.TreeLoad.{load_of}
+use Rattle.hal_second_form.specs.TreeLoad.{load_of}
 use Rattle.exec_rows.proofs.Deciding.{runs_to-run}
 use Rattle.worked_rows.specs.Trees.{count_tree}
 use Rattle.worked_rows.specs.Runs.{acts, count_script, count_journal}

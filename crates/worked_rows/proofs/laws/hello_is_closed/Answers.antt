@@ -1,6 +1,6 @@
 use Rattle.std.specs.Fmt.{digits}
 use Rattle.std.proofs.Common.{◌∷◌, [], codes, refl}
-use Rattle.hal_meaning.specs.TreeLoad.{load_of}
+use Rattle.hal_second_form.specs.TreeLoad.{load_of}
 use Rattle.exec_rows.proofs.Deciding.{runs_to-run}
 use Rattle.worked_rows.specs.Trees.{hello_tree}
 use Rattle.worked_rows.specs.Runs.{acts, run_script}

@@ -3,8 +3,8 @@ use Rattle.hal_core.specs.Tree.{UnitTree}
 use Rattle.hal_core.specs.View.{unit_tree}
 use Rattle.hal_values.specs.Requests.{HasProcess}
 use Rattle.hal_values.specs.declared.value.Value.TheVariants as value
-use Rattle.hal_meaning.specs.UnitMeaning.{own_heard}
-use Rattle.hal_meaning.specs.TreeLoad.{own_of, tables_of}
+use Rattle.hal_second_form.specs.UnitMeaning.{own_heard}
+use Rattle.hal_second_form.specs.TreeLoad.{own_of, tables_of}
 use Rattle.exec_model.specs.Moments.{answers_in}
 use Rattle.hal_top.specs.Asking.{Asking, asking_answers}
 use Rattle.hal_top.proofs.Telling.{own-told}

@@ -2,8 +2,8 @@ use Rattle.std.proofs.Common.{◌≡◌, ap, sym, subst, ◌∙◌}
 use Rattle.hal_core.specs.Tree.{UnitTree}
 use Rattle.hal_core.specs.View.{unit_tree}
 use Rattle.hal_values.specs.Requests.{HasProcess}
-use Rattle.hal_meaning.specs.UnitMeaning.{next_heard}
-use Rattle.hal_meaning.specs.TreeLoad.{next_of, tables_of}
+use Rattle.hal_second_form.specs.UnitMeaning.{next_heard}
+use Rattle.hal_second_form.specs.TreeLoad.{next_of, tables_of}
 use Rattle.exec_model.specs.Moments.{answers_in}
 use Rattle.hal_top.specs.Asking.{Asking, asking_answers}
 use Rattle.hal_top.proofs.Telling.{next-asked}

@@ -1,5 +1,5 @@
 use Rattle.hal_core.specs.View.{unit_tree}
-use Rattle.hal_meaning.specs.TreeLoad.{next_of, next-plain, plain-no_update}
+use Rattle.hal_second_form.specs.TreeLoad.{next_of, next-plain, plain-no_update}
 use Rattle.exec_model.specs.Moments.{answers_in}
 use Rattle.hal_top.specs.Asking.{asking_answers}
 use Rattle.hal_top.proofs.tree_procs.TreeProcsProcs.block.Goals as goal

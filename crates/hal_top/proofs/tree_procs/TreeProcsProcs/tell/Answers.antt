@@ -3,9 +3,9 @@ use Rattle.hal_core.specs.Tree.{UnitTree}
 use Rattle.hal_core.specs.View.{unit_tree}
 use Rattle.hal_values.specs.Loads.{FitsNext}
 use Rattle.hal_values.specs.Requests.{HasProcess}
-use Rattle.hal_meaning.specs.declared.heard.Heard.{Heard}
-use Rattle.hal_meaning.specs.Answering.{answers_of}
-use Rattle.hal_meaning.specs.TreeLoad.{load_of, tables_of}
+use Rattle.hal_second_form.specs.declared.heard.Heard.{Heard}
+use Rattle.hal_second_form.specs.Answering.{answers_of}
+use Rattle.hal_second_form.specs.TreeLoad.{load_of, tables_of}
 use Rattle.exec_model.specs.Moments.{answers_in, pushed_answer}
 use Rattle.exec_model.specs.Processes.{look_at, told_answer}
 use Rattle.hal_top.specs.Asking.{Asking, asking_answers}
