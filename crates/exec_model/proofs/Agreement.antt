@@ -19,7 +19,8 @@ use Rattle.exec_model.specs.declared.script.ScriptLine.TheVariants as line
 use Rattle.exec_model.specs.Effects.{effect}
 use Rattle.exec_model.specs.Moments.{Moment, row_of, answers_of}
 use Rattle.exec_model.specs.Opening.{opening}
-use Rattle.exec_model.specs.Report.{end_line, live_line, value_lines, elements, own_values, report}
+use Rattle.hal_values.specs.ReportElements.{elements}
+use Rattle.exec_model.specs.Report.{end_line, live_line, value_lines, own_values, report}
 use Rattle.exec_model.specs.Runs.{IsOfProcess, AreOfProcesses, IsLowestNamed, IsUnknown, MakesLine, MakesLines, Reaches, Completes, open_blocks, IsRunTo, IsRun}
 use Rattle.exec_model.specs.Scripts.{IsScript}
 use Rattle.exec_model.specs.Settling.{settle}

@@ -1,7 +1,7 @@
 -- Numbers with commas between.
 use Rattle.std.proofs.Common.{◌≡◌, ◌≢◌, ℕ, List, [], ◌∷◌, ◌++◌, length, codes, ap, sym, append_assoc, refl, arith, ◌∙◌}
 use Rattle.std.specs.Fmt.{decimal}
-use Rattle.exec_model.specs.Report.{joined}
+use Rattle.hal_values.specs.ReportElements.{joined}
 
 pub joined_none : (numbers : List ℕ) → length numbers ≡ 0 → joined numbers ≡ []
 joined_none [] none = refl

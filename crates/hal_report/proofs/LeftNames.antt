@@ -2,7 +2,7 @@
 use Rattle.std.proofs.Common.{◌≡◌, ◌≢◌, ℕ, zero, suc, ◌+◌, ◌≤◌, ◌==◌, inl, inr, List, ◌∷◌, ◌++◌, length, take, drop, None, ap, ap₂, sym, ◌∙◌, append_assoc, length-drop, add-one, arith}
 use Rattle.std.proofs.lemmas.Bool.{cases_Bool, cond-true, cond-false, eqb-true, eq-eqb}
 use Rattle.hal_values.specs.declared.tables.ReportName.{ReportName}
-use Rattle.exec_model.specs.Report.{Element, copy_elements, structure_rest, structure_elements, elements_in}
+use Rattle.hal_values.specs.ReportElements.{Element, copy_elements, structure_rest, structure_elements, elements_in}
 
 -- the elements that are still to be added, with those that stand there, are the whole
 abbrev pub AreLeft : List ReportName → List Element → List Element → Type 0

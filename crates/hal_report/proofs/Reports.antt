@@ -7,7 +7,8 @@ use Rattle.hal_values.specs.declared.tables.Tables.{Tables}
 use Rattle.hal_values.specs.declared.value.Value.{Value}
 use Rattle.exec_model.specs.declared.state.State.{State}
 use Rattle.exec_model.specs.Moments.{moment_of}
-use Rattle.exec_model.specs.Report.{Element, live_line, value_text, base_value, owns_after, value_lines}
+use Rattle.hal_values.specs.ReportElements.{Element}
+use Rattle.exec_model.specs.Report.{live_line, value_text, base_value, owns_after, value_lines}
 
 regrouped : (a b c d : List ℕ) → ((([] ++ a) ++ b) ++ c) ++ d ≡ a ++ (b ++ (c ++ d))
 regrouped a b c d = simp append_assoc

@@ -1,7 +1,7 @@
 -- Report names whose elements can be numbered.
 use Rattle.std.specs.Prelude.{ℕ, ◌≤◌, List, [], ◌∷◌, All}
 use Rattle.hal_values.specs.declared.tables.ReportName.{ReportName}
-use Rattle.exec_model.specs.Report.{size_of}
+use Rattle.hal_values.specs.ReportElements.{size_of}
 
 -- how many elements a name may have, at a copy
 abbrev pub element_limit : ℕ

@@ -3,7 +3,7 @@
 ghost use Rattle.std.specs.Prelude.{◌≡◌, ◌++◌, ◌<◌, ◌==◌, ◌+◌, ◌*◌, [], ◌∷◌, ℕ, Some, OnOk, IfOk, map, flat_map, length};
 ghost use Rattle.std.specs.List.{range_with_len};
 ghost use Rattle.hal_report.specs.Arrays.{AreArrays, IsArray};
-ghost use Rattle.exec_model.specs.Report.{size_of, places, joined, subscript, copy_number, element, copy_elements, same_base, is_of_structure, structure_rest, structure_elements, elements_in};
+ghost use Rattle.hal_values.specs.ReportElements.{size_of, places, joined, subscript, copy_number, element, copy_elements, same_base, is_of_structure, structure_rest, structure_elements, elements_in};
 
 use hal_values::{Listing, ReportBase, ReportName};
 use std::alloc::{AllocError, Global};
@@ -18,7 +18,7 @@ pub(crate) struct Shown {
 }
 
 impl Model for Shown {
-    ghost use Rattle.exec_model.specs.Report.{Element};
+    ghost use Rattle.hal_values.specs.ReportElements.{Element};
 
     ghost Value = { Element };
 

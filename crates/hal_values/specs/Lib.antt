@@ -5,4 +5,6 @@ pub mod Requests
 pub mod Answers
 pub mod Loads
 pub mod Fitting
+pub mod ReportElements
+pub mod Searching
 pub mod Smallest

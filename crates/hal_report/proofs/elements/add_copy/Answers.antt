@@ -1,5 +1,5 @@
 use Rattle.std.proofs.Common.{◌∷◌, [], ◌++◌, ap, ◌∙◌, arith}
-use Rattle.exec_model.specs.Report.{Element, element, size_of}
+use Rattle.hal_values.specs.ReportElements.{Element, element, size_of}
 use Rattle.hal_report.proofs.Ranges.{map-next}
 use Rattle.hal_report.proofs.elements.add_copy.Goals as goal
 

@@ -1,6 +1,6 @@
 use Rattle.std.proofs.Common.{◌≡◌, ◌-◌, ◌++◌, map}
 use Rattle.std.specs.List.{range_with_len}
-use Rattle.exec_model.specs.Report.{element, size_of}
+use Rattle.hal_values.specs.ReportElements.{element, size_of}
 use Rattle.hal_report.proofs.elements.add_copy.Given as goal
 
 abbrev pub invariant-numbers : goal.invariant-numbers

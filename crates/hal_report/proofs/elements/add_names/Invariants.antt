@@ -1,5 +1,5 @@
 use Rattle.std.proofs.Common.{◌≡◌, ◌++◌, drop, flat_map, Some}
-use Rattle.exec_model.specs.Report.{copy_elements}
+use Rattle.hal_values.specs.ReportElements.{copy_elements}
 use Rattle.hal_report.proofs.elements.add_names.Given as goal
 
 abbrev pub invariant-loop-named : goal.invariant-loop-named

@@ -1,5 +1,5 @@
 use Rattle.std.proofs.Common.{ℕ, Some, flat_map}
-use Rattle.exec_model.specs.Report.{copy_elements}
+use Rattle.hal_values.specs.ReportElements.{copy_elements}
 use Rattle.hal_report.proofs.Ranges.{flat_map-next}
 use Rattle.hal_report.proofs.elements.add_structure.Goals as goal
 

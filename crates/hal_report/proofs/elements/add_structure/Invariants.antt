@@ -1,6 +1,6 @@
 use Rattle.std.proofs.Common.{◌≡◌, ◌-◌, ◌++◌, ℕ, flat_map, Some}
 use Rattle.std.specs.List.{range_with_len}
-use Rattle.exec_model.specs.Report.{copy_elements}
+use Rattle.hal_values.specs.ReportElements.{copy_elements}
 use Rattle.hal_report.proofs.elements.add_structure.Given as goal
 
 abbrev pub invariant-copies : goal.invariant-copies

@@ -1,5 +1,5 @@
 use Rattle.std.proofs.Common.{◌≡◌, ◌≤◌, ◌++◌, ℕ, length}
-use Rattle.exec_model.specs.Report.{elements_in}
+use Rattle.hal_values.specs.ReportElements.{elements_in}
 use Rattle.hal_report.specs.Arrays.{AreArrays}
 use Rattle.hal_report.proofs.elements.elements_of.Given as goal
 

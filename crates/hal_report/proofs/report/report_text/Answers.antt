@@ -7,7 +7,8 @@ use Rattle.hal_values.specs.Tables.{process_count}
 use Rattle.exec_model.specs.declared.state.State.{State}
 use Rattle.exec_model.specs.declared.status.End.{End}
 use Rattle.exec_model.specs.Moments.{moment_of}
-use Rattle.exec_model.specs.Report.{Element, end_line, live_line, elements, elements_in, value_lines}
+use Rattle.hal_values.specs.ReportElements.{Element, elements, elements_in}
+use Rattle.exec_model.specs.Report.{end_line, live_line, value_lines}
 use Rattle.hal_report.proofs.Reports.{four_parts, live_lines-same, value_lines-same}
 use Rattle.hal_report.proofs.report.report_text.Goals as goal
 
