@@ -1,5 +1,5 @@
 -- Keys are equal where their parts are.
-use Rattle.std.proofs.Common.{◌≡◌, ℕ, Bool, cond, List, refl, sym, ◌∙◌, ap, Decides}
+use Rattle.std.proofs.Common.{◌≡◌, ℕ, List, refl, sym, ◌∙◌, ap, Decides}
 use Rattle.std.specs.Map.{lookup}
 use Rattle.std.proofs.lemmas.Bool.{false≢true}
 use Rattle.std.proofs.lemmas.Bool.Decides.{same_from_decides, Decides-and, Decides-eqb, Decides-like}

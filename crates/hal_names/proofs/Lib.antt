@@ -1,2 +1,9 @@
 pub mod KeyEquality
 pub mod Indexed
+pub mod Counted
+pub mod CountedExpressions
+pub mod CountedDeclarations
+pub mod CountedStatements
+pub mod CountedFiles
+pub mod Places
+pub mod Search

@@ -2,3 +2,4 @@ pub mod Keys
 pub mod Means
 pub mod Index
 pub mod SeenNames
+pub mod Laws

@@ -3,6 +3,6 @@ pub mod BlocksRead
 pub mod FilesRead
 pub mod ExactReadings
 pub mod ReadersShorten
-pub mod CodeStuck
+pub mod Reached
 pub mod Answered
 pub mod CodeUnits

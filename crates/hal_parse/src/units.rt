@@ -102,7 +102,7 @@ fn unit_close(
 /// As many statements and units as there are, where the unit holds any.
 #[cycle(units)]
 #[tactic(auto, unfolding(crate::specs::ReadingFiles::elements_of, hal_parse_expr::specs::Seen::seen_list))]
-pub(crate) fn elements(
+fn elements(
     alloc: Global,
     held: bool,
     words: &[Token],
