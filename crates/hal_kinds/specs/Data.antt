@@ -91,6 +91,11 @@ unfoldable pub is_event_type : Option Kind → Bool
 is_event_type (Some (EventKind place)) = true
 is_event_type other = false
 
+-- whether a type is that of a structure
+unfoldable pub is_structure_type : Option Kind → Bool
+is_structure_type (Some (StructureKind place template copies)) = true
+is_structure_type other = false
+
 -- whether a name is that of a parameter of the block to which a phrase's names belong
 abbrev pub is_parameter : List Phrase → Phrase → List ℕ → Bool
 is_parameter ps p name = is_some (own ps (key space.Parameter p.around.home name))

@@ -15,7 +15,7 @@ use hal_tree::{Conversion, Expr, LiteralValue};
 
 /// The class of a literal.
 #[tactic(auto, unfolding(crate::specs::Classes::class_of_literal))]
-fn class_of_literal(literal: LiteralValue) -> Class
+pub fn class_of_literal(literal: LiteralValue) -> Class
     ensures { result ≡ classes.class_of_literal (seen_literal literal) }
 {
     match literal {

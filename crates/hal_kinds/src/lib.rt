@@ -18,7 +18,10 @@ pub use attributes::{
 pub use choice::Choice;
 pub use choosing::{chosen, class_in, has_copies_left, has_places_left};
 pub use class::Class;
-pub use classes::{beside, class_of, joined};
+pub use classes::{beside, class_of, class_of_literal, joined};
 pub use data::Data;
-pub use named::{component_of, data_at, data_named, is_event_type, is_parameter, part_data};
+pub use named::{
+    class_of_type, component_of, data_at, data_named, is_event_type, is_parameter,
+    is_structure_type, part_data,
+};
 pub use references::{class_of_head, class_of_reference, class_of_returns};

@@ -21,7 +21,7 @@ use hal_words::Name;
 
 /// The class of a type's elements.
 #[tactic(auto, using(hal_tree::proofs::MadeDeclarations::made_integer_type, hal_tree::proofs::MadeDeclarations::made_boolean_type, hal_tree::proofs::MadeDeclarations::made_event_type, hal_tree::proofs::MadeDeclarations::made_bit_type, hal_tree::proofs::MadeDeclarations::made_character_type, hal_tree::proofs::MadeDeclarations::made_structure_type), unfolding(crate::specs::Data::class_of_type))]
-pub(crate) fn class_of_type(kind: &Type) -> Class
+pub fn class_of_type(kind: &Type) -> Class
     ensures { result ≡ named.class_of_type (seen_type kind.now) }
 {
     match kind {
@@ -222,6 +222,22 @@ pub fn is_event_type(kind: Option<&Type>) -> bool
         Some(Type::Bit { .. }) => false,
         Some(Type::Character { .. }) => false,
         Some(Type::Structure { .. }) => false,
+    }
+}
+
+/// Whether a type is that of a structure.
+#[tactic(auto, using(hal_tree::proofs::MadeDeclarations::made_integer_type, hal_tree::proofs::MadeDeclarations::made_boolean_type, hal_tree::proofs::MadeDeclarations::made_event_type, hal_tree::proofs::MadeDeclarations::made_bit_type, hal_tree::proofs::MadeDeclarations::made_character_type, hal_tree::proofs::MadeDeclarations::made_structure_type), unfolding(crate::specs::Data::is_structure_type))]
+pub fn is_structure_type(kind: Option<&Type>) -> bool
+    ensures { result ≡ named.is_structure_type (option_map (λ kind. seen_type kind.now) kind.entry) }
+{
+    match kind {
+        None => false,
+        Some(Type::Structure { .. }) => true,
+        Some(Type::Integer { place: _ }) => false,
+        Some(Type::Boolean { place: _ }) => false,
+        Some(Type::Event { place: _ }) => false,
+        Some(Type::Bit { .. }) => false,
+        Some(Type::Character { .. }) => false,
     }
 }
 

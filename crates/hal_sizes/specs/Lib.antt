@@ -1,0 +1,5 @@
+pub mod Counts
+pub mod Constancy
+pub mod Sizes
+pub mod Parts
+pub mod Cells
