@@ -1,0 +1,11 @@
+pub mod OfKind
+pub mod Going
+pub mod Accessing
+pub mod Able
+pub mod Calling
+pub mod Expressing
+pub mod RealTiming
+pub mod Stating
+pub mod Tasking
+pub mod Asking
+pub mod Loading

@@ -1,0 +1,457 @@
+-- What statements come to.
+use Rattle.std.specs.Prelude.{ℕ, zero, suc, ◌+◌, ◌==◌, nat_lt, Bool, true, false, ◌&&◌, ◌||◌, not, List, [], ◌∷◌, ◌++◌, length, take, ℤ, pos, negsuc, ◌+ℤ◌, ◌-ℤ◌, int_lt, bytes_eq, Option, Some, None, slice_get, slice_set, unwrap_or, Result, Ok, Err, if◌then◌else◌}
+use Rattle.std.specs.List.{list_any}
+use Rattle.std.specs.Fmt.{signed_decimal}
+use Rattle.hal_grammar.specs.Leaves.{Naming}
+use Rattle.hal_grammar.specs.Expressions.{Expression, Literal, Expressions, NoExpressions, MoreExpressions, Reference, Refers, Subscript, Unsubscripted, ByName, ByInteger, ByParts, Subscripts, NoSubscripts, MoreSubscripts}
+use Rattle.hal_grammar.specs.Leaves as leaves
+use Rattle.hal_grammar.specs.Statements.{Guard, While, Until, Span, Stepped, Listed, Selector, EveryError, GroupErrors, OneError, Eventful, Response, System, Ignore, Statement, Labelled, Basic, Null, Assignment, If, Do, DoCase, DoLoop, DoFor, Exit, Repeat, Return, Call, Read, Write, Update, Scheduled, Cancel, Terminate, Wait, WaitUntil, WaitForDependent, WaitFor, Event, UpdatePriority, OnErrorStatement, OnErrorResponse, OffError, SendError, Alternative, NoAlternative, Otherwise, Group, Groups, Statements, NoStatements, MoreStatements}
+use Rattle.hal_operations.specs.declared.part.Part.{Part}
+use Rattle.hal_operations.specs.declared.part.Part.TheVariants as part
+use Rattle.hal_operations.specs.Parts.{patched, mended_patch, place_count}
+use Rattle.hal_constants.specs.Constants.{is_none}
+use Rattle.hal_values.specs.BitTexts.{bits_text}
+use Rattle.hal_values.specs.declared.environment.Act.{Act}
+use Rattle.hal_values.specs.declared.environment.Act.TheVariants as act
+use Rattle.hal_values.specs.declared.environment.Entry.{Entry}
+use Rattle.hal_values.specs.declared.environment.Selector as selectors
+use Rattle.hal_values.specs.declared.environment.Selector.TheVariants as selector
+use Rattle.hal_values.specs.declared.environment.Side.{Side}
+use Rattle.hal_values.specs.declared.environment.Side.TheVariants as side
+use Rattle.hal_values.specs.declared.plan.Pause.TheVariants as pause
+use Rattle.hal_values.specs.declared.request.Request.TheVariants as request
+use Rattle.hal_values.specs.declared.value.Kind.{Kind}
+use Rattle.hal_values.specs.declared.value.Kind.TheVariants as kind
+use Rattle.hal_values.specs.declared.value.Value.{Value}
+use Rattle.hal_values.specs.declared.value.Value.TheVariants as value
+use Rattle.hal_values.specs.Answers.{Answered, error}
+use Rattle.hal_values.specs.Answers as answered
+use Rattle.hal_values.specs.Searching.{with_entry, without}
+use Rattle.hal_meaning.specs.Elements.{Shape, chosen}
+use Rattle.hal_meaning.specs.InitialValues.{nothing}
+use Rattle.hal_meaning.specs.LockGroups.{groups_of}
+use Rattle.hal_meaning.specs.Marks.{after_statement, after_alternative}
+use Rattle.hal_meaning.specs.Places.{Place}
+use Rattle.hal_meaning.specs.ReportNames.{first_place}
+use Rattle.hal_meaning.specs.Bodies.{Body}
+use Rattle.hal_meaning.specs.Sets.{Set, body_at}
+use Rattle.hal_meaning.specs.States.{Spot, Own, Nowhere, Held, Holds, Refers, Mode, mode, State, with_entries, with_mode, with_places, Evaluated, Gives, Asks, Caught, Restarts, Lost, bind, Flow, Normal, Leaves, Repeats, Returned}
+use Rattle.hal_meaning.specs.Access.{Here, within, updating, ask, request_made, raise, turn, held_in, read, put, store}
+use Rattle.hal_meaning.specs.Variables.{Meant, MeantData, MeantConstant, MeantEvent, MeantBlock, MeantBuiltin, MeantNothing, name_meant, kind_of_first, is_arrayed}
+use Rattle.hal_meaning.specs.Calls.{Passed, call, left_with, returned_by}
+use Rattle.hal_meaning.specs.Expressions.{expression, values, passed, inputs_at, chosen_data, meant_chosen, Located, part_chosen, named_value, sizes_named, integer_of, holds}
+use Rattle.hal_meaning.specs.RealTime.{time, stated_at_mark, scheduled, named_or_own, priority_changed, eventful, side_of, answered_by}
+use Rattle.hal_meaning.specs.Tasks.{Looping, Task, Meaning, Tested, Stepping, Listing, Resuming}
+
+-- after something is done, control goes on
+abbrev pub goes_on : Evaluated (Unit {0}) → Evaluated Flow
+goes_on done = bind done (λ nothing after. Gives Normal after)
+
+-- a component of a variable is replaced: the part of the old value
+abbrev pub replaced : Here → Spot → Value → Value → Part → State → Evaluated (Unit {0})
+replaced h at old new p st =
+    elim (patched old p new) [
+      | Ok v ↦ put h at v st
+      | Err e ↦ bind (raise h e st) (λ ignored after. put h at (mended_patch old p new) after)
+    ]
+
+-- the subscripts of a component that a receiver has
+abbrev pub components_in : Bool → Subscript → Subscripts
+components_in true (ByParts place copies arrays components) = if is_none arrays then NoSubscripts else components
+components_in false (ByParts place copies arrays components) = components
+components_in arrayed other = NoSubscripts
+
+-- a receiver with the subscripts of its component: it is read before they are evaluated, and then written whole
+abbrev pub component_received : Meaning → Here → Located → Subscripts → Value → State → Evaluated (Unit {0})
+component_received rec h l NoSubscripts v st = store h l.kind l.at v st
+component_received rec h l (MoreSubscripts first others) v st =
+    bind (read h l.kind l.at st) (λ old after. bind (part_chosen rec h (place_count old) first after) (λ p later. replaced h l.at old v p later))
+
+-- a receiver without a mark in its subscript: of an array its place was evaluated, else it is a component's
+abbrev pub received_by : Meaning → Here → Located → Bool → Subscript → Value → State → Evaluated (Unit {0})
+received_by rec h l false (ByName place name) v st =
+    bind (read h l.kind l.at st) (λ old after. bind (named_value rec h name after) (λ i later. replaced h l.at old v (part.One (integer_of i)) later))
+received_by rec h l false (ByInteger place mark number) v st = bind (read h l.kind l.at st) (λ old after. replaced h l.at old v (part.One (pos number)) after)
+received_by rec h l arrayed subscript v st = component_received rec h l (components_in arrayed subscript) v st
+
+-- whether a name with a path is an array
+abbrev pub is_array_named : List Naming → Meant → Bool
+is_array_named path (MeantData at shape) = is_arrayed (sizes_named path shape)
+is_array_named path other = false
+
+-- a receiver gets a value: its subscripts are evaluated, the value is converted, and stored
+abbrev pub received : Meaning → Here → Value → Reference → State → Evaluated (Unit {0})
+received rec h v (Refers place name path subscript) st =
+    bind (chosen_data rec h (Refers place name path subscript) st) (λ l after. received_by rec h l (is_array_named path (name_meant h name st.kept.places)) subscript v after)
+
+-- receivers get a value, from left to right
+abbrev pub all_received : Meaning → Here → Value → List Reference → State → Evaluated (Unit {0})
+all_received rec h v [] st = Gives tt st
+all_received rec h v (receiver ∷ receivers) st = bind (received rec h v receiver st) (λ done after. all_received rec h v receivers after)
+
+-- the kind of what a name means
+abbrev pub kind_meant : List Naming → Meant → Kind
+kind_meant path (MeantData at shape) = kind_of_first (chosen path shape.components)
+kind_meant path other = kind.Double
+
+abbrev pub kind_named : Here → Reference → List Held → Kind
+kind_named h (Refers place name path subscript) places = kind_meant path (name_meant h name places)
+
+-- what an answer to Input comes to: a datum, or after an ignored error none
+abbrev pub datum_of : Here → Answered → State → Evaluated (Option Value)
+datum_of h (answered.Told v) st = Gives (Some v) st
+datum_of h (answered.Wrong e) st = bind (raise h e st) (λ ignored after. Gives None after)
+datum_of h other st = Gives None st
+
+-- a receiver of READ; it is skipped where there is no datum
+abbrev pub datum_received : Meaning → Here → Reference → Option Value → State → Evaluated (Unit {0})
+datum_received rec h receiver None st = Gives tt st
+datum_received rec h receiver (Some v) st = received rec h v receiver st
+
+-- READ: for each receiver the next datum, then its subscripts, and then the store
+abbrev pub all_read : Meaning → Here → ℕ → List Reference → State → Evaluated (Unit {0})
+all_read rec h channel [] st = Gives tt st
+all_read rec h channel (receiver ∷ receivers) st =
+    bind (ask (request.Input channel (kind_named h receiver st.kept.places)) st)
+    (λ answer st1. bind (datum_of h answer st1) (λ datum st2. bind (datum_received rec h receiver datum st2) (λ done st3. all_read rec h channel receivers st3)))
+
+-- the text of a value
+abbrev pub text_of : Value → List ℕ
+text_of (value.Int a) = signed_decimal a
+text_of (value.Bits len word) = bits_text len word
+text_of (value.Text text) = text
+
+-- a blank before each item
+abbrev pub line_of : List Value → List ℕ
+line_of [] = []
+line_of (v ∷ vs) = (32 ∷ text_of v) ++ line_of vs
+
+-- a line has at most 1,000 bytes
+abbrev pub line_fitting : Here → List ℕ → State → Evaluated (List ℕ)
+line_fitting h line st = if nat_lt 1000 (length line) then bind (raise h (error 3 3) st) (λ ignored after. Gives (take 1000 line) after) else Gives line st
+
+-- the number that a channel is
+abbrev pub channel_of : Value → ℕ
+channel_of (value.Int (pos n)) = n
+channel_of v = 0
+
+-- WRITE: its items are evaluated, and then their line is printed
+abbrev pub written : Meaning → Here → Expression → Expressions → State → Evaluated (Unit {0})
+written rec h channel items st =
+    bind (expression rec h channel st)
+    (λ c st1. bind (values rec h items st1) (λ vs st2. bind (line_fitting h (line_of vs) st2) (λ line st3. request_made (request.Print (channel_of c) line) st3)))
+
+-- the spots of ASSIGN arguments, from left to right
+abbrev pub spots : Meaning → Here → List Reference → State → Evaluated (List Spot)
+spots rec h [] st = Gives [] st
+spots rec h (receiver ∷ receivers) st = bind (chosen_data rec h receiver st) (λ l after. bind (spots rec h receivers after) (λ more later. Gives (l.at ∷ more) later))
+
+abbrev pub called : Meaning → Here → Meant → Expressions → List Reference → State → Evaluated (Unit {0})
+called rec h (MeantBlock unit) arguments receivers st =
+    bind (passed rec h unit (inputs_at h.set unit) arguments st)
+    (λ ps st1. bind (spots rec h receivers st1) (λ at st2. bind (call rec h unit ps at st2) (λ result st3. Gives tt st3)))
+called rec h other arguments receivers st = Gives tt st
+
+-- what ON ERROR and OFF ERROR select
+abbrev pub selector_of : Selector → selectors.Selector
+selector_of EveryError = selector.All
+selector_of (GroupErrors place group_at group) = selector.Group group
+selector_of (OneError place group_at group number_at number) = selector.One (error group number)
+
+abbrev pub act_of : Response → Side → Act
+act_of System s = act.System s
+act_of Ignore s = act.Ignore s
+
+abbrev pub entry : selectors.Selector → Act → Entry
+entry s a = record { selector = s; act = a }
+
+-- an entry of the block
+abbrev pub entry_set : selectors.Selector → Act → State → Evaluated Flow
+entry_set s a st = Gives Normal (with_entries (with_entry (entry s a) st.entries) st)
+
+-- whether a label is one of a group's
+abbrev pub is_label : List Naming → List ℕ → Bool
+is_label labels name = list_any (λ (l : Naming). bytes_eq l.name name) labels
+
+-- whether EXIT or REPEAT with this label or without one is meant for a group with these labels
+abbrev pub is_meant : List Naming → Option (List ℕ) → Bool
+is_meant labels None = true
+is_meant labels (Some name) = is_label labels name
+
+-- a group that is no loop ends
+abbrev pub group_left : List Naming → Flow → Flow
+group_left labels (Leaves label) = if is_meant labels label then Normal else Leaves label
+group_left labels flow = flow
+
+-- how a loop goes on after a turn: with the next turn, or it ends so
+pub data After : Type 0 where
+  NextTurn : After
+  Ended : (flow : Flow) → After
+
+abbrev pub after_turn : List Naming → Flow → After
+after_turn labels Normal = NextTurn
+after_turn labels (Repeats label) = if is_meant labels label then NextTurn else Ended (Repeats label)
+after_turn labels (Leaves label) = Ended (if is_meant labels label then Normal else Leaves label)
+after_turn labels (Returned v) = Ended (Returned v)
+
+abbrev pub goes_round : (State → Evaluated Flow) → After → State → Evaluated Flow
+goes_round next NextTurn st = next st
+goes_round next (Ended flow) st = Gives flow st
+
+-- a turn that began: the statements, and what follows
+abbrev pub turn_made : List Naming → (State → Evaluated Flow) → (State → Evaluated Flow) → Bool → State → Evaluated Flow
+turn_made labels body next false st = Gives Normal st
+turn_made labels body next true st = bind (body st) (λ flow after. goes_round next (after_turn labels flow) after)
+
+-- a turn, where the loop's condition lets it begin
+abbrev pub turn_if : Here → List Naming → (State → Evaluated Flow) → (State → Evaluated Flow) → Bool → State → Evaluated Flow
+turn_if h labels body next false st = Gives Normal st
+turn_if h labels body next true st = bind (turn h st) (λ made after. turn_made labels body next made after)
+
+-- whether WHILE or UNTIL lets a turn begin
+abbrev pub guard_holds : Meaning → Here → Guard → State → Evaluated Bool
+guard_holds rec h (While place condition) st = bind (expression rec h condition st) (λ v after. Gives (holds v) after)
+guard_holds rec h (Until place condition) st = bind (expression rec h condition st) (λ v after. Gives (not (holds v)) after)
+
+-- UNTIL isn't tested before the first turn
+abbrev pub first_holds : Meaning → Here → Guard → State → Evaluated Bool
+first_holds rec h (While place condition) st = bind (expression rec h condition st) (λ v after. Gives (holds v) after)
+first_holds rec h (Until place condition) st = Gives true st
+
+-- the same of a guard that may be there, before the first turn or a later one
+abbrev pub span_holds : Meaning → Here → Bool → Option Guard → State → Evaluated Bool
+span_holds rec h first None st = Gives true st
+span_holds rec h true (Some g) st = first_holds rec h g st
+span_holds rec h false (Some g) st = guard_holds rec h g st
+
+-- a DO FOR group's own places: its end, its step; a TEMPORARY stands before them
+abbrev pub loop_place : Here → ℕ → ℕ
+loop_place h m = elim (slice_get h.marks m) [ None ↦ 0 | Some k ↦ first_place h.places k ]
+
+abbrev pub kept_at : ℕ → Value → State → State
+kept_at n v st = with_places (slice_set st.kept.places n (Holds v)) st
+
+-- whether a value is past the end, by the sign of the step
+abbrev pub is_past : ℤ → ℤ → ℤ → Bool
+is_past step end value = if int_lt step (pos 0) then int_lt value end else int_lt end value
+
+-- a DO FOR group's variable
+abbrev pub variable_spot : Meant → Spot
+variable_spot (MeantData at shape) = at
+variable_spot other = Nowhere
+
+abbrev pub variable_stored : Here → List ℕ → Value → State → Evaluated (Unit {0})
+variable_stored h name v st = store h (kind_meant [] (name_meant h name st.kept.places)) (variable_spot (name_meant h name st.kept.places)) v st
+
+abbrev pub variable_read : Here → List ℕ → State → Evaluated Value
+variable_read h name st = read h (kind_meant [] (name_meant h name st.kept.places)) (variable_spot (name_meant h name st.kept.places)) st
+
+-- where names are looked up in a group with this mark: a TEMPORARY is known there alone
+abbrev pub group_here : Here → Bool → ℕ → Here
+group_here h false m = h
+group_here h true m = elim (slice_get h.marks m) [ None ↦ h | Some k ↦ within k h ]
+
+-- the places of the end and the step
+abbrev pub end_place : Here → Bool → ℕ → ℕ
+end_place h false m = loop_place h m
+end_place h true m = suc (loop_place h m)
+
+-- an UPDATE block ends, and with it its entries; what is caught in an earlier block goes on there
+abbrev pub closed : Mode → Mode
+closed m = mode None m.store m.writes m.turns
+
+abbrev pub update_left : List Entry → Evaluated Flow → Evaluated Flow
+update_left entries (Gives flow after) = Gives flow (with_entries entries (with_mode (closed after.mode) after))
+update_left entries (Asks request keeps in_mode) = Asks request keeps in_mode
+update_left entries (Caught zero place after) = Gives Normal (with_entries entries (with_mode (closed after.mode) after))
+update_left entries (Caught (suc level) place after) = Caught level place (with_entries entries (with_mode (closed after.mode) after))
+update_left entries (Restarts keeps left) = Restarts keeps left
+update_left entries Lost = Lost
+
+-- a statement of ON ERROR in this block is entered, which is a turn; all else is the end of the block
+abbrev pub resumed : Meaning → Here → ℕ → Bool → State → Evaluated Flow
+resumed rec h place false st = Gives Normal st
+resumed rec h place true st = rec (Resuming h place) st
+
+abbrev pub settled : Meaning → Here → Evaluated Flow → Evaluated Flow
+settled rec h (Gives flow after) = Gives flow after
+settled rec h (Asks request keeps in_mode) = Asks request keeps in_mode
+settled rec h (Caught zero place after) = bind (turn h after) (λ made begins. resumed rec h place made begins)
+settled rec h (Caught (suc level) place after) = Caught (suc level) place after
+settled rec h (Restarts keeps left) = Restarts keeps left
+settled rec h Lost = Lost
+
+-- the shared data as an UPDATE block sees them
+abbrev pub snapshot_of : Answered → List Value
+snapshot_of (answered.Block snapshot turns) = snapshot
+snapshot_of other = []
+
+-- how many turns an UPDATE block has that begins with this answer
+abbrev pub turns_given : ℕ → Answered → ℕ
+turns_given turns (answered.Block snapshot made) = turns
+turns_given turns answered.Begun = 0
+turns_given turns (answered.Told v) = 0
+turns_given turns answered.Done = 0
+turns_given turns (answered.Wrong e) = 0
+turns_given turns answered.Killed = 0
+
+-- the groups of the UPDATE block with this mark
+abbrev pub update_groups : Here → ℕ → ℕ
+update_groups h m = elim (slice_get h.marks m) [ None ↦ 0 | Some u ↦ groups_of h.set.phrases h.set.constants u ]
+
+abbrev pub entered_update : Here → ℕ → Answered → State → State
+entered_update h m answer st = with_entries [] (with_mode (mode (Some (update_groups h m)) (snapshot_of answer) [] (turns_given h.set.turns answer)) st)
+
+-- the value that RETURN gives, as the unit's type has it
+abbrev pub returned_in : Here → Value → Value
+returned_in h v = elim (body_at h.set h.unit) [ None ↦ v | Some b ↦ returned_by b.head v ]
+
+abbrev pub returned : Meaning → Here → Option Expression → State → Evaluated Flow
+returned rec h None st = Gives (Returned None) st
+returned rec h (Some tree) st = bind (expression rec h tree st) (λ v after. Gives (Returned (Some (returned_in h v))) after)
+
+abbrev pub label_name : Option Naming → Option (List ℕ)
+label_name None = None
+label_name (Some l) = Some l.name
+
+-- where a DO FOR group with TO begins: its start is stored, its end and step are kept; a turn begins unless the start is past the end
+abbrev pub step_of : Meaning → Here → Option Expression → State → Evaluated Value
+step_of rec h None st = Gives (value.Int (pos 1)) st
+step_of rec h (Some tree) st = expression rec h tree st
+
+abbrev pub begun_stepping : Meaning → Here → List ℕ → ℕ → Expression → Expression → Option Expression → State → Evaluated Bool
+begun_stepping rec h name n first last step st =
+    bind (expression rec h first st)
+    (λ from st1. bind (expression rec h last st1)
+    (λ to st2. bind (step_of rec h step st2)
+    (λ by st3. bind (variable_stored h name from (kept_at (suc n) by (kept_at n to st3)))
+    (λ done st4. Gives (not (is_past (integer_of by) (integer_of to) (integer_of from))) st4))))
+
+-- whether a turn begins: the bounds let it, and the guard does
+abbrev pub span_begins : Meaning → Here → Bool → Option Guard → Bool → State → Evaluated Bool
+span_begins rec h first g false st = Gives false st
+span_begins rec h first g true st = span_holds rec h first g st
+
+-- the next value of a DO FOR group with TO is stored, unless it is past the end
+abbrev pub next_stored : Here → List ℕ → Bool → Value → State → Evaluated Bool
+next_stored h name true v st = Gives false st
+next_stored h name false v st = bind (variable_stored h name v st) (λ done after. Gives true after)
+
+abbrev pub next_stepping : Here → List ℕ → ℕ → State → Evaluated Bool
+next_stepping h name n st =
+    bind (variable_read h name st)
+    (λ v after. let next = integer_of v +ℤ integer_of (held_in (slice_get after.kept.places (suc n))) in
+    next_stored h name (is_past (integer_of (held_in (slice_get after.kept.places (suc n)))) (integer_of (held_in (slice_get after.kept.places n))) next) (value.Int next) after)
+
+abbrev pub looping : List Naming → ℕ → Group → Looping
+looping labels m group = record { labels = labels; mark = m; group = group }
+
+-- the next value of a list is stored, and the guard lets a turn begin
+abbrev pub listed : Meaning → Here → List ℕ → Bool → Expression → Option Guard → State → Evaluated Bool
+listed rec h name first tree g st =
+    bind (expression rec h tree st) (λ v st1. bind (variable_stored h name v st1) (λ done st2. span_holds rec h first g st2))
+
+-- WAIT FOR an event expression
+abbrev pub waited : List ℕ → State → Evaluated (Unit {0})
+waited [] st = Gives tt st
+waited (x ∷ xs) st = request_made (request.Wait (pause.Event x)) st
+
+-- whether a number is 1
+abbrev pub is_one : ℤ → Bool
+is_one (pos n) = n == 1
+is_one (negsuc n) = false
+
+-- what stands behind a statement is done where control goes on there
+abbrev pub goes_behind : Flow → (State → Evaluated Flow) → State → Evaluated Flow
+goes_behind Normal next st = next st
+goes_behind (Leaves label) next st = Gives (Leaves label) st
+goes_behind (Repeats label) next st = Gives (Repeats label) st
+goes_behind (Returned v) next st = Gives (Returned v) st
+
+-- one of two ways on
+abbrev pub one_of : Bool → (State → Evaluated Flow) → (State → Evaluated Flow) → State → Evaluated Flow
+one_of true held failed st = held st
+one_of false held failed st = failed st
+
+-- a DO FOR group with these statements; names are looked up within it
+abbrev pub spanned : Meaning → Here → ℕ → Looping → List ℕ → Span → Option Guard → (State → Evaluated Flow) → State → Evaluated Flow
+spanned rec h end loop name (Stepped first last step) g body st =
+    bind (begun_stepping rec h name end first last step st)
+    (λ begins st1. bind (span_begins rec h true g begins st1) (λ held st2. turn_if h loop.labels body (rec (Stepping h end loop name g)) held st2))
+spanned rec h end loop name (Listed NoExpressions) g body st = Gives Normal st
+spanned rec h end loop name (Listed (MoreExpressions first others)) g body st =
+    bind (listed rec h name true first g st) (λ held st1. turn_if h loop.labels body (rec (Listing h loop name g others)) held st1)
+
+abbrev mutual
+  pub statement : Meaning → Here → ℕ → Statement → State → Evaluated Flow
+  statement rec h m (Labelled labels basic) st = basic_statement rec h m labels basic st
+
+  -- a statement with these labels, before which the next mark has this number
+  pub basic_statement : Meaning → Here → ℕ → List Naming → Basic → State → Evaluated Flow
+  basic_statement rec h m labels (Null place) st = Gives Normal st
+  basic_statement rec h m labels (Assignment place receivers tree) st = bind (expression rec h tree st) (λ v after. goes_on (all_received rec h v receivers after))
+  basic_statement rec h m labels (If place condition consequence alternative) st =
+      bind (expression rec h condition st)
+      (λ v after. one_of (holds v) (λ begun. statement rec h m consequence begun) (λ begun. otherwise rec h (after_statement m consequence) alternative begun) after)
+  basic_statement rec h m labels (Do place group) st = bind (grouped rec h (suc m) group st) (λ flow after. Gives (group_left labels flow) after)
+  basic_statement rec h m labels (DoCase place selects alternative group) st =
+      bind (expression rec h selects st)
+      (λ v after. bind (case_of rec h (after_alternative (suc m) alternative) (integer_of v) (λ before. without_case rec h (suc m) alternative before) group after)
+      (λ flow later. Gives (group_left labels flow) later))
+  basic_statement rec h m labels (DoLoop place g group) st =
+      bind (first_holds rec h g st)
+      (λ held after. turn_if h labels (λ begun. grouped rec h (suc m) group begun) (rec (Tested h (looping labels m group) g)) held after)
+  basic_statement rec h m labels (DoFor place temporary variable span g group) st =
+      spanned rec (group_here h temporary m) (end_place h temporary m) (looping labels m group) variable.name span g (λ begun. grouped rec (group_here h temporary m) (suc m) group begun) st
+  basic_statement rec h m labels (Exit place label) st = Gives (Leaves (label_name label)) st
+  basic_statement rec h m labels (Repeat place label) st = Gives (Repeats (label_name label)) st
+  basic_statement rec h m labels (Return place tree) st = returned rec h tree st
+  basic_statement rec h m labels (Call place name arguments receivers) st = goes_on (called rec h (name_meant h name.name st.kept.places) arguments receivers st)
+  basic_statement rec h m labels (Read place channel receivers) st =
+      bind (expression rec h channel st) (λ c after. goes_on (all_read rec h (channel_of c) receivers after))
+  basic_statement rec h m labels (Write place channel items) st = goes_on (written rec h channel items st)
+  basic_statement rec h m labels (Update place body close) st =
+      bind (ask (request.Update (update_groups h m)) st)
+      (λ answer after. update_left after.entries (settled rec (updating body (suc m) after.entries h) (statements rec (updating body (suc m) after.entries h) (suc m) body (entered_update h m answer after))))
+  basic_statement rec h m labels (Scheduled place s) st = goes_on (scheduled rec h m s st)
+  basic_statement rec h m labels (Cancel place names) st = goes_on (named_or_own h request.Cancel names st)
+  basic_statement rec h m labels (Terminate place names) st = goes_on (named_or_own h request.Terminate names st)
+  basic_statement rec h m labels (Wait place tree) st = bind (time rec h tree st) (λ t after. goes_on (request_made (request.Wait (pause.For t)) after))
+  basic_statement rec h m labels (WaitUntil place tree) st = bind (time rec h tree st) (λ t after. goes_on (request_made (request.Wait (pause.Till t)) after))
+  basic_statement rec h m labels (WaitForDependent place) st = goes_on (request_made (request.Wait pause.Dependents) st)
+  basic_statement rec h m labels (WaitFor place tree) st = goes_on (waited (stated_at_mark h m) st)
+  basic_statement rec h m labels (Event e) st = goes_on (eventful h e st)
+  basic_statement rec h m labels (UpdatePriority place name tree) st = goes_on (priority_changed rec h name tree st)
+  basic_statement rec h m labels (OnErrorStatement place s handler) st = entry_set (selector_of s) (act.Statement m) st
+  basic_statement rec h m labels (OnErrorResponse place s response e) st = entry_set (selector_of s) (act_of response (side_of h e)) st
+  basic_statement rec h m labels (OffError place s) st = Gives Normal (with_entries (without (selector_of s) st.entries) st)
+  basic_statement rec h m labels (SendError place group_at group number_at number) st = goes_on (raise h (error group number) st)
+
+  -- what stands after ELSE
+  pub otherwise : Meaning → Here → ℕ → Alternative → State → Evaluated Flow
+  otherwise rec h m NoAlternative st = Gives Normal st
+  otherwise rec h m (Otherwise one) st = statement rec h m one st
+
+  -- what DO CASE does where its number selects no statement
+  pub without_case : Meaning → Here → ℕ → Alternative → State → Evaluated Flow
+  without_case rec h m NoAlternative st = bind (raise h (error 1 6) st) (λ ignored after. Gives Normal after)
+  without_case rec h m (Otherwise one) st = statement rec h m one st
+
+  -- the statement of a DO CASE group that a number selects
+  pub case_of : Meaning → Here → ℕ → ℤ → (State → Evaluated Flow) → Group → State → Evaluated Flow
+  case_of rec h m i none (Groups list close) st = selected rec h m i none list st
+
+  pub selected : Meaning → Here → ℕ → ℤ → (State → Evaluated Flow) → Statements → State → Evaluated Flow
+  selected rec h m i none NoStatements st = none st
+  selected rec h m i none (MoreStatements first others) st =
+      if is_one i then statement rec h m first st else selected rec h (after_statement m first) (i -ℤ pos 1) none others st
+
+  -- the statements of a group
+  pub grouped : Meaning → Here → ℕ → Group → State → Evaluated Flow
+  grouped rec h m (Groups list close) st = statements rec h m list st
+
+  -- statements one after another
+  pub statements : Meaning → Here → ℕ → Statements → State → Evaluated Flow
+  statements rec h m NoStatements st = Gives Normal st
+  statements rec h m (MoreStatements first others) st =
+      bind (statement rec h m first st) (λ flow after. goes_behind flow (λ begun. statements rec h (after_statement m first) others begun) after)
