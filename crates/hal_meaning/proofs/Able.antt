@@ -1,12 +1,11 @@
 -- What is said of tasks that may begin.
-use Rattle.std.specs.Prelude.{ℕ, zero, suc, ◌+◌, ◌≤◌, ◌<◌, ◌≡◌, ◌++◌, length, List, [], ◌∷◌, Bool, true, false, Option, Some, None}
-use Rattle.std.proofs.Common.{refl, sym, ap, subst, arith}
-use Rattle.hal_values.specs.declared.request.Request.{Request}
+use Rattle.std.specs.Prelude.{ℕ, suc, ◌≤◌, ◌<◌, ◌≡◌, length, [], true}
+use Rattle.std.proofs.Common.{refl, arith}
 use Rattle.hal_values.specs.declared.request.Request.TheVariants as request
 use Rattle.hal_values.specs.declared.tables.Tables.{Tables}
 use Rattle.hal_values.specs.Answers.{Answered}
 use Rattle.hal_values.specs.Tables.{process_count}
-use Rattle.hal_meaning.specs.States.{Kept, Mode, asking, State, state, Evaluated, Gives, Asks, Caught, Restarts, Lost, bind, Flow}
+use Rattle.hal_meaning.specs.States.{Kept, asking, State, state, Evaluated, Asks, bind}
 use Rattle.hal_meaning.specs.Access.{Here}
 use Rattle.hal_meaning.specs.Tasks.{Task, Meaning, Tested, Stepping, Listing, Entering, Resuming, Cycling}
 use Rattle.hal_meaning.proofs.Going.{spare, pushed, IsRight, Goes, Fine, Goes-bind}

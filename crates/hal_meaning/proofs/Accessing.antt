@@ -1,7 +1,7 @@
 -- What is said of asking, of errors, of turns, and of reading and writing.
-use Rattle.std.specs.Prelude.{ℕ, zero, suc, ◌+◌, ◌≤◌, ◌<◌, ◌≡◌, ◌++◌, ◌^◌, ◌==◌, nat_lt, nat_le, length, List, [], ◌∷◌, ℤ, pos, negsuc, ◌≤ℤ◌, int_lt, Bool, true, false, not, ◌&&◌, Option, Some, None, All, Result, Ok, Err, slice_get, slice_set, if◌then◌else◌}
-use Rattle.std.proofs.Common.{refl, sym, ap, subst, ◌∙◌, inl, inr, arith}
-use Rattle.std.proofs.lemmas.Bool.{leb-true, ltb-true}
+use Rattle.std.specs.Prelude.{ℕ, zero, suc, ◌+◌, ◌≤◌, ◌≡◌, ◌++◌, nat_lt, List, [], ◌∷◌, pos, Bool, true, false, Option, Some, None, Result, Ok, Err, slice_get, slice_set, if◌then◌else◌}
+use Rattle.std.proofs.Common.{refl, sym, subst, arith}
+use Rattle.std.proofs.lemmas.Bool.{ltb-true}
 use Rattle.std.proofs.lemmas.Option.{slice_get_within}
 use Rattle.std.proofs.lemmas.List.Elements.{All-push}
 use Rattle.hal_values.specs.declared.environment.Entry.{Entry}
@@ -14,22 +14,20 @@ use Rattle.hal_values.specs.declared.request.Spot.TheVariants as spot
 use Rattle.hal_values.specs.declared.tables.Cell.{Cell}
 use Rattle.hal_values.specs.declared.tables.Tables.{Tables}
 use Rattle.hal_values.specs.declared.value.Kind.{Kind}
-use Rattle.hal_values.specs.declared.value.Kind.TheVariants as kind
 use Rattle.hal_values.specs.declared.value.Value.{Value}
 use Rattle.hal_values.specs.declared.value.Value.TheVariants as value
 use Rattle.hal_values.specs.Answers.{Answered, error}
-use Rattle.hal_values.specs.Kinds.{IsOfKind, IsKind}
 use Rattle.hal_values.specs.Loads.{IsWritten}
 use Rattle.hal_values.specs.Requests.{IsInOrder, IsForCell, HasEvent}
 use Rattle.hal_values.specs.Searching.{Found, BySystem, Ignored, ByStatement, search}
 use Rattle.hal_values.specs.Tables.{event_count}
 use Rattle.hal_operations.specs.Stores.{stored, mended_store}
-use Rattle.hal_meaning.specs.InitialValues.{nothing, is_of, of_kind, lies_within}
-use Rattle.hal_meaning.specs.States.{Spot, Shared, Own, Nowhere, Held, Kept, kept, Mode, mode, State, state, with_kept, with_mode, with_places, Evaluated, Gives, Asks, Caught, Restarts, Lost, bind, asks}
+use Rattle.hal_meaning.specs.InitialValues.{of_kind}
+use Rattle.hal_meaning.specs.States.{Spot, Shared, Own, Nowhere, Kept, kept, Mode, mode, State, state, with_kept, Evaluated, Gives, bind}
 use Rattle.hal_meaning.specs.Statements.{turns_given}
-use Rattle.hal_meaning.specs.Access.{Here, ask, request_made, event_changed, sided, are_spent, meets, raise, tested, turned, turn, has_bit, told, seen_cell, read_in, read_cell, held_in, read, noted, write_in, write_cell, put, store, further, copy, all_entered}
+use Rattle.hal_meaning.specs.Access.{Here, ask, request_made, event_changed, sided, are_spent, meets, raise, tested, turned, turn, has_bit, read_in, read, write_in, put, store, further, copy, all_entered}
 use Rattle.hal_meaning.proofs.OfKind.{of_kind_is}
-use Rattle.hal_meaning.proofs.Going.{weight, turns_in, spare, pushed, IsRight, Turned, Goes, Fine, Answers, Goes-bind, Goes-asks, Goes-stops}
+use Rattle.hal_meaning.proofs.Going.{weight, turns_in, spare, pushed, IsRight, Goes, Fine, Answers, Goes-bind, Goes-asks, Goes-stops}
 
 -- a state is right, and so many tasks may begin
 abbrev pub Ok_state : Tables → ℕ → ℕ → State → Type 0

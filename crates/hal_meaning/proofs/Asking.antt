@@ -1,23 +1,21 @@
 -- A process always asks.
-use Rattle.std.specs.Prelude.{ℕ, zero, suc, ◌+◌, ◌≤◌, ◌<◌, ◌≡◌, ◌++◌, length, List, [], ◌∷◌, Bool, true, false, Option, Some, None}
-use Rattle.std.proofs.Common.{refl, sym, ap, subst, arith}
+use Rattle.std.specs.Prelude.{ℕ, zero, suc, ◌+◌, ◌≤◌, ◌<◌, length, List, [], ◌∷◌, Option}
+use Rattle.std.proofs.Common.{subst, arith}
 use Rattle.std.proofs.lemmas.List.Elements.{All-nil}
 use Rattle.hal_values.specs.declared.environment.Entry.{Entry}
-use Rattle.hal_values.specs.declared.request.Request.{Request}
-use Rattle.hal_values.specs.declared.request.Request.TheVariants as request
 use Rattle.hal_values.specs.Answers.{Answered}
 use Rattle.hal_values.specs.Answers as answered
 use Rattle.hal_values.specs.Loads.{IsWritten}
 use Rattle.hal_values.specs.Tables.{process_count}
-use Rattle.hal_meaning.specs.States.{Kept, Mode, asking, State, state, Evaluated, Gives, Asks, Caught, Restarts, Lost, bind, Flow}
+use Rattle.hal_meaning.specs.States.{Kept, Mode, asking, state, Evaluated, Gives, Asks, Caught, Restarts, Lost, Flow}
 use Rattle.hal_meaning.specs.Access.{Here}
-use Rattle.hal_meaning.specs.Statements.{turns_given, statements}
-use Rattle.hal_meaning.specs.Tasks.{Task, Meaning, Cycling}
+use Rattle.hal_meaning.specs.Statements.{statements}
+use Rattle.hal_meaning.specs.Tasks.{Meaning, Cycling}
 use Rattle.hal_meaning.specs.Runs.{to_end, restarted, finished, finished_behind, cycle, task, more_tasks, no_tasks, tasks}
-use Rattle.hal_meaning.proofs.Going.{weight, turns_in, spare, pushed, IsRight, Goes, Fine}
-use Rattle.hal_meaning.proofs.Able.{IsIn, Able, Ready, Runs, Fit}
+use Rattle.hal_meaning.proofs.Going.{weight, turns_in, IsRight}
+use Rattle.hal_meaning.proofs.Able.{Able, Ready, Runs}
 use Rattle.hal_meaning.proofs.Stating.{Runs-statements}
-use Rattle.hal_meaning.proofs.Tasking.{Runs-end, Able-task, Able-more, Able-tasks}
+use Rattle.hal_meaning.proofs.Tasking.{Runs-end, Able-more, Able-tasks}
 
 -- a request is asked
 abbrev pub IsAsked : Evaluated Flow → Type 0

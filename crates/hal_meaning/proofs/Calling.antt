@@ -1,23 +1,22 @@
 -- What is said of calls.
-use Rattle.std.specs.Prelude.{ℕ, zero, suc, ◌+◌, ◌≤◌, ◌<◌, ◌≡◌, ◌++◌, List, [], ◌∷◌, ℤ, pos, Bool, true, false, Option, Some, None}
-use Rattle.std.proofs.Common.{refl, sym, ap, subst, arith}
+use Rattle.std.specs.Prelude.{ℕ, zero, suc, List, [], ◌∷◌, pos, Bool, true, false, Option, Some, None}
+use Rattle.std.proofs.Common.{refl, ap}
 use Rattle.hal_grammar.specs.Leaves.{Naming}
 use Rattle.hal_values.specs.declared.environment.Entry.{Entry}
-use Rattle.hal_values.specs.declared.value.Value.{Value}
 use Rattle.hal_values.specs.declared.value.Value.TheVariants as value
 use Rattle.hal_values.specs.Answers.{Answered}
 use Rattle.hal_meaning.specs.Elements.{element_count}
 use Rattle.hal_meaning.specs.Bodies.{Body}
 use Rattle.hal_meaning.specs.ReportNames.{first_place}
 use Rattle.hal_meaning.specs.Sets.{body_at}
-use Rattle.hal_meaning.specs.States.{Spot, Own, State, with_places, with_entries, Evaluated, Gives, Asks, Caught, Restarts, Lost, bind, Flow}
-use Rattle.hal_meaning.specs.Access.{Here, turn}
+use Rattle.hal_meaning.specs.States.{Spot, Own, State, with_places, with_entries, Evaluated, Gives, Asks, Caught, Restarts, Lost, Flow}
+use Rattle.hal_meaning.specs.Access.{Here}
 use Rattle.hal_meaning.specs.Variables.{kind_of_first}
-use Rattle.hal_meaning.specs.Calls.{Parameter, parameter_named, Passed, Plain, Whole, entering, bound, stored_parameter, stored_parameters, begun, zero_of, result_of, left_with, run_call, made_call, call, inputs_of, outputs_of}
+use Rattle.hal_meaning.specs.Calls.{Parameter, parameter_named, Passed, Plain, Whole, entering, bound, stored_parameter, stored_parameters, begun, left_with, run_call, made_call, call, inputs_of, outputs_of}
 use Rattle.hal_meaning.specs.Tasks.{Meaning, Entering}
-use Rattle.hal_meaning.proofs.Going.{spare, pushed, Turned-through, Goes, Fine, Goes-bind}
+use Rattle.hal_meaning.proofs.Going.{pushed, Turned-through, Fine, Goes-bind}
 use Rattle.hal_meaning.proofs.Accessing.{Begins, Goes-turn, Goes-store, Goes-copy}
-use Rattle.hal_meaning.proofs.Able.{IsIn, Able, Ready, Runs, Fit, seq, begun as task_begun}
+use Rattle.hal_meaning.proofs.Able.{Ready, Runs, Fit, seq, begun as task_begun}
 
 Runs-parameter : (h : Here) (limit : ℕ) (a : Answered) (p : Parameter) (passed : Passed) (st : State) → Fit h limit st → Runs h limit a (stored_parameter h p passed st) (stored_parameter h p passed (pushed a st))
 Runs-parameter h limit a p (Plain v) st is = Goes-store h h.set.turns limit a (kind_of_first p.shape.components) (Own (first_place h.places p.number)) v st is

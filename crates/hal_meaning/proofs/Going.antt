@@ -2,14 +2,13 @@
 --
 -- With enough tasks it never is Lost; each request is in order, and the writes of an UPDATE block are right; and with an answer more at the end the
 -- same comes of it, where no request was asked.
-use Rattle.std.specs.Prelude.{ℕ, zero, suc, ◌+◌, ◌≤◌, ◌<◌, ◌≡◌, ◌⊎◌, ◌++◌, List, [], ◌∷◌, Bool, true, false, Option, Some, None, All}
+use Rattle.std.specs.Prelude.{ℕ, suc, ◌+◌, ◌≤◌, ◌≡◌, ◌⊎◌, ◌++◌, List, [], ◌∷◌, Option, Some, None, All}
 use Rattle.std.proofs.Common.{refl, sym, ap, subst, ◌∙◌, inl, inr, arith}
 use Rattle.hal_values.specs.declared.environment.Entry.{Entry}
 use Rattle.hal_values.specs.declared.environment.ErrNo.{ErrNo}
 use Rattle.hal_values.specs.declared.request.Request.{Request}
 use Rattle.hal_values.specs.declared.request.Request.TheVariants as request
 use Rattle.hal_values.specs.declared.tables.Tables.{Tables}
-use Rattle.hal_values.specs.declared.value.Value.{Value}
 use Rattle.hal_values.specs.Answers.{Answered}
 use Rattle.hal_values.specs.Answers as answered
 use Rattle.hal_values.specs.Loads.{IsWritten}

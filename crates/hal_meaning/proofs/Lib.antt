@@ -9,3 +9,6 @@ pub mod Stating
 pub mod Tasking
 pub mod Asking
 pub mod Loading
+pub mod Cells
+pub mod Postfix
+pub mod Accepted

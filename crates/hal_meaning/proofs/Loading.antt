@@ -1,5 +1,5 @@
 -- A set is a load.
-use Rattle.std.specs.Prelude.{ℕ, zero, suc, ◌+◌, ◌-◌, ◌≤◌, ◌<◌, ◌≡◌, ◌⊎◌, ◌++◌, ◌==◌, length, List, [], ◌∷◌, Bool, true, false, Option, Some, None, All, IsSome, if◌then◌else◌}
+use Rattle.std.specs.Prelude.{ℕ, ◌-◌, ◌≤◌, ◌<◌, ◌≡◌, ◌++◌, ◌==◌, length, List, [], ◌∷◌, Bool, true, false, Option, Some, None, All, IsSome, if◌then◌else◌}
 use Rattle.std.proofs.Common.{refl, sym, ap, subst, ◌∙◌, inl, inr, arith}
 use Rattle.std.proofs.lemmas.Bool.{eqb-true, eq-eqb}
 use Rattle.std.proofs.lemmas.List.Elements.{All-nil}
@@ -14,12 +14,18 @@ use Rattle.hal_values.specs.Tables.{IsTables, process_count}
 use Rattle.hal_meaning.specs.Bodies.{Body}
 use Rattle.hal_meaning.specs.Places.{Place}
 use Rattle.hal_meaning.specs.Sets.{Set}
-use Rattle.hal_meaning.specs.States.{Kept, Mode, asking, State, Evaluated, Gives, Asks, Caught, Restarts, Lost, Flow}
-use Rattle.hal_meaning.specs.Runs.{first_kept, here_in, process_body, places_of_process, course_of, course, asked, asked_mode, next, is_update, writes_in, block_mode, block}
-use Rattle.hal_meaning.specs.SetLoad.{Keeps, load_of}
+use Rattle.hal_meaning.specs.States.{Kept, Mode, asking, Evaluated, Gives, Asks, Caught, Restarts, Lost, Flow}
+use Rattle.hal_meaning.specs.Runs.{first_kept, here_in, process_body, places_of_process, course_of, asked, asked_mode, next, is_update, block_mode}
+use Rattle.hal_meaning.specs.SetLoad.{load_of}
 use Rattle.hal_meaning.proofs.Going.{weight, IsRight, Turned, Goes, Fine}
 use Rattle.hal_meaning.proofs.Tasking.{Goes-process}
 use Rattle.hal_meaning.proofs.Asking.{IsAsked, process_asks}
+
+-- what is taken of a set: its tables are right, and its UPDATE blocks have no more turns than the limit
+pub record Keeps (s : Set) : Type 0 where
+  pub tables : IsTables s.tables
+  pub turns : s.turns ≤ turn_limit
+  pub stated : length s.stated ≤ length s.tables.expressions
 
 -- what is said of a course, and of the same with an answer more
 abbrev Courses : Set → ℕ → Answered → Evaluated Flow → Evaluated Flow → Type 0

@@ -1,6 +1,6 @@
 -- Values are made to be of a kind.
-use Rattle.std.specs.Prelude.{ℕ, zero, suc, ◌≤◌, ◌<◌, ◌≡◌, ◌^◌, ◌==◌, nat_lt, nat_le, length, List, [], ◌∷◌, ℤ, pos, negsuc, ◌≤ℤ◌, int_lt, Bool, true, false, not, ◌&&◌, if◌then◌else◌}
-use Rattle.std.proofs.Common.{refl, sym, subst, arith}
+use Rattle.std.specs.Prelude.{ℕ, ◌≡◌, ◌^◌, ◌==◌, length, ℤ, pos, negsuc, ◌≤ℤ◌, int_lt, Bool, true, false, not, ◌&&◌, if◌then◌else◌}
+use Rattle.std.proofs.Common.{refl, arith}
 use Rattle.std.specs.Bool.{passes}
 use Rattle.std.specs.Int.Signed.{lt_z_no}
 use Rattle.std.proofs.lemmas.Bool.{leb-true, ltb-true, eqb-true}

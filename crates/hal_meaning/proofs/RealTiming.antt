@@ -1,15 +1,14 @@
 -- What is said of real-time statements.
-use Rattle.std.specs.Prelude.{ℕ, zero, suc, ◌+◌, ◌≤◌, ◌<◌, ◌≡◌, ◌++◌, ◌==◌, nat_lt, length, List, [], ◌∷◌, ℤ, pos, negsuc, ◌≤ℤ◌, ◌*ℤ◌, int_lt, unsigned_abs, slice_get, Bool, true, false, Option, Some, None, if◌then◌else◌}
+use Rattle.std.specs.Prelude.{ℕ, suc, ◌+◌, ◌≤◌, ◌<◌, ◌≡◌, ◌==◌, nat_lt, length, List, [], ◌∷◌, ℤ, pos, negsuc, ◌≤ℤ◌, ◌*ℤ◌, int_lt, unsigned_abs, slice_get, Bool, true, false, Option, Some, None, if◌then◌else◌}
 use Rattle.std.specs.Bool.{passes}
 use Rattle.std.specs.Int.Signed.{lt_z_no}
-use Rattle.std.proofs.Common.{refl, sym, ap, subst, arith}
+use Rattle.std.proofs.Common.{refl, arith}
 use Rattle.std.proofs.lemmas.Bool.{ltb-true, not_from_false}
 use Rattle.std.proofs.Math.Facts.{leb_yes}
 use Rattle.hal_grammar.specs.Leaves.{Naming}
 use Rattle.hal_grammar.specs.Expressions.{Expression, Or, And, Compare, Cat, Sum, Product, Power, Not, Literal, Decimal, Referred, Called, Convert, Parenthesis}
 use Rattle.hal_grammar.specs.Statements.{Guard, While, Until, Start, StartAt, StartIn, StartOn, Cycle, Cyclic, CyclicEvery, CyclicAfter, Schedule, Eventful, EventAction, Signal, Set, Reset}
 use Rattle.hal_scope.specs.Uses.{holds_event}
-use Rattle.hal_values.specs.declared.plan.When.{When}
 use Rattle.hal_values.specs.declared.plan.Cycle as cycles
 use Rattle.hal_values.specs.declared.plan.Cycle.TheVariants as cycle
 use Rattle.hal_values.specs.declared.plan.Guard as guards
@@ -17,18 +16,17 @@ use Rattle.hal_values.specs.declared.plan.Guard.TheVariants as guard
 use Rattle.hal_values.specs.declared.request.Request.{Request}
 use Rattle.hal_values.specs.declared.request.Request.TheVariants as request
 use Rattle.hal_values.specs.declared.tables.Tables.{Tables}
-use Rattle.hal_values.specs.declared.value.Value.{Value}
 use Rattle.hal_values.specs.Answers.{Answered, error}
 use Rattle.hal_values.specs.Answers as answered
-use Rattle.hal_values.specs.Requests.{IsTime, HasExpression, HasProcess, IsInOrder, IsWhenInOrder, IsCycleInOrder, IsGuardInOrder, IsPlanInOrder, time_limit}
-use Rattle.hal_values.specs.Tables.{process_count, event_count}
+use Rattle.hal_values.specs.Requests.{IsTime, HasExpression, HasProcess, IsInOrder, IsWhenInOrder, IsCycleInOrder, IsGuardInOrder, time_limit}
+use Rattle.hal_values.specs.Tables.{process_count}
 use Rattle.hal_meaning.specs.Events.{Stated, event_named}
-use Rattle.hal_meaning.specs.States.{State, Evaluated, Gives, Asks, Caught, Restarts, Lost, bind}
-use Rattle.hal_meaning.specs.Access.{Here, ask, raise, event_changed}
+use Rattle.hal_meaning.specs.States.{State, Evaluated, Gives, bind}
+use Rattle.hal_meaning.specs.Access.{Here}
 use Rattle.hal_meaning.specs.Expressions.{expression, integer_of}
-use Rattle.hal_meaning.specs.RealTime.{limited, milliseconds, thousandths, time, stated_from, stated_at_mark, on_first, by_last, process_named, process_or_own, start, priority, Again, Never, AtOnce, Every, After, again, limit as guarded, nearest_priority, is_priority, checked_priority, checked_again, answered_by, request_tried, plan_of, scheduled, each_named, named_or_own, priority_changed, change_of, eventful}
+use Rattle.hal_meaning.specs.RealTime.{limited, milliseconds, time, stated_from, stated_at_mark, on_first, by_last, process_named, process_or_own, start, priority, Again, Never, AtOnce, Every, After, again, limit as guarded, nearest_priority, is_priority, checked_priority, checked_again, answered_by, request_tried, plan_of, scheduled, each_named, named_or_own, priority_changed, change_of, eventful}
 use Rattle.hal_meaning.specs.Tasks.{Meaning}
-use Rattle.hal_meaning.proofs.Going.{spare, pushed, Goes, Fine, Answers, Goes-bind}
+use Rattle.hal_meaning.proofs.Going.{pushed, Goes, Fine, Answers, Goes-bind}
 use Rattle.hal_meaning.proofs.Accessing.{after_answer, Goes-ask, Goes-if, Goes-raise, Goes-event, IsChange, signals, sets, resets}
 use Rattle.hal_meaning.proofs.Able.{Ready, Runs, Fit, seq}
 use Rattle.hal_meaning.proofs.Expressing.{Runs-mapped, Runs-expression}

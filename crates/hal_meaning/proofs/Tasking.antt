@@ -1,5 +1,5 @@
 -- What is said of tasks, and of a process.
-use Rattle.std.specs.Prelude.{ℕ, zero, suc, ◌+◌, ◌≤◌, ◌<◌, ◌≡◌, ◌⊎◌, ◌++◌, length, List, [], ◌∷◌, Bool, true, false, Option, Some, None}
+use Rattle.std.specs.Prelude.{ℕ, zero, suc, ◌+◌, ◌≤◌, ◌<◌, ◌≡◌, ◌++◌, length, List, [], ◌∷◌, Bool, true, false, Option, Some, None}
 use Rattle.std.proofs.Common.{refl, sym, ap, subst, inl, inr, arith}
 use Rattle.std.proofs.lemmas.List.Elements.{All-nil}
 use Rattle.hal_grammar.specs.Expressions.{NoExpressions, MoreExpressions}
@@ -12,13 +12,13 @@ use Rattle.hal_values.specs.Answers as answered
 use Rattle.hal_values.specs.Loads.{IsWritten}
 use Rattle.hal_values.specs.Tables.{process_count}
 use Rattle.hal_meaning.specs.Marks.{Handling, handling_in}
-use Rattle.hal_meaning.specs.States.{Kept, Mode, asking, State, state, Evaluated, Gives, Asks, Caught, Restarts, Lost, bind, asks_from, Flow, Normal, Leaves, Repeats, Returned}
+use Rattle.hal_meaning.specs.States.{Kept, Mode, asking, State, state, Evaluated, Gives, Asks, Caught, Restarts, Lost, bind, Flow, Normal, Leaves, Repeats, Returned}
 use Rattle.hal_meaning.specs.Access.{Here, request_made}
-use Rattle.hal_meaning.specs.Statements.{turns_given, goes_behind, settled, statement, statements, grouped, listed, next_stepping}
-use Rattle.hal_meaning.specs.Tasks.{Looping, Task, Meaning, Tested, Stepping, Listing, Entering, Resuming, Cycling}
+use Rattle.hal_meaning.specs.Statements.{statements, grouped}
+use Rattle.hal_meaning.specs.Tasks.{Task, Meaning, Tested, Stepping, Listing, Entering, Resuming, Cycling}
 use Rattle.hal_meaning.specs.Runs.{in_function, ended, to_end, handled, restarted, finished, finished_behind, cycle, task, more_tasks, no_tasks, tasks}
-use Rattle.hal_meaning.proofs.Going.{weight, turns_in, spare, pushed, IsRight, Turned, Turned-through, Goes, Fine, Answers, Goes-bind, Goes-more}
-use Rattle.hal_meaning.proofs.Accessing.{after_answer, Begins, Goes-request, Goes-raise}
+use Rattle.hal_meaning.proofs.Going.{weight, turns_in, spare, pushed, IsRight, Turned, Turned-through, Goes, Fine, Goes-more}
+use Rattle.hal_meaning.proofs.Accessing.{Goes-request, Goes-raise}
 use Rattle.hal_meaning.proofs.Able.{here_of, IsIn, Able, Ready, Runs, Fit, seq, begun as task_begun, same}
 use Rattle.hal_meaning.proofs.Expressing.{Runs-mapped}
 use Rattle.hal_meaning.proofs.Stating.{Runs-behind, Runs-settled, Runs-guard, Runs-begins, Runs-listed, Runs-next, Runs-turn_if, Runs-grouped, Runs-statement, Runs-statements}

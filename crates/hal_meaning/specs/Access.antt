@@ -1,5 +1,5 @@
 -- What phrases do besides their parts: they ask, raise errors, begin turns, and read and write cells and places.
-use Rattle.std.specs.Prelude.{ℕ, zero, suc, ◌+◌, ◌-◌, ◌/◌, ◌%◌, ◌^◌, ◌==◌, nat_lt, Bool, true, false, List, [], ◌∷◌, ◌++◌, ℤ, pos, Option, Some, None, slice_get, slice_set, unwrap_or, Result, Ok, Err, if◌then◌else◌}
+use Rattle.std.specs.Prelude.{ℕ, zero, suc, ◌+◌, ◌/◌, ◌%◌, ◌^◌, ◌==◌, nat_lt, Bool, true, false, List, [], ◌∷◌, ◌++◌, pos, Option, Some, None, slice_get, slice_set, unwrap_or, Result, Ok, Err, if◌then◌else◌}
 use Rattle.hal_grammar.specs.Statements.{Statements}
 use Rattle.hal_values.specs.declared.environment.Entry.{Entry}
 use Rattle.hal_values.specs.declared.environment.ErrNo.{ErrNo}
@@ -10,7 +10,6 @@ use Rattle.hal_values.specs.declared.request.Request.TheVariants as request
 use Rattle.hal_values.specs.declared.request.Spot.TheVariants as spot
 use Rattle.hal_values.specs.declared.tables.Cell.{Cell}
 use Rattle.hal_values.specs.declared.value.Kind.{Kind}
-use Rattle.hal_values.specs.declared.value.Kind.TheVariants as kind
 use Rattle.hal_values.specs.declared.value.Value.{Value}
 use Rattle.hal_values.specs.declared.value.Value.TheVariants as value
 use Rattle.hal_values.specs.Answers.{Answered, error}
@@ -21,7 +20,7 @@ use Rattle.hal_operations.specs.Stores.{stored, mended_store}
 use Rattle.hal_meaning.specs.InitialValues.{nothing, of_kind}
 use Rattle.hal_meaning.specs.Places.{Place}
 use Rattle.hal_meaning.specs.Sets.{Set}
-use Rattle.hal_meaning.specs.States.{Spot, Shared, Own, Nowhere, Held, Holds, Refers, Kept, kept, Mode, mode, State, state, with_kept, with_mode, with_places, Evaluated, Gives, Asks, Caught, Restarts, Lost, bind, asks, stops}
+use Rattle.hal_meaning.specs.States.{Spot, Shared, Own, Nowhere, Held, Holds, kept, Mode, mode, State, with_kept, with_mode, with_places, Evaluated, Gives, Caught, bind, asks, stops}
 
 -- where a phrase stands: the set; the number of the process and its own places; the unit and the block in which names are looked up; the marks of
 -- the unit; the statements of the latest entered block, whether it is an UPDATE block, and the number of its first mark; and the blocks entered before it

@@ -1,16 +1,14 @@
 -- The units of a set that are entered: processes, PROCEDUREs and FUNCTIONs.
-use Rattle.std.specs.Prelude.{ℕ, zero, suc, ◌==◌, Bool, true, false, ◌&&◌, ◌||◌, List, [], ◌∷◌, ◌++◌, Option, Some, None, slice_get, bytes_eq, filter, filter_map, flat_map, zip, length, map, find, if◌then◌else◌}
-use Rattle.std.specs.Option.{option_and_then, is_some}
+use Rattle.std.specs.Prelude.{ℕ, zero, suc, ◌==◌, Bool, true, false, ◌&&◌, ◌||◌, List, [], ◌∷◌, ◌++◌, Option, Some, None, slice_get, bytes_eq, filter, filter_map, flat_map, length, if◌then◌else◌}
+use Rattle.std.specs.Option.{option_and_then}
 use Rattle.std.specs.List.{list_any}
-use Rattle.hal_grammar.specs.Leaves.{Naming}
 use Rattle.hal_grammar.specs.Declarations.{Declared, Declaration, Declare, Structure}
 use Rattle.hal_grammar.specs.Statements.{Statements, NoStatements, MoreStatements}
-use Rattle.hal_grammar.specs.Units.{Head, Program, Compool, Task, Procedure, Function, Mode, Reentrant, Exclusive, Block, BlockOf, Elements, NoElements, StatementFirst, BlockFirst, Preface, Include, Templates, File}
+use Rattle.hal_grammar.specs.Units.{Head, Program, Compool, Task, Procedure, Function, Mode, Reentrant, Block, BlockOf, Elements, NoElements, StatementFirst, BlockFirst, Preface, Include, Templates, File}
 use Rattle.hal_phrases.specs.Phrases.{Node, Phrase, OfFile, OfTemplate, OfUnit, OfItem, OfCallForm, OfReference, OfCall, OfGroup, OfTemporaryGroup, OfUpdate, OfHandler, OfRealTime}
 use Rattle.hal_names.specs.declared.key.Space.TheVariants as space
 use Rattle.hal_names.specs.Keys.{key, own}
 use Rattle.hal_names.specs.Means.{means, unit_named}
-use Rattle.hal_scope.specs.declared.used.Use.{Use}
 use Rattle.hal_scope.specs.Sorts.{used}
 
 -- whether a declaration declares data of this name

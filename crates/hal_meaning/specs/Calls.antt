@@ -1,30 +1,26 @@
 -- Calls of blocks: parameters, turns, and what comes back.
-use Rattle.std.specs.Prelude.{ℕ, zero, suc, ◌+◌, ◌==◌, Bool, true, false, ◌&&◌, not, List, [], ◌∷◌, ◌++◌, reverse, map, length, ℤ, pos, Option, Some, None, slice_get, slice_set, unwrap_or, if◌then◌else◌}
+use Rattle.std.specs.Prelude.{ℕ, zero, suc, ◌==◌, Bool, true, false, ◌&&◌, List, [], ◌∷◌, pos, Some, None, slice_get, slice_set, if◌then◌else◌}
 use Rattle.std.specs.Option.{option_and_then}
 use Rattle.hal_grammar.specs.Leaves.{Naming}
 use Rattle.hal_grammar.specs.Declarations as declarations
 use Rattle.hal_grammar.specs.Declarations.{IntegerKind, BooleanKind, EventKind, BitKind, CharacterKind, StructureKind}
-use Rattle.hal_grammar.specs.Statements.{Statements, NoStatements}
-use Rattle.hal_grammar.specs.Units.{Head, Program, Compool, Task, Procedure, Function, Returns, NoKind, HasKind}
+use Rattle.hal_grammar.specs.Units.{Head, Procedure, Function, Returns, NoKind, HasKind}
 use Rattle.hal_phrases.specs.Phrases.{Node, Phrase, OfItem}
 use Rattle.hal_names.specs.declared.key.Space.TheVariants as space
 use Rattle.hal_names.specs.Keys.{key, own}
 use Rattle.hal_operations.specs.declared.operation.Op1.TheVariants as op1
 use Rattle.hal_operations.specs.Mended.{mended_of_one}
 use Rattle.hal_values.specs.declared.environment.Entry.{Entry}
-use Rattle.hal_values.specs.declared.value.Kind.{Kind}
 use Rattle.hal_values.specs.declared.value.Value.{Value}
 use Rattle.hal_values.specs.declared.value.Value.TheVariants as value
-use Rattle.hal_values.specs.Answers.{error}
-use Rattle.hal_meaning.specs.Elements.{Component, Shape, shape_of, element_count}
+use Rattle.hal_meaning.specs.Elements.{Shape, shape_of, element_count}
 use Rattle.hal_meaning.specs.Bodies.{Body}
-use Rattle.hal_meaning.specs.Places.{Place, storing}
+use Rattle.hal_meaning.specs.Places.{Place}
 use Rattle.hal_meaning.specs.ReportNames.{first_place}
 use Rattle.hal_meaning.specs.Sets.{Set, body_at}
-use Rattle.hal_meaning.specs.States.{Spot, Own, Nowhere, Held, Holds, Refers, State, with_places, with_entries, Evaluated, Gives, Asks, Caught, Restarts, Lost, bind, Flow, Normal, Returned}
-use Rattle.hal_meaning.specs.Access.{Here, all_entered, raise, turn, put, store, copy}
-use Rattle.hal_meaning.specs.Variables.{Meant, MeantData, declaration_meant, is_whole, kind_of_first}
-use Rattle.hal_meaning.specs.Tasks as tasks
+use Rattle.hal_meaning.specs.States.{Spot, Own, Held, Holds, Refers, State, with_places, with_entries, Evaluated, Gives, Asks, Caught, Restarts, Lost, bind, Flow, Normal, Returned}
+use Rattle.hal_meaning.specs.Access.{Here, all_entered, turn, store, copy}
+use Rattle.hal_meaning.specs.Variables.{kind_of_first}
 use Rattle.hal_meaning.specs.Tasks.{Meaning, Entering}
 
 -- a parameter: where it lies, and its shape

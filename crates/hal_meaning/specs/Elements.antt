@@ -1,5 +1,5 @@
 -- The elements of data in the order of storage: copy by copy, in a copy component by component, in a component by array place.
-use Rattle.std.specs.Prelude.{ℕ, zero, suc, ◌+◌, ◌*◌, nat_le, nat_lt, Bool, true, false, ◌&&◌, ◌++◌, map, List, [], ◌∷◌, Option, Some, None, slice_get, bytes_eq, replicate, flat_map, sum_by, filter, unwrap_or, length, if◌then◌else◌}
+use Rattle.std.specs.Prelude.{ℕ, zero, suc, ◌*◌, nat_lt, Bool, true, false, ◌&&◌, ◌++◌, map, List, [], ◌∷◌, Option, Some, None, slice_get, bytes_eq, replicate, flat_map, sum_by, filter, unwrap_or, if◌then◌else◌}
 use Rattle.std.specs.Option.{option_and_then, option_map}
 use Rattle.hal_grammar.specs.Leaves.{Naming}
 use Rattle.hal_grammar.specs.Expressions.{Expression, Expressions, NoExpressions, MoreExpressions}

@@ -1,8 +1,8 @@
 -- Events and event expressions. Event p is the name of process p, and the declared events follow.
-use Rattle.std.specs.Prelude.{ℕ, zero, suc, ◌+◌, ◌==◌, Bool, true, false, ◌&&◌, ◌||◌, List, [], ◌∷◌, ◌++◌, Option, Some, None, slice_get, filter_map, length, map, nat_lt, position, unwrap_or, if◌then◌else◌}
+use Rattle.std.specs.Prelude.{ℕ, ◌+◌, ◌==◌, Bool, true, false, ◌&&◌, List, [], ◌∷◌, ◌++◌, Option, Some, None, slice_get, filter_map, length, nat_lt, position, unwrap_or, if◌then◌else◌}
 use Rattle.std.specs.Option.{option_and_then, option_or}
 use Rattle.hal_grammar.specs.Expressions.{Expression, Or, And, Not, Referred, Parenthesis, Expressions, NoExpressions, MoreExpressions, Reference, Refers}
-use Rattle.hal_grammar.specs.Declarations.{Latched, Attribute, Declared, Initials}
+use Rattle.hal_grammar.specs.Declarations.{Latched}
 use Rattle.hal_phrases.specs.declared.role.Role.{Role}
 use Rattle.hal_phrases.specs.declared.role.Role.TheVariants as role
 use Rattle.hal_phrases.specs.Phrases.{Node, Phrase, OfItem, OfExpression, OfRealTime}
@@ -19,7 +19,7 @@ use Rattle.hal_values.specs.declared.value.Kind.TheVariants as kind
 use Rattle.hal_values.specs.declared.value.Value.{Value}
 use Rattle.hal_values.specs.declared.value.Value.TheVariants as value
 use Rattle.hal_meaning.specs.InitialValues.{first_values}
-use Rattle.hal_meaning.specs.Bodies.{meant, processes_of, is_process}
+use Rattle.hal_meaning.specs.Bodies.{meant, processes_of}
 use Rattle.hal_meaning.specs.Places.{is_in_unit}
 
 -- whether a phrase declares an event, and not in a template

@@ -1,5 +1,5 @@
 -- What expressions come to. Evaluation goes from left to right, and an error arises where its operation is done.
-use Rattle.std.specs.Prelude.{ℕ, zero, suc, ◌+◌, ◌-◌, ◌==◌, Bool, true, false, ◌&&◌, ◌||◌, not, List, [], ◌∷◌, ◌++◌, ℤ, pos, ◌+ℤ◌, ◌-ℤ◌, nat_lt, Option, Some, None, slice_get, unwrap_or, map, length, Result, Ok, Err, if◌then◌else◌}
+use Rattle.std.specs.Prelude.{ℕ, Bool, true, false, ◌&&◌, ◌||◌, List, [], ◌∷◌, ◌++◌, ℤ, pos, ◌+ℤ◌, ◌-ℤ◌, nat_lt, Option, Some, None, unwrap_or, if◌then◌else◌}
 use Rattle.hal_grammar.specs.Leaves.{Naming, Sign, Plus, Minus, Relation, Equal, Less, Greater, AtMost, AtLeast, NotEqual, NotLess, NotGreater, Conversion, ToInteger, ToBits, ToText, LiteralValue, Integer, Text, Bits, True, False, On, Off}
 use Rattle.hal_grammar.specs.Expressions.{Expression, Or, And, Compare, Cat, Sum, Product, Power, Not, Literal, Decimal, Referred, Called, Convert, Parenthesis, Expressions, NoExpressions, MoreExpressions, Terms, NoTerms, MoreTerms, Reference, Refers, Subscript, Unsubscripted, ByName, ByInteger, ByParts, Subscripts, NoSubscripts, MoreSubscripts, Sub, Every, One, Range, Portion, Position, FromBeginning, FromEnd}
 use Rattle.hal_scope.specs.declared.builtin.Builtin.{Builtin}
@@ -25,13 +25,12 @@ use Rattle.hal_values.specs.declared.value.Value.{Value}
 use Rattle.hal_values.specs.declared.value.Value.TheVariants as value
 use Rattle.hal_values.specs.Answers.{error}
 use Rattle.hal_values.specs.Tables.{event_count}
-use Rattle.hal_meaning.specs.Elements.{Component, Shape, copy_size, chosen, offset}
+use Rattle.hal_meaning.specs.Elements.{Shape, copy_size, chosen, offset}
 use Rattle.hal_meaning.specs.Sets.{Set, body_at}
-use Rattle.hal_meaning.specs.Bodies.{Body}
 use Rattle.hal_meaning.specs.States.{Spot, Nowhere, Held, State, Evaluated, Gives, bind}
 use Rattle.hal_meaning.specs.Access.{Here, ask, raise, tested, read, told, further}
 use Rattle.hal_meaning.specs.Variables.{Meant, MeantData, MeantConstant, MeantEvent, MeantBlock, MeantBuiltin, MeantNothing, name_meant, Index, Single, Several, Dimension, dimension, dimensions_of, all_inside, elements_before, sizes_of_first, kind_of_first, is_arrayed, is_whole}
-use Rattle.hal_meaning.specs.Calls.{Passed, Plain, Whole, Parameter, parameter_named, inputs_of, call}
+use Rattle.hal_meaning.specs.Calls.{Passed, Plain, Whole, parameter_named, inputs_of, call}
 use Rattle.hal_meaning.specs.Tasks.{Meaning}
 
 -- the operation of a comparison

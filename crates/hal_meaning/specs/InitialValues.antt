@@ -1,6 +1,6 @@
 -- What elements hold at first.
-use Rattle.std.specs.Prelude.{ℕ, ◌^◌, ◌==◌, nat_le, nat_lt, length, Bool, true, false, not, ◌&&◌, ◌++◌, map, List, [], ◌∷◌, ℤ, pos, negsuc, int_lt, Option, Some, None, replicate, if◌then◌else◌}
-use Rattle.hal_grammar.specs.Declarations.{Initial, Value, LiteralTimes, NameTimes, ListTimes, Initials, NoInitials, MoreInitials, Attribute, Declared}
+use Rattle.std.specs.Prelude.{◌^◌, ◌==◌, nat_le, nat_lt, length, Bool, false, not, ◌&&◌, ◌++◌, map, List, [], ◌∷◌, ℤ, pos, negsuc, int_lt, Option, Some, None, replicate, if◌then◌else◌}
+use Rattle.hal_grammar.specs.Declarations.{Initial, Value, LiteralTimes, NameTimes, ListTimes, Initials, NoInitials, MoreInitials, Attribute}
 use Rattle.hal_phrases.specs.Phrases.{Phrase}
 use Rattle.hal_kinds.specs.Attributes.{initial_among, constant_among}
 use Rattle.hal_values.specs.declared.value.Kind.{Kind}

@@ -1,13 +1,13 @@
 -- The lock groups of UPDATE blocks, a bit for each.
-use Rattle.std.specs.Prelude.{ℕ, zero, suc, ◌+◌, ◌^◌, ◌==◌, Bool, true, false, ◌&&◌, ◌||◌, List, [], ◌∷◌, Option, Some, None, slice_get, filter_map, if◌then◌else◌}
+use Rattle.std.specs.Prelude.{ℕ, zero, suc, ◌+◌, ◌^◌, ◌==◌, Bool, true, false, ◌&&◌, ◌||◌, List, Some, None, slice_get, if◌then◌else◌}
 use Rattle.std.specs.Option.{option_and_then}
 use Rattle.std.specs.List.{list_any}
-use Rattle.hal_phrases.specs.Phrases.{Node, Phrase}
+use Rattle.hal_phrases.specs.Phrases.{Phrase}
 use Rattle.hal_scope.specs.declared.used.Use.{Use}
 use Rattle.hal_scope.specs.Sorts.{used}
 use Rattle.hal_constants.specs.Known.{Known}
 use Rattle.hal_meaning.specs.Bodies.{meant, callee, reaches}
-use Rattle.hal_meaning.specs.Places.{Storing, InCells, InPlaces, ByReference, Unstored, storing}
+use Rattle.hal_meaning.specs.Places.{Storing, InCells, ByReference, Unstored, storing}
 
 -- how the data are stored that a phrase names
 abbrev pub named_storing : List Phrase → Known → Phrase → Storing

@@ -1,11 +1,9 @@
 -- Where data are stored: which cells are shared and in which lock group, and the own places of each process.
-use Rattle.std.specs.Prelude.{ℕ, zero, suc, ◌+◌, ◌*◌, sum_by, ◌==◌, Bool, true, false, not, ◌&&◌, ◌||◌, List, [], ◌∷◌, ◌++◌, Option, Some, None, slice_get, filter, filter_map, flat_map, zip, length, map, replicate, unwrap_or, if◌then◌else◌}
-use Rattle.std.specs.Option.{option_and_then, is_some, option_or}
+use Rattle.std.specs.Prelude.{ℕ, ◌+◌, ◌*◌, sum_by, ◌==◌, Bool, true, false, ◌&&◌, ◌||◌, List, [], ◌∷◌, ◌++◌, Option, Some, None, slice_get, filter_map, flat_map, length, replicate, unwrap_or, if◌then◌else◌}
+use Rattle.std.specs.Option.{option_and_then, option_or}
 use Rattle.std.specs.List.{list_any}
-use Rattle.hal_grammar.specs.Expressions.{Expression}
 use Rattle.hal_grammar.specs.Declarations.{Automatic, Attribute, LockGroup, Declared}
-use Rattle.hal_grammar.specs.Units.{Head, Program, Compool, Task, Procedure, Function}
-use Rattle.hal_phrases.specs.declared.role.Role.{Role}
+use Rattle.hal_grammar.specs.Units.{Head, Program, Compool, Task}
 use Rattle.hal_phrases.specs.declared.role.Role.TheVariants as role
 use Rattle.hal_phrases.specs.Phrases.{Node, Phrase, OfUnit, OfParameter, OfItem, OfExpression, OfVariable, OfGroup, OfTemporaryGroup}
 use Rattle.hal_names.specs.declared.key.Space.TheVariants as space

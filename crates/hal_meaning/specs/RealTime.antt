@@ -1,6 +1,5 @@
 -- What real-time statements ask for.
-use Rattle.std.specs.Prelude.{ℕ, zero, suc, ◌+◌, ◌==◌, nat_lt, Bool, true, false, List, [], ◌∷◌, reverse, ℤ, pos, negsuc, ◌*ℤ◌, int_lt, unsigned_abs, Option, Some, None, slice_get, position, unwrap_or, length, if◌then◌else◌}
-use Rattle.std.specs.Option.{option_and_then}
+use Rattle.std.specs.Prelude.{ℕ, suc, ◌==◌, nat_lt, Bool, true, false, List, [], ◌∷◌, ℤ, pos, negsuc, ◌*ℤ◌, int_lt, unsigned_abs, Option, Some, None, slice_get, if◌then◌else◌}
 use Rattle.std.specs.Int.{int_min, int_max}
 use Rattle.hal_grammar.specs.Leaves.{Naming}
 use Rattle.hal_grammar.specs.Expressions.{Expression, Decimal}
@@ -13,24 +12,17 @@ use Rattle.hal_values.specs.declared.plan.Cycle.TheVariants as cycle
 use Rattle.hal_values.specs.declared.plan.Guard as guards
 use Rattle.hal_values.specs.declared.plan.Guard.TheVariants as guard
 use Rattle.hal_values.specs.declared.plan.Plan.{Plan}
-use Rattle.hal_values.specs.declared.plan.Pause.{Pause}
-use Rattle.hal_values.specs.declared.plan.Pause.TheVariants as pause
-use Rattle.hal_values.specs.declared.environment.ErrNo.{ErrNo}
 use Rattle.hal_values.specs.declared.environment.Side.{Side}
 use Rattle.hal_values.specs.declared.environment.Side.TheVariants as side
 use Rattle.hal_values.specs.declared.request.Request.{Request}
 use Rattle.hal_values.specs.declared.request.Request.TheVariants as request
-use Rattle.hal_values.specs.declared.value.Kind.TheVariants as kind
 use Rattle.hal_values.specs.declared.value.Value.{Value}
-use Rattle.hal_values.specs.declared.value.Value.TheVariants as value
 use Rattle.hal_values.specs.Answers.{Answered, error}
 use Rattle.hal_values.specs.Answers as answered
-use Rattle.hal_values.specs.Tables.{process_count, event_count}
-use Rattle.hal_meaning.specs.InitialValues.{of_kind}
+use Rattle.hal_values.specs.Tables.{process_count}
 use Rattle.hal_meaning.specs.Events.{Stated, event_named}
-use Rattle.hal_meaning.specs.Sets as sets
 use Rattle.hal_meaning.specs.States.{State, Evaluated, Gives, bind}
-use Rattle.hal_meaning.specs.Access.{Here, ask, raise, event_changed, request_made}
+use Rattle.hal_meaning.specs.Access.{Here, ask, raise, event_changed}
 use Rattle.hal_meaning.specs.Expressions.{expression, integer_of}
 use Rattle.hal_meaning.specs.Tasks.{Meaning}
 

@@ -1,14 +1,12 @@
 -- The names of processes, and those that the report shows.
-use Rattle.std.specs.Prelude.{ℕ, zero, suc, ◌+◌, ◌==◌, Bool, true, false, not, ◌&&◌, ◌||◌, List, [], ◌∷◌, ◌++◌, Option, Some, None, slice_get, length, map, flat_map, filter, position, unwrap_or, take, if◌then◌else◌}
-use Rattle.std.specs.Option.{option_and_then, is_some}
-use Rattle.hal_grammar.specs.Leaves.{Naming}
+use Rattle.std.specs.Prelude.{ℕ, zero, suc, ◌+◌, ◌==◌, Bool, true, false, not, ◌&&◌, List, [], ◌∷◌, ◌++◌, Option, Some, None, slice_get, length, flat_map, position, unwrap_or, take, if◌then◌else◌}
+use Rattle.std.specs.Option.{is_some}
 use Rattle.hal_grammar.specs.Declarations.{Automatic, Latched, Attribute, Declared}
 use Rattle.hal_phrases.specs.Phrases.{Node, Phrase, OfUnit, OfItem}
 use Rattle.hal_scope.specs.Sorts.{type_of}
 use Rattle.hal_kinds.specs.Attributes.{has_mark, constant_of}
 use Rattle.hal_kinds.specs.Data.{is_event_type}
 use Rattle.hal_constants.specs.Known.{Known}
-use Rattle.hal_values.specs.declared.tables.Cell.{Cell}
 use Rattle.hal_values.specs.declared.tables.ReportBase.{ReportBase}
 use Rattle.hal_values.specs.declared.tables.ReportBase.TheVariants as base
 use Rattle.hal_values.specs.declared.tables.ReportName.{ReportName}

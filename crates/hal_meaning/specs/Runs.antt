@@ -1,23 +1,20 @@
 -- What a process asks for next, after the answers that it got so far.
-use Rattle.std.specs.Prelude.{ℕ, zero, suc, ◌-◌, ◌==◌, Bool, true, false, List, [], ◌∷◌, ◌++◌, map, filter_map, Option, Some, None, slice_get, unwrap_or, if◌then◌else◌}
+use Rattle.std.specs.Prelude.{ℕ, zero, suc, ◌-◌, ◌==◌, Bool, true, false, List, [], ◌∷◌, ◌++◌, map, Option, Some, None, slice_get, if◌then◌else◌}
 use Rattle.hal_grammar.specs.Expressions.{NoExpressions, MoreExpressions}
-use Rattle.hal_grammar.specs.Statements.{Statements, NoStatements}
-use Rattle.hal_grammar.specs.Units.{File}
 use Rattle.hal_values.specs.declared.request.Request.{Request}
 use Rattle.hal_values.specs.declared.request.Request.TheVariants as request
 use Rattle.hal_values.specs.declared.value.Value.{Value}
-use Rattle.hal_values.specs.declared.value.Value.TheVariants as value
 use Rattle.hal_values.specs.Answers.{Answered, Ends, error}
 use Rattle.hal_values.specs.Answers as answered
 use Rattle.hal_meaning.specs.Bodies.{Body, processes_of}
 use Rattle.hal_meaning.specs.Marks.{Handling, handling_in}
 use Rattle.hal_meaning.specs.Places.{Place, places_of}
-use Rattle.hal_meaning.specs.Sets.{Set, set_of, body_at}
-use Rattle.hal_meaning.specs.States.{Held, Holds, Refers, Nowhere, Kept, kept, Mode, asking, State, state, Evaluated, Gives, Asks, Caught, Restarts, Lost, bind, asks, Flow, Normal, Leaves, Repeats, Returned}
-use Rattle.hal_meaning.specs.Access.{Here, held_in, raise, request_made}
+use Rattle.hal_meaning.specs.Sets.{Set, body_at}
+use Rattle.hal_meaning.specs.States.{Held, Holds, Refers, Nowhere, Kept, kept, Mode, asking, State, state, Evaluated, Gives, Asks, Caught, Restarts, Lost, bind, Flow, Normal, Returned}
+use Rattle.hal_meaning.specs.Access.{Here, raise, request_made}
 use Rattle.hal_meaning.specs.Calls.{is_function}
 use Rattle.hal_meaning.specs.Statements.{statement, statements, grouped, settled, turn_if, goes_behind, guard_holds, span_begins, listed, next_stepping}
-use Rattle.hal_meaning.specs.Tasks.{Looping, Task, Meaning, Tested, Stepping, Listing, Entering, Resuming, Cycling}
+use Rattle.hal_meaning.specs.Tasks.{Meaning, Tested, Stepping, Listing, Entering, Resuming, Cycling}
 
 -- the unit of a block that isn't an UPDATE block is a FUNCTION
 abbrev pub in_function : Here → Bool

@@ -1,15 +1,19 @@
 -- A set as a load.
-use Rattle.std.specs.Prelude.{ℕ, ◌==◌, ◌≤◌, length, Bool, true, false, List, [], ◌∷◌, filter_map, Option, Some, None, slice_get, if◌then◌else◌}
+use Rattle.std.specs.Prelude.{ℕ, ◌==◌, ◌≤◌, ◌<◌, length, Bool, false, List, filter_map, Some, None, slice_get, if◌then◌else◌}
 use Rattle.hal_values.specs.declared.tables.ReportBase.{ReportBase}
 use Rattle.hal_values.specs.declared.tables.ReportBase.TheVariants as base
 use Rattle.hal_values.specs.declared.value.Value.{Value}
 use Rattle.hal_values.specs.Answers.{Answered}
 use Rattle.hal_values.specs.Loads as loads
 use Rattle.hal_values.specs.Loads.{turn_limit}
-use Rattle.hal_values.specs.Tables.{IsTables}
 use Rattle.hal_values.specs.ReportElements.{Element, elements}
-use Rattle.hal_meaning.specs.Sets.{Set}
-use Rattle.hal_meaning.specs.States.{Kept}
+use Rattle.hal_base.specs.declared.limits.TheConstants.{CELL_LIMIT, EVENT_LIMIT, PROCESS_LIMIT}
+use Rattle.hal_grammar.specs.Units.{File}
+use Rattle.hal_phrases.specs.GatheredUnits.{phrases_of}
+use Rattle.hal_constants.specs.Known.{known}
+use Rattle.hal_meaning.specs.Bodies.{processes_of}
+use Rattle.hal_meaning.specs.Events.{declared_events}
+use Rattle.hal_meaning.specs.Sets.{Set, cells_of}
 use Rattle.hal_meaning.specs.Access.{held_in}
 use Rattle.hal_meaning.specs.Runs.{course, asked_kept, next, block}
 
@@ -27,8 +31,10 @@ own s p answers =
 abbrev pub load_of : Set → loads.Meaning
 load_of s = record { tables = s.tables; next = next s; block = block s; own = own s }
 
--- what is taken of a set: its tables are right, and its UPDATE blocks have no more turns than the limit
-pub record Keeps (s : Set) : Type 0 where
-  pub tables : IsTables s.tables
-  pub turns : s.turns ≤ turn_limit
-  pub stated : length s.stated ≤ length s.tables.expressions
+-- what the rules of limits say of files: few cells, processes and events; and there is a process
+pub record IsSmall (turns : ℕ) (files : List File) : Type 0 where
+  pub cells : length (cells_of (phrases_of files) (known (phrases_of files))) ≤ CELL_LIMIT
+  pub processes : length (processes_of (phrases_of files)) ≤ PROCESS_LIMIT
+  pub events : length (declared_events (phrases_of files)) ≤ EVENT_LIMIT
+  pub some : 0 < length (processes_of (phrases_of files))
+  pub few_turns : turns ≤ turn_limit

@@ -1,6 +1,5 @@
 -- A set of files, with what its meaning looks up.
-use Rattle.std.specs.Prelude.{ℕ, ◌==◌, List, [], ◌∷◌, ◌++◌, Option, Some, None, slice_get, flat_map, map, find, filter, position, unwrap_or, Bool, true, false, if◌then◌else◌}
-use Rattle.std.specs.Option.{option_and_then}
+use Rattle.std.specs.Prelude.{ℕ, ◌==◌, List, Option, Some, None, slice_get, flat_map, map, find, position, unwrap_or, Bool, true, false}
 use Rattle.hal_grammar.specs.Units.{File, Program}
 use Rattle.hal_phrases.specs.Phrases.{Node, Phrase, OfUnit}
 use Rattle.hal_phrases.specs.GatheredUnits.{phrases_of}
@@ -8,7 +7,7 @@ use Rattle.hal_constants.specs.Known.{Known, known}
 use Rattle.hal_values.specs.declared.tables.Cell.{Cell}
 use Rattle.hal_values.specs.declared.tables.Tables.{Tables}
 use Rattle.hal_meaning.specs.Bodies.{Body, bodies_of, processes_of}
-use Rattle.hal_meaning.specs.Places.{Place, places_of, cells_at}
+use Rattle.hal_meaning.specs.Places.{cells_at}
 use Rattle.hal_meaning.specs.Events.{declared_events, start_of, Stated, stated}
 use Rattle.hal_meaning.specs.ReportNames.{path_of, rows_of}
 

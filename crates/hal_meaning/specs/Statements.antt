@@ -1,11 +1,10 @@
 -- What statements come to.
-use Rattle.std.specs.Prelude.{ℕ, zero, suc, ◌+◌, ◌==◌, nat_lt, Bool, true, false, ◌&&◌, ◌||◌, not, List, [], ◌∷◌, ◌++◌, length, take, ℤ, pos, negsuc, ◌+ℤ◌, ◌-ℤ◌, int_lt, bytes_eq, Option, Some, None, slice_get, slice_set, unwrap_or, Result, Ok, Err, if◌then◌else◌}
+use Rattle.std.specs.Prelude.{ℕ, zero, suc, ◌==◌, nat_lt, Bool, true, false, not, List, [], ◌∷◌, ◌++◌, length, take, ℤ, pos, negsuc, ◌+ℤ◌, ◌-ℤ◌, int_lt, bytes_eq, Option, Some, None, slice_get, slice_set, Ok, Err, if◌then◌else◌}
 use Rattle.std.specs.List.{list_any}
 use Rattle.std.specs.Fmt.{signed_decimal}
 use Rattle.hal_grammar.specs.Leaves.{Naming}
-use Rattle.hal_grammar.specs.Expressions.{Expression, Literal, Expressions, NoExpressions, MoreExpressions, Reference, Refers, Subscript, Unsubscripted, ByName, ByInteger, ByParts, Subscripts, NoSubscripts, MoreSubscripts}
-use Rattle.hal_grammar.specs.Leaves as leaves
-use Rattle.hal_grammar.specs.Statements.{Guard, While, Until, Span, Stepped, Listed, Selector, EveryError, GroupErrors, OneError, Eventful, Response, System, Ignore, Statement, Labelled, Basic, Null, Assignment, If, Do, DoCase, DoLoop, DoFor, Exit, Repeat, Return, Call, Read, Write, Update, Scheduled, Cancel, Terminate, Wait, WaitUntil, WaitForDependent, WaitFor, Event, UpdatePriority, OnErrorStatement, OnErrorResponse, OffError, SendError, Alternative, NoAlternative, Otherwise, Group, Groups, Statements, NoStatements, MoreStatements}
+use Rattle.hal_grammar.specs.Expressions.{Expression, Expressions, NoExpressions, MoreExpressions, Reference, Refers, Subscript, ByName, ByInteger, ByParts, Subscripts, NoSubscripts, MoreSubscripts}
+use Rattle.hal_grammar.specs.Statements.{Guard, While, Until, Span, Stepped, Listed, Selector, EveryError, GroupErrors, OneError, Response, System, Ignore, Statement, Labelled, Basic, Null, Assignment, If, Do, DoCase, DoLoop, DoFor, Exit, Repeat, Return, Call, Read, Write, Update, Scheduled, Cancel, Terminate, Wait, WaitUntil, WaitForDependent, WaitFor, Event, UpdatePriority, OnErrorStatement, OnErrorResponse, OffError, SendError, Alternative, NoAlternative, Otherwise, Group, Groups, Statements, NoStatements, MoreStatements}
 use Rattle.hal_operations.specs.declared.part.Part.{Part}
 use Rattle.hal_operations.specs.declared.part.Part.TheVariants as part
 use Rattle.hal_operations.specs.Parts.{patched, mended_patch, place_count}
@@ -17,7 +16,6 @@ use Rattle.hal_values.specs.declared.environment.Entry.{Entry}
 use Rattle.hal_values.specs.declared.environment.Selector as selectors
 use Rattle.hal_values.specs.declared.environment.Selector.TheVariants as selector
 use Rattle.hal_values.specs.declared.environment.Side.{Side}
-use Rattle.hal_values.specs.declared.environment.Side.TheVariants as side
 use Rattle.hal_values.specs.declared.plan.Pause.TheVariants as pause
 use Rattle.hal_values.specs.declared.request.Request.TheVariants as request
 use Rattle.hal_values.specs.declared.value.Kind.{Kind}
@@ -27,21 +25,18 @@ use Rattle.hal_values.specs.declared.value.Value.TheVariants as value
 use Rattle.hal_values.specs.Answers.{Answered, error}
 use Rattle.hal_values.specs.Answers as answered
 use Rattle.hal_values.specs.Searching.{with_entry, without}
-use Rattle.hal_meaning.specs.Elements.{Shape, chosen}
-use Rattle.hal_meaning.specs.InitialValues.{nothing}
+use Rattle.hal_meaning.specs.Elements.{chosen}
 use Rattle.hal_meaning.specs.LockGroups.{groups_of}
 use Rattle.hal_meaning.specs.Marks.{after_statement, after_alternative}
-use Rattle.hal_meaning.specs.Places.{Place}
 use Rattle.hal_meaning.specs.ReportNames.{first_place}
-use Rattle.hal_meaning.specs.Bodies.{Body}
-use Rattle.hal_meaning.specs.Sets.{Set, body_at}
-use Rattle.hal_meaning.specs.States.{Spot, Own, Nowhere, Held, Holds, Refers, Mode, mode, State, with_entries, with_mode, with_places, Evaluated, Gives, Asks, Caught, Restarts, Lost, bind, Flow, Normal, Leaves, Repeats, Returned}
+use Rattle.hal_meaning.specs.Sets.{body_at}
+use Rattle.hal_meaning.specs.States.{Spot, Nowhere, Held, Holds, Refers, Mode, mode, State, with_entries, with_mode, with_places, Evaluated, Gives, Asks, Caught, Restarts, Lost, bind, Flow, Normal, Leaves, Repeats, Returned}
 use Rattle.hal_meaning.specs.Access.{Here, within, updating, ask, request_made, raise, turn, held_in, read, put, store}
-use Rattle.hal_meaning.specs.Variables.{Meant, MeantData, MeantConstant, MeantEvent, MeantBlock, MeantBuiltin, MeantNothing, name_meant, kind_of_first, is_arrayed}
-use Rattle.hal_meaning.specs.Calls.{Passed, call, left_with, returned_by}
-use Rattle.hal_meaning.specs.Expressions.{expression, values, passed, inputs_at, chosen_data, meant_chosen, Located, part_chosen, named_value, sizes_named, integer_of, holds}
-use Rattle.hal_meaning.specs.RealTime.{time, stated_at_mark, scheduled, named_or_own, priority_changed, eventful, side_of, answered_by}
-use Rattle.hal_meaning.specs.Tasks.{Looping, Task, Meaning, Tested, Stepping, Listing, Resuming}
+use Rattle.hal_meaning.specs.Variables.{Meant, MeantData, MeantBlock, name_meant, kind_of_first, is_arrayed}
+use Rattle.hal_meaning.specs.Calls.{call, returned_by}
+use Rattle.hal_meaning.specs.Expressions.{expression, values, passed, inputs_at, chosen_data, Located, part_chosen, named_value, sizes_named, integer_of, holds}
+use Rattle.hal_meaning.specs.RealTime.{time, stated_at_mark, scheduled, named_or_own, priority_changed, eventful, side_of}
+use Rattle.hal_meaning.specs.Tasks.{Looping, Meaning, Tested, Stepping, Listing, Resuming}
 
 -- after something is done, control goes on
 abbrev pub goes_on : Evaluated (Unit {0}) → Evaluated Flow

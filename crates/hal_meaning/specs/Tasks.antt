@@ -1,7 +1,7 @@
 -- What is begun once an answer was taken or a turn was made.
-use Rattle.std.specs.Prelude.{ℕ, List, Bool, Option}
+use Rattle.std.specs.Prelude.{ℕ, List, Option}
 use Rattle.hal_grammar.specs.Leaves.{Naming}
-use Rattle.hal_grammar.specs.Expressions.{Expression, Expressions}
+use Rattle.hal_grammar.specs.Expressions.{Expressions}
 use Rattle.hal_grammar.specs.Statements.{Guard, Group}
 use Rattle.hal_meaning.specs.Access.{Here}
 use Rattle.hal_meaning.specs.States.{State, Evaluated, Flow}

@@ -1,8 +1,7 @@
 -- What names mean where phrases are evaluated, and where their data lie.
-use Rattle.std.specs.Prelude.{ℕ, zero, suc, ◌+◌, ◌-◌, ◌*◌, ◌==◌, Bool, true, false, ◌&&◌, ◌||◌, not, List, [], ◌∷◌, ◌++◌, ℤ, pos, ◌+ℤ◌, ◌-ℤ◌, int_lt, unsigned_abs, Option, Some, None, slice_get, unwrap_or, map, length, if◌then◌else◌}
-use Rattle.std.specs.Option.{option_and_then, is_some}
+use Rattle.std.specs.Prelude.{ℕ, ◌+◌, ◌*◌, Bool, true, false, ◌&&◌, ◌||◌, not, List, [], ◌∷◌, ℤ, pos, ◌-ℤ◌, int_lt, unsigned_abs, Option, Some, None, slice_get, unwrap_or, if◌then◌else◌}
+use Rattle.std.specs.Option.{is_some}
 use Rattle.std.specs.Int.{int_min, int_max}
-use Rattle.hal_grammar.specs.Leaves.{Naming}
 use Rattle.hal_grammar.specs.Declarations.{Attribute, Declared}
 use Rattle.hal_grammar.specs.Units.{Head, Program, Compool, Task, Procedure, Function}
 use Rattle.hal_phrases.specs.Phrases.{Node, Phrase, OfUnit, OfItem, OfTemporaryGroup}
@@ -15,13 +14,12 @@ use Rattle.hal_values.specs.declared.value.Kind.{Kind}
 use Rattle.hal_values.specs.declared.value.Kind.TheVariants as kind
 use Rattle.hal_values.specs.declared.value.Value.{Value}
 use Rattle.hal_values.specs.declared.value.Value.TheVariants as value
-use Rattle.hal_meaning.specs.Elements.{Component, Shape, shape_of, product, copy_size, chosen, offset}
+use Rattle.hal_meaning.specs.Elements.{Component, Shape, shape_of, product}
 use Rattle.hal_meaning.specs.Bodies.{meant}
 use Rattle.hal_meaning.specs.Places.{Storing, InCells, InPlaces, ByReference, Unstored, storing}
 use Rattle.hal_meaning.specs.Events.{event_of}
 use Rattle.hal_meaning.specs.ReportNames.{first_cell, first_place}
-use Rattle.hal_meaning.specs.Sets.{Set}
-use Rattle.hal_meaning.specs.States.{Spot, Shared, Own, Nowhere, Held, Holds, Refers, State}
+use Rattle.hal_meaning.specs.States.{Spot, Shared, Own, Nowhere, Held, Refers}
 use Rattle.hal_meaning.specs.Access.{Here}
 
 -- where an ASSIGN parameter's data lie

@@ -1,5 +1,5 @@
-use Rattle.hal_meaning.proofs.Loading.{set_is_load}
+use Rattle.hal_meaning.proofs.Accepted.{files_are_load}
 use Rattle.hal_meaning.proofs.laws.a_set_is_a_load.Goals as goal
 
 pub returns : goal.returns
-returns c = set_is_load
+returns c = files_are_load
