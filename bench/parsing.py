@@ -13,7 +13,9 @@ from programs import program, run
 
 # Kinds of units, and the bytes of the larger one, which keep the limit of words.
 KINDS = (('list', 150_000), ('sum', 160_000), ('product', 180_000), ('parentheses', 60_000), ('groups', 175_000), ('labels', 120_000),
-         ('ordinary', 140_000), ('units', 240_000), ('stuck', 240_000))
+         ('ordinary', 140_000), ('units', 240_000), ('stuck', 240_000), ('endless', 190_000))
+# Those that are no files.
+UNREAD = ('stuck', 'endless')
 TIMES = 30
 HIGHEST = 2.5
 
@@ -22,7 +24,7 @@ def cost(path, kind, size, times):
     """The processor seconds of a run, and the unit's words."""
     said, seconds, _ = run(path, size, times, kind)
     told = said.split()
-    if told[:1] != [kind] or told[4] != ('0' if kind == 'stuck' else str(times)):
+    if told[:1] != [kind] or told[4] != ('0' if kind in UNREAD else str(times)):
         sys.exit(f'{kind}: {said!r}')
     return seconds, int(told[1])
 

@@ -17,6 +17,7 @@ use std::alloc::{AllocError, Global};
 /// Behind IF.
 #[cycle(statements)]
 #[tactic(auto, unfolding(crate::specs::ReadingStatements::if_of, hal_parse_expr::specs::Reading::before, hal_parse_expr::specs::Reading::followed, hal_parse_expr::specs::Reading::made_of, hal_parse_expr::specs::Seen::seen_as, hal_parse_expr::specs::Seen::seen))]
+#[inline(never)]
 pub(crate) fn conditional(
     alloc: Global,
     place: Place,
@@ -77,6 +78,7 @@ fn alternative(
 /// Behind DO and CASE.
 #[cycle(statements)]
 #[tactic(auto, using(hal_tree::proofs::MadeStatements::made_do_case), unfolding(crate::specs::ReadingStatements::case_of, hal_parse_expr::specs::Reading::followed, hal_parse_expr::specs::Reading::made_of, hal_parse_expr::specs::Seen::seen_as))]
+#[inline(never)]
 pub(crate) fn case(
     alloc: Global,
     place: Place,

@@ -65,6 +65,7 @@ fn grouped(
 /// Behind DO and its semicolon.
 #[cycle(statements)]
 #[tactic(auto, using(hal_tree::proofs::MadeStatements::made_do), unfolding(hal_parse_expr::specs::Reading::made_of, hal_parse_expr::specs::Seen::seen_as))]
+#[inline(never)]
 fn plain_group(
     alloc: Global,
     place: Place,
@@ -80,6 +81,7 @@ fn plain_group(
 /// Behind DO and WHILE, which stands at this place.
 #[cycle(statements)]
 #[tactic(auto, using(hal_tree::proofs::MadeStatements::made_do_loop, hal_tree::proofs::MadeStatements::made_while), unfolding(crate::specs::ReadingStatements::loop_of, hal_parse_expr::specs::Reading::followed, hal_parse_expr::specs::Reading::made_of, hal_parse_expr::specs::Seen::seen_as))]
+#[inline(never)]
 fn while_loop(
     alloc: Global,
     place: Place,
@@ -106,6 +108,7 @@ fn while_loop(
 /// Behind DO and UNTIL, which stands at this place.
 #[cycle(statements)]
 #[tactic(auto, using(hal_tree::proofs::MadeStatements::made_do_loop, hal_tree::proofs::MadeStatements::made_until), unfolding(crate::specs::ReadingStatements::loop_of, hal_parse_expr::specs::Reading::followed, hal_parse_expr::specs::Reading::made_of, hal_parse_expr::specs::Seen::seen_as))]
+#[inline(never)]
 fn until_loop(
     alloc: Global,
     place: Place,
@@ -132,6 +135,7 @@ fn until_loop(
 /// Behind DO and FOR.
 #[cycle(statements)]
 #[tactic(auto, unfolding(crate::specs::ReadingStatements::for_of, hal_parse_expr::specs::Reading::before_symbol, hal_parse_expr::specs::Reading::followed, hal_parse_expr::specs::Reading::made_of, hal_parse_expr::specs::Seen::seen_as, hal_parse_expr::specs::Seen::seen))]
+#[inline(never)]
 fn for_loop(
     alloc: Global,
     place: Place,

@@ -19,6 +19,7 @@ use std::alloc::{AllocError, Global};
 /// Behind ON.
 #[cycle(statements)]
 #[tactic(auto, unfolding(crate::specs::ReadingStatements::on_of, hal_parse_expr::specs::Reading::followed, hal_parse_expr::specs::Seen::seen_as, hal_parse_expr::specs::Seen::seen))]
+#[inline(never)]
 pub(crate) fn on_error(
     alloc: Global,
     place: Place,

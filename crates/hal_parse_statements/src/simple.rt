@@ -22,6 +22,7 @@ use std::alloc::{AllocError, Global};
 
 /// `A, B = value;`, from its first word on.
 #[tactic(auto, using(hal_tree::proofs::MadeStatements::made_assignment), unfolding(crate::specs::ReadingStatements::assigned_at, hal_parse_expr::specs::Reading::before_symbol, hal_parse_expr::specs::Reading::followed, hal_parse_expr::specs::Reading::made_of, hal_parse_expr::specs::Seen::seen_as, hal_parse_expr::specs::Seen::seen_as_list, hal_parse_expr::specs::Seen::seen))]
+#[inline(never)]
 pub(crate) fn assignment(
     alloc: Global,
     place: Place,
@@ -45,6 +46,7 @@ pub(crate) fn assignment(
 
 /// Behind EXIT.
 #[tactic(auto, using(hal_tree::proofs::MadeStatements::made_exit), unfolding(hal_parse_expr::specs::Reading::made_of, hal_parse_expr::specs::Seen::seen_as))]
+#[inline(never)]
 pub(crate) fn exit(place: Place, words: &[Token]) -> Option<(Basic, &[Token])>
     ensures { seen_as seen_basic result ≡ made_of (λ x. Exit place x) (name_end_at words.now) }
 {
@@ -56,6 +58,7 @@ pub(crate) fn exit(place: Place, words: &[Token]) -> Option<(Basic, &[Token])>
 
 /// Behind REPEAT.
 #[tactic(auto, using(hal_tree::proofs::MadeStatements::made_repeat), unfolding(hal_parse_expr::specs::Reading::made_of, hal_parse_expr::specs::Seen::seen_as))]
+#[inline(never)]
 pub(crate) fn repeat(place: Place, words: &[Token]) -> Option<(Basic, &[Token])>
     ensures { seen_as seen_basic result ≡ made_of (λ x. Repeat place x) (name_end_at words.now) }
 {
@@ -67,6 +70,7 @@ pub(crate) fn repeat(place: Place, words: &[Token]) -> Option<(Basic, &[Token])>
 
 /// Behind RETURN.
 #[tactic(auto, using(hal_tree::proofs::MadeStatements::made_return), unfolding(crate::specs::ReadingStatements::returned_at, hal_parse_expr::specs::Reading::decided, hal_parse_expr::specs::Reading::made_of, hal_parse_expr::specs::Seen::seen_as, hal_parse_expr::specs::Seen::seen))]
+#[inline(never)]
 pub(crate) fn return_value(
     alloc: Global,
     place: Place,
@@ -85,6 +89,7 @@ pub(crate) fn return_value(
 
 /// Behind CALL.
 #[tactic(auto, unfolding(crate::specs::ReadingStatements::call_at, hal_parse_expr::specs::Reading::followed, hal_parse_expr::specs::Seen::seen_as))]
+#[inline(never)]
 pub(crate) fn call(
     alloc: Global,
     place: Place,
@@ -126,6 +131,7 @@ fn call_behind(
 
 /// Behind READ.
 #[tactic(auto, using(hal_tree::proofs::MadeStatements::made_read), unfolding(crate::specs::ReadingStatements::read_at, hal_parse_expr::specs::Reading::before_symbol, hal_parse_expr::specs::Reading::followed, hal_parse_expr::specs::Reading::made_of, hal_parse_expr::specs::Seen::seen_as, hal_parse_expr::specs::Seen::seen_as_list, hal_parse_expr::specs::Seen::seen))]
+#[inline(never)]
 pub(crate) fn read(
     alloc: Global,
     place: Place,
@@ -149,6 +155,7 @@ pub(crate) fn read(
 
 /// Behind WRITE.
 #[tactic(auto, using(hal_tree::proofs::MadeStatements::made_write), unfolding(crate::specs::ReadingStatements::write_at, hal_parse_expr::specs::Reading::followed, hal_parse_expr::specs::Reading::made_of, hal_parse_expr::specs::Seen::seen_as, hal_parse_expr::specs::Seen::seen_as_list))]
+#[inline(never)]
 pub(crate) fn write(
     alloc: Global,
     place: Place,
@@ -169,6 +176,7 @@ pub(crate) fn write(
 
 /// Behind SCHEDULE.
 #[tactic(auto, using(hal_tree::proofs::MadeStatements::made_schedule_statement), unfolding(hal_parse_expr::specs::Reading::made_of, hal_parse_expr::specs::Seen::seen_as))]
+#[inline(never)]
 pub(crate) fn scheduled(
     alloc: Global,
     place: Place,
@@ -183,6 +191,7 @@ pub(crate) fn scheduled(
 
 /// Behind CANCEL.
 #[tactic(auto, using(hal_tree::proofs::MadeStatements::made_cancel), unfolding(hal_parse_expr::specs::Reading::made_of, hal_parse_expr::specs::Seen::seen_as, hal_parse_expr::specs::Seen::seen_as_list))]
+#[inline(never)]
 pub(crate) fn cancel(
     alloc: Global,
     place: Place,
@@ -196,6 +205,7 @@ pub(crate) fn cancel(
 
 /// Behind TERMINATE.
 #[tactic(auto, using(hal_tree::proofs::MadeStatements::made_terminate), unfolding(hal_parse_expr::specs::Reading::made_of, hal_parse_expr::specs::Seen::seen_as, hal_parse_expr::specs::Seen::seen_as_list))]
+#[inline(never)]
 pub(crate) fn terminate(
     alloc: Global,
     place: Place,
@@ -209,6 +219,7 @@ pub(crate) fn terminate(
 
 /// Behind SIGNAL, SET or RESET, which does this to the event.
 #[tactic(auto, using(hal_tree::proofs::MadeStatements::made_event), unfolding(crate::specs::ReadingStatements::acts_at, hal_parse_expr::specs::Reading::before_symbol, hal_parse_expr::specs::Reading::followed, hal_parse_expr::specs::Reading::made_of, hal_parse_expr::specs::Seen::seen_as, hal_parse_expr::specs::Seen::seen))]
+#[inline(never)]
 pub(crate) fn change(
     place: Place,
     action: EventAction,
@@ -255,6 +266,7 @@ pub(crate) fn update_priority(
 
 /// Behind OFF.
 #[tactic(auto, using(hal_tree::proofs::MadeStatements::made_off_error), unfolding(crate::specs::ReadingStatements::forgets_at, hal_parse_expr::specs::Reading::before_symbol, hal_parse_expr::specs::Reading::followed, hal_parse_expr::specs::Reading::made_of, hal_parse_expr::specs::Seen::seen_as, hal_parse_expr::specs::Seen::seen))]
+#[inline(never)]
 pub(crate) fn off_error(place: Place, words: &[Token]) -> Option<(Basic, &[Token])>
     ensures { seen_as seen_basic result ≡ forgets_at place words.now }
 {
@@ -272,6 +284,7 @@ pub(crate) fn off_error(place: Place, words: &[Token]) -> Option<(Basic, &[Token
 
 /// Behind SEND.
 #[tactic(auto, unfolding(crate::specs::ReadingStatements::sends_at, hal_parse_expr::specs::Reading::followed, hal_parse_expr::specs::Seen::seen_as, hal_parse_expr::specs::Seen::seen))]
+#[inline(never)]
 pub(crate) fn send_error(place: Place, words: &[Token]) -> Option<(Basic, &[Token])>
     ensures { seen_as seen_basic result ≡ sends_at place words.now }
 {

@@ -1,4 +1,5 @@
-//! Statements with their labels.
+//! Statements with their labels. The readers that a first word chooses are never inlined: each has a stack frame of its own, so a statement in another one
+//! takes no room for the phrases of all kinds.
 
 ghost use Rattle.std.specs.Prelude.{◌≡◌, IfOk};
 ghost use Rattle.hal_tree.specs.SeenStatements.{seen_basic, seen_statement};

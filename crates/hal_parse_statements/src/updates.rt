@@ -17,6 +17,7 @@ use std::alloc::{AllocError, Global};
 /// Behind UPDATE.
 #[cycle(statements)]
 #[tactic(auto, unfolding(crate::specs::ReadingStatements::update_of, hal_parse_expr::specs::Reading::decided, hal_parse_expr::specs::Reading::followed, hal_parse_expr::specs::Seen::seen_as, hal_parse_expr::specs::Seen::seen))]
+#[inline(never)]
 pub(crate) fn update(
     alloc: Global,
     place: Place,

@@ -16,6 +16,7 @@ use std::alloc::{AllocError, Global};
 
 /// Behind WAIT.
 #[tactic(auto, unfolding(crate::specs::ReadingStatements::wait_at, hal_parse_expr::specs::Reading::decided, hal_parse_expr::specs::Seen::seen_as, hal_parse_expr::specs::Seen::seen))]
+#[inline(never)]
 pub(crate) fn wait(
     alloc: Global,
     place: Place,

@@ -23,9 +23,11 @@ pub(crate) enum Kind {
     Units,
     /// The same, with a word that can't be read in the last one of them.
     Stuck,
+    /// Statements in 60 units in one another, none of which has an end.
+    Endless,
 }
 
-pub(crate) const KINDS: [Kind; 9] = [
+pub(crate) const KINDS: [Kind; 10] = [
     Kind::List,
     Kind::Sum,
     Kind::Product,
@@ -35,6 +37,7 @@ pub(crate) const KINDS: [Kind; 9] = [
     Kind::Ordinary,
     Kind::Units,
     Kind::Stuck,
+    Kind::Endless,
 ];
 
 /// What constructs are put around one another.
@@ -81,18 +84,28 @@ impl Kind {
             Kind::Ordinary => "ordinary",
             Kind::Units => "units",
             Kind::Stuck => "stuck",
+            Kind::Endless => "endless",
         }
     }
 
-    /// Where the repeated text stands in the unit.
-    fn frame(self) -> (&'static str, &'static str) {
+    /// What stands before the repeated text.
+    fn begin(self, alloc: Global) -> Result<String, AllocError> {
         match self {
-            Kind::List => (" P: PROGRAM; DECLARE INTEGER, A", " ; CLOSE P;\n"),
-            Kind::Sum => (" P: PROGRAM; A = 1", " ; CLOSE P;\n"),
-            Kind::Product => (" P: PROGRAM; A = 1", " ; CLOSE P;\n"),
-            Kind::Labels => (" P: PROGRAM;\n", " A = 1; CLOSE P;\n"),
-            Kind::Stuck => (" P: PROGRAM;\n", " ) CLOSE P;\n"),
-            _ => (" P: PROGRAM;\n", " CLOSE P;\n"),
+            Kind::List => String::from_str(alloc, " P: PROGRAM; DECLARE INTEGER, A"),
+            Kind::Sum | Kind::Product => String::from_str(alloc, " P: PROGRAM; A = 1"),
+            Kind::Endless => around(alloc, DEPTH, " Q: PROCEDURE;\n", "", ""),
+            _ => String::from_str(alloc, " P: PROGRAM;\n"),
+        }
+    }
+
+    /// What stands behind it.
+    fn end(self) -> &'static str {
+        match self {
+            Kind::List | Kind::Sum | Kind::Product => " ; CLOSE P;\n",
+            Kind::Labels => " A = 1; CLOSE P;\n",
+            Kind::Stuck => " ) CLOSE P;\n",
+            Kind::Endless => "",
+            _ => " CLOSE P;\n",
         }
     }
 
@@ -106,6 +119,7 @@ impl Kind {
             Kind::Groups => around(alloc, DEPTH, " DO;\n", " A = 1;\n", " END;\n"),
             Kind::Labels => String::from_str(alloc, " L:\n"),
             Kind::Ordinary => String::from_str(alloc, ORDINARY),
+            Kind::Endless => String::from_str(alloc, " ;\n"),
             Kind::Units | Kind::Stuck => {
                 around(alloc, DEPTH, " Q: PROCEDURE;\n", " A = 1;\n", " CLOSE;\n")
             }
@@ -114,14 +128,14 @@ impl Kind {
 
     /// A unit of the kind with at least so many bytes.
     pub(crate) fn text(self, alloc: Global, size: usize) -> Result<Vec<u8>, AllocError> {
-        let (begin, end) = self.frame();
+        let begin = self.begin(alloc)?;
         let repeated = self.repeated(alloc)?;
         let mut text = Vec::new(alloc);
         text.extend_from_slice(begin.as_bytes())?;
         for _ in 0..=size / repeated.len().max(1) {
             text.extend_from_slice(repeated.as_bytes())?;
         }
-        text.extend_from_slice(end.as_bytes())?;
+        text.extend_from_slice(self.end().as_bytes())?;
         Ok(text)
     }
 }
