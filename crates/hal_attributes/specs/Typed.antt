@@ -9,7 +9,7 @@ use Rattle.hal_phrases.specs.Phrases.{Node, Phrase, OfTemplate, OfUnit, OfItem, 
 use Rattle.hal_scope.specs.Sorts.{type_among, type_of}
 use Rattle.hal_scope.specs.Uses.{unless}
 use Rattle.hal_kinds.specs.Attributes.{sizes_of}
-use Rattle.hal_kinds.specs.Data.{is_event_type, is_parameter}
+use Rattle.hal_kinds.specs.Data.{is_event_type, is_parameter, is_structure_type}
 
 -- whether nothing is said of a result
 unfoldable pub is_untyped : Returns → Bool
@@ -38,11 +38,6 @@ is_template name other = false
 unfoldable pub named_as_template : Node → Option Place
 named_as_template (OfItem common item) = unless (not (is_template item.name.name (type_of common item))) item.name.place
 named_as_template other = None
-
--- whether a type is that of a structure
-unfoldable pub is_structure_type : Option Kind → Bool
-is_structure_type (Some (StructureKind place template copies)) = true
-is_structure_type other = false
 
 -- rule 326
 unfoldable pub nested : Node → Option Place

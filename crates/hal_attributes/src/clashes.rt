@@ -120,7 +120,7 @@ fn clash_of_head(head: &Head) -> Option<Place>
     }
 }
 
-/// Where a phrase breaks rule 701, parts that have parts aside.
+/// Where a phrase breaks rule 701, parts that have parts aside (language document, Kinds).
 #[tactic(auto, using(hal_tree::proofs::MadeDeclarations::made_declared, hal_tree::proofs::MadeDeclarations::made_part), unfolding(crate::specs::Clashes::clashing))]
 pub fn clashing(node: Node<'_>) -> Option<Place>
     ensures { result ≡ clashes.clashing (seen_node node.entry) }

@@ -33,7 +33,7 @@ fn level_fault(first: u32, parts: &[Part]) -> Option<Place>
     None
 }
 
-/// Where a phrase breaks rule 710 by a level.
+/// Where a phrase breaks rule 710 by a level (language document, Kinds).
 #[tactic(auto, unfolding(crate::specs::Levels::misleveled))]
 pub fn misleveled(node: Node<'_>) -> Option<Place>
     ensures { result ≡ levels.misleveled (seen_node node.entry) }
@@ -112,7 +112,7 @@ fn parent_fault(parts: &[Part]) -> Option<Place>
     None
 }
 
-/// Where a phrase breaks rule 701 by a part that has parts.
+/// Where a phrase breaks rule 701 by a part that has parts (language document, Kinds).
 #[tactic(auto, unfolding(crate::specs::Levels::overtyped))]
 pub fn overtyped(node: Node<'_>) -> Option<Place>
     ensures { result ≡ levels.overtyped (seen_node node.entry) }

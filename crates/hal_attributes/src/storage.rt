@@ -108,7 +108,7 @@ fn is_stored_part(attributes: &[Attribute]) -> bool
             || (initial_among(attributes).is_some() || constant_among(attributes).is_some()))
 }
 
-/// Where a phrase breaks rule 725.
+/// Where a phrase breaks rule 725 (language document, Kinds).
 #[tactic(auto, using(hal_tree::proofs::MadeDeclarations::made_declared, hal_tree::proofs::MadeDeclarations::made_part), unfolding(crate::specs::Storage::misstored))]
 pub fn misstored(names: &Names<'_>, phrase: &Phrase<'_>) -> Option<Place>
     ensures { result ≡ storage.misstored (seen_names names.now) (seen_phrase phrase.now) (seen_phrase phrase.now).node }

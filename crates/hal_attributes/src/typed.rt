@@ -9,7 +9,7 @@ ghost use Rattle.hal_names.specs.SeenNames.{seen_names};
 ghost use Rattle.hal_attributes.specs.Typed as typed;
 
 use hal_base::Place;
-use hal_kinds::{is_event_type, is_parameter, sizes_of};
+use hal_kinds::{is_event_type, is_parameter, is_structure_type, sizes_of};
 use hal_names::Names;
 use hal_phrases::{Node, Phrase};
 use hal_scope::{type_among, type_of, unless};
@@ -41,7 +41,7 @@ fn untyped_head(head: &Head) -> Option<Place>
     }
 }
 
-/// Where a phrase breaks rule 323.
+/// Where a phrase breaks rule 323 (language document, Kinds).
 #[tactic(auto, using(hal_tree::proofs::MadeDeclarations::made_declared, hal_tree::proofs::MadeDeclarations::made_part, hal_kinds::proofs::Options::some_mapped), unfolding(crate::specs::Typed::untyped))]
 pub fn untyped(node: Node<'_>) -> Option<Place>
     ensures { result ≡ typed.untyped (seen_node node.entry) }
@@ -74,7 +74,7 @@ fn is_template(name: &Name, kind: Option<&Type>) -> bool
     }
 }
 
-/// Where a phrase breaks rule 325.
+/// Where a phrase breaks rule 325 (language document, Kinds).
 #[tactic(auto, using(hal_tree::proofs::MadeDeclarations::made_declared), unfolding(crate::specs::Typed::named_as_template))]
 pub fn named_as_template(node: Node<'_>) -> Option<Place>
     ensures { result ≡ typed.named_as_template (seen_node node.entry) }
@@ -88,23 +88,7 @@ pub fn named_as_template(node: Node<'_>) -> Option<Place>
     }
 }
 
-/// Whether a type is that of a structure.
-#[tactic(auto, using(hal_tree::proofs::MadeDeclarations::made_integer_type, hal_tree::proofs::MadeDeclarations::made_boolean_type, hal_tree::proofs::MadeDeclarations::made_event_type, hal_tree::proofs::MadeDeclarations::made_bit_type, hal_tree::proofs::MadeDeclarations::made_character_type, hal_tree::proofs::MadeDeclarations::made_structure_type), unfolding(crate::specs::Typed::is_structure_type))]
-fn is_structure_type(kind: Option<&Type>) -> bool
-    ensures { result ≡ typed.is_structure_type (option_map (λ kind. seen_type kind.now) kind.entry) }
-{
-    match kind {
-        None => false,
-        Some(Type::Structure { .. }) => true,
-        Some(Type::Integer { place: _ }) => false,
-        Some(Type::Boolean { place: _ }) => false,
-        Some(Type::Event { place: _ }) => false,
-        Some(Type::Bit { .. }) => false,
-        Some(Type::Character { .. }) => false,
-    }
-}
-
-/// Where a phrase breaks rule 326.
+/// Where a phrase breaks rule 326 (language document, Kinds).
 #[tactic(auto, using(hal_tree::proofs::MadeDeclarations::made_part), unfolding(crate::specs::Typed::nested))]
 pub fn nested(node: Node<'_>) -> Option<Place>
     ensures { result ≡ typed.nested (seen_node node.entry) }
@@ -131,7 +115,7 @@ fn is_no_variable(
     sizes_of(common, item).is_some() || is_parameter(names, phrase, &item.name.name)
 }
 
-/// Where a phrase breaks rule 327.
+/// Where a phrase breaks rule 327 (language document, Kinds).
 #[tactic(auto, using(hal_tree::proofs::MadeDeclarations::made_declared, hal_tree::proofs::MadeDeclarations::made_part), unfolding(crate::specs::Typed::misplaced_event))]
 pub fn misplaced_event(names: &Names<'_>, phrase: &Phrase<'_>) -> Option<Place>
     ensures { result ≡ typed.misplaced_event (seen_names names.now) (seen_phrase phrase.now) (seen_phrase phrase.now).node }
@@ -189,7 +173,7 @@ fn no_result_head(head: &Head) -> Option<Place>
     }
 }
 
-/// Where a phrase breaks rule 724.
+/// Where a phrase breaks rule 724 (language document, Kinds).
 #[tactic(auto, unfolding(crate::specs::Typed::no_result))]
 pub fn no_result(node: Node<'_>) -> Option<Place>
     ensures { result ≡ typed.no_result (seen_node node.entry) }

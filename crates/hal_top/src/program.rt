@@ -46,7 +46,7 @@ fn checked_names<'a>(alloc: Global, file: &'a File) -> Result<Names<'a>, Fault>
     ensures broken { IfErr result (IsFaultOf (seen_file file.now)) }
 {
     let names = names_in(alloc, file)?;
-    check_types(&names)?;
+    check_types(alloc, &names)?;
     Ok(names)
 }
 

@@ -1,4 +1,4 @@
-//! The rules of types, 322 to 329 and 701 to 725, over a set of files.
+//! The rules of types, 322, 323, 325 to 329 and 701 to 725, over a set of files.
 #![tactic(auto)]
 
 mod checking;

@@ -1,24 +1,31 @@
 //! The rules of types over phrases.
 
-ghost use Rattle.std.specs.Prelude.{◌≡◌};
+ghost use Rattle.std.specs.Prelude.{◌≡◌, IfOk};
 ghost use Rattle.hal_phrases.specs.SeenPhrases.{seen_phrase};
 ghost use Rattle.hal_names.specs.SeenNames.{seen_names};
 ghost use Rattle.hal_scope.specs.Rules as rules;
-ghost use Rattle.hal_types.specs.Rules.{attribute_rows, operand_rows, type_rows, use_rows};
+ghost use Rattle.hal_constants.specs.SeenKnown.{seen_known};
+ghost use Rattle.hal_types.specs.Rules as table;
+ghost use Rattle.hal_types.specs.Rules.{attribute_rows, operand_rows, use_rows};
 
 use hal_attributes::{
     clashing, misleveled, misplaced_event, misstored, named_as_template, nested, no_result,
     overtyped, untyped,
 };
 use hal_base::Place;
+use hal_constants::Known;
+use hal_initials::{misinitialed, missigned};
 use hal_names::Names;
 use hal_operands::{mismatched, mistimed, unfit, untaken, untimely};
 use hal_phrases::Phrase;
 use hal_scope::ruled;
+use hal_shapes::{misranged, misshaped};
+use hal_sizes::{inconstant, misdimensioned};
 use hal_uses::{
     miscalled, misreceived, misreturned, missubscripted, no_error, no_exponent, no_process,
     unlatched,
 };
+use std::alloc::{AllocError, Global};
 
 /// The first rule of attributes that a phrase breaks, and where.
 #[tactic(auto, using(hal_scope::proofs::Lists::or_none), unfolding(hal_scope::specs::Rules::fault, crate::specs::Rules::attribute_rows))]
@@ -63,26 +70,56 @@ fn use_fault(names: &Names<'_>, phrase: &Phrase<'_>) -> Option<(u16, Place)>
     ruled(328, no_exponent(phrase.node)).or(later)
 }
 
-/// The first rule of types that a phrase breaks, and where.
-#[tactic(auto, using(crate::proofs::Tables::all_faults))]
-fn fault(names: &Names<'_>, phrase: &Phrase<'_>) -> Option<(u16, Place)>
-    ensures { result ≡ rules.fault type_rows (seen_names names.now) (seen_phrase phrase.now) }
+/// The first rule of types that a phrase breaks, the values of constants aside.
+fn plain_fault(names: &Names<'_>, phrase: &Phrase<'_>) -> Option<(u16, Place)>
+    ensures { result ≡ table.plain_fault (seen_names names.now) (seen_phrase phrase.now) }
 {
     let later = operand_fault(names, phrase).or(use_fault(names, phrase));
     attribute_fault(names, phrase).or(later)
 }
 
+/// The first rule of sizes, ranges and arguments that a phrase breaks, and where.
+fn size_fault(names: &Names<'_>, known: &Known, phrase: &Phrase<'_>) -> Option<(u16, Place)>
+    ensures { result ≡ table.sized_plainly (seen_names names.now) (seen_known known.now) (seen_phrase phrase.now) }
+{
+    let later = ruled(702, missigned(names, phrase));
+    let later = ruled(705, misshaped(names, known, phrase)).or(later);
+    let later = misranged(names, known, phrase).or(later);
+    let later = ruled(710, misdimensioned(phrase.node)).or(later);
+    inconstant(names, known, phrase).or(later)
+}
+
+/// The first rule of types that a phrase breaks, and where.
+fn fault(
+    alloc: Global,
+    names: &Names<'_>,
+    known: &Known,
+    phrase: &Phrase<'_>,
+) -> Result<Option<(u16, Place)>, AllocError>
+    ensures { IfOk result (λ found. found ≡ table.fault_with (seen_names names.now) (seen_known known.now) (seen_phrase phrase.now)) }
+{
+    let found = plain_fault(names, phrase).or(size_fault(names, known, phrase));
+    if found.is_some() {
+        return Ok(found);
+    }
+    misinitialed(alloc, names, known, phrase)
+}
+
 /// The first rule of types that one of the phrases breaks, and where.
-#[tactic(auto, unfolding(hal_scope::specs::Rules::first_fault))]
-pub(crate) fn first_fault(names: &Names<'_>) -> Option<(u16, Place)>
-    ensures { result ≡ rules.first_fault type_rows (seen_names names.now) (seen_names names.now) }
+#[tactic(auto, unfolding(crate::specs::Rules::first_with))]
+pub(crate) fn first_fault(
+    alloc: Global,
+    names: &Names<'_>,
+    known: &Known,
+) -> Result<Option<(u16, Place)>, AllocError>
+    ensures { IfOk result (λ found. found ≡ table.first_with (seen_names names.now) (seen_known known.now) (seen_names names.now)) }
 {
     let phrases = names.phrases();
     for phrase in phrases {
-        let found = fault(names, phrase);
+        let found = fault(alloc, names, known, phrase)?;
         if found.is_some() {
-            return found;
+            return Ok(found);
         }
     }
-    None
+    Ok(None)
 }

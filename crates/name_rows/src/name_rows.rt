@@ -81,5 +81,5 @@ fn names_of(alloc: Global, units: &str) -> Result<(), Fault> {
 fn types_of(alloc: Global, units: &str) -> Result<(), Fault> {
     let files = files_of(alloc, units)?;
     let names = resolve(alloc, files.as_slice())?;
-    check_types(&names)
+    check_types(alloc, &names)
 }

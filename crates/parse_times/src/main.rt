@@ -1,20 +1,24 @@
 //! Makes a unit of so many bytes, as its first word says, 1000 where it has none, and parses its words so many times as its
 //! second word says, once where it has none; of the kind that its third word names, or of each kind. It prints how many
 //! words the unit has, and how often they were parsed. bench/parsing.py times it. Kinds of units that are full of names have so
-//! many of them, and it is the rules of names that are tried so many times; bench/names.py times that.
+//! many of them, and it is the rules of names that are tried so many times; bench/names.py times that. Of kinds of units whose
+//! types take work it is the rules of types; bench/types.py times that.
 #![tactic(auto)]
 
 mod names;
 mod texts;
+mod typings;
 
 use hal_lexer::tokens;
 use hal_parse::parse;
 use hal_scope::resolve;
+use hal_types::check_types;
 use names::{NAMINGS, Naming};
 use std::alloc::Global;
 use std::slice::from_ref;
 use std::{env, io};
 use texts::{KINDS, Kind};
+use typings::{TYPINGS, Typing};
 
 /// The number that the word at this place says, or this one.
 fn number(words: &[String], place: usize, or: usize) -> usize {
@@ -63,6 +67,26 @@ fn named_counts_of(alloc: Global, text: &[u8], times: usize) -> (usize, usize) {
     (tokens.as_slice().len(), count)
 }
 
+/// How many words the text has, and how often of so many times its unit breaks no rule of types; no word where it breaks another one.
+fn typed_counts_of(alloc: Global, text: &[u8], times: usize) -> (usize, usize) {
+    let Ok(tokens) = tokens(alloc, text, 0) else {
+        return (0, 0);
+    };
+    let Ok(file) = parse(alloc, tokens.as_slice(), 0) else {
+        return (0, 0);
+    };
+    let Ok(names) = resolve(alloc, from_ref(&file)) else {
+        return (0, 0);
+    };
+    let mut count = 0usize;
+    for _ in 0..times {
+        if check_types(alloc, &names).is_ok() {
+            count = count.saturating_add(1);
+        }
+    }
+    (tokens.as_slice().len(), count)
+}
+
 /// Parses a unit of a kind, and tells it.
 fn try_kind(rt: &HostRuntime, kind: Kind, size: usize, times: usize) -> io::Result<()> {
     let text = kind.text(rt.alloc(), size)?;
@@ -79,6 +103,14 @@ fn try_naming(rt: &HostRuntime, naming: Naming, size: usize, times: usize) -> io
     println!(rt; "{name} {count} words resolved {right}")
 }
 
+/// Tries the rules of types on a unit whose types take work, and tells it.
+fn try_typing(rt: &HostRuntime, typing: Typing, size: usize, times: usize) -> io::Result<()> {
+    let text = typing.text(rt.alloc(), size)?;
+    let (count, right) = typed_counts_of(rt.alloc(), text.as_bytes(), times);
+    let name = typing.name();
+    println!(rt; "{name} {count} words typed {right}")
+}
+
 fn main(rt: HostRuntime) -> io::Result<()> {
     let words: Vec<String> = env::args(&rt)?.skip(1).collect(rt.alloc())?;
     let size = number(words.as_slice(), 0, 1_000);
@@ -91,6 +123,11 @@ fn main(rt: HostRuntime) -> io::Result<()> {
     for naming in NAMINGS {
         if is_asked(words.as_slice(), naming.name()) {
             try_naming(&rt, naming, size, times)?;
+        }
+    }
+    for typing in TYPINGS {
+        if is_asked(words.as_slice(), typing.name()) {
+            try_typing(&rt, typing, size, times)?;
         }
     }
     Ok(())
