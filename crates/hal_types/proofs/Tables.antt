@@ -50,7 +50,7 @@ unfolding type_rows
 all_faults ps p =
     fault_of_both attribute_rows (operand_rows ++ (use_rows ++ size_rows)) ps p
     ∙ ap (option_or (fault attribute_rows ps p)) (fault_of_both operand_rows (use_rows ++ size_rows) ps p
-        ∙ ap (option_or (fault operand_rows ps p)) (fault_of_both use_rows size_rows ps p ∙ ap (option_or (fault use_rows ps p)) (size_faults ps p)))
+    ∙ ap (option_or (fault operand_rows ps p)) (fault_of_both use_rows size_rows ps p ∙ ap (option_or (fault use_rows ps p)) (size_faults ps p)))
     ∙ sym (in_order (fault attribute_rows ps p) (fault operand_rows ps p) (fault use_rows ps p) (sized_plainly ps (known ps) p) (misinitialed ps (known ps) p p.node))
 
 pub first_of_all : (ps qs : List Phrase) → first_fault type_rows ps qs ≡ first_with ps (known ps) qs
