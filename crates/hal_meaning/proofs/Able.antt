@@ -5,7 +5,9 @@ use Rattle.hal_values.specs.declared.request.Request.TheVariants as request
 use Rattle.hal_values.specs.declared.tables.Tables.{Tables}
 use Rattle.hal_values.specs.Answers.{Answered}
 use Rattle.hal_values.specs.Tables.{process_count}
-use Rattle.hal_meaning.specs.States.{Kept, asking, State, state, Evaluated, Asks, bind}
+use Rattle.hal_states.specs.Spots.{Kept}
+use Rattle.hal_states.specs.Modes.{asking}
+use Rattle.hal_meaning.specs.States.{State, state, Evaluated, Asks, bind}
 use Rattle.hal_meaning.specs.Access.{Here}
 use Rattle.hal_meaning.specs.Tasks.{Task, Meaning, Tested, Stepping, Listing, Entering, Resuming, Cycling}
 use Rattle.hal_meaning.proofs.Going.{spare, pushed, IsRight, Goes, Fine, Goes-bind}

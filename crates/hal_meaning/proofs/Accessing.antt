@@ -22,11 +22,12 @@ use Rattle.hal_values.specs.Requests.{IsInOrder, IsForCell, HasEvent}
 use Rattle.hal_values.specs.Searching.{Found, BySystem, Ignored, ByStatement, search}
 use Rattle.hal_values.specs.Tables.{event_count}
 use Rattle.hal_operations.specs.Stores.{stored, mended_store}
-use Rattle.hal_meaning.specs.InitialValues.{of_kind}
-use Rattle.hal_meaning.specs.States.{Spot, Shared, Own, Nowhere, Kept, kept, Mode, mode, State, state, with_kept, Evaluated, Gives, bind}
-use Rattle.hal_meaning.specs.Statements.{turns_given}
-use Rattle.hal_meaning.specs.Access.{Here, ask, request_made, event_changed, sided, are_spent, meets, raise, tested, turned, turn, has_bit, read_in, read, write_in, put, store, further, copy, all_entered}
-use Rattle.hal_meaning.proofs.OfKind.{of_kind_is}
+use Rattle.hal_states.specs.Spots.{Spot, Shared, Own, Nowhere, Kept, kept, further}
+use Rattle.hal_states.specs.OfKinds.{of_kind}
+use Rattle.hal_states.specs.Modes.{Mode, mode, turns_given, are_spent, has_bit}
+use Rattle.hal_meaning.specs.States.{State, state, with_kept, Evaluated, Gives, bind}
+use Rattle.hal_meaning.specs.Access.{Here, ask, request_made, event_changed, sided, meets, raise, tested, turned, turn, read_in, read, write_in, put, store, copy, all_entered}
+use Rattle.hal_states.proofs.OfKind.{of_kind_is}
 use Rattle.hal_meaning.proofs.Going.{weight, turns_in, spare, pushed, IsRight, Goes, Fine, Answers, Goes-bind, Goes-asks, Goes-stops}
 
 -- a state is right, and so many tasks may begin
@@ -201,10 +202,10 @@ Goes-store h turns limit a k at v st is =
     Goes-bind h.set.tables turns limit a (Fine h.set.tables turns limit) (Fine h.set.tables turns limit) _ _ _ _ (Goes-tested h turns limit a (stored k v) (mended_store k v) st is)
     (λ fitting after known. Goes-put h turns limit a at fitting after known)
 
-pub Goes-copy : (h : Here) (turns limit : ℕ) (a : Answered) (n : ℕ) (k : Kind) (from to : Spot) (st : State) → Ok_state h.set.tables turns limit st
-    → Goes h.set.tables turns limit a (Fine h.set.tables turns limit) (copy h n k from to st) (copy h n k from to (pushed a st))
-Goes-copy h turns limit a zero k from to st is = (is, refl)
-Goes-copy h turns limit a (suc n) k from to st is =
+pub Goes-copy : (h : Here) (turns limit : ℕ) (a : Answered) (ks : List Kind) (from to : Spot) (st : State) → Ok_state h.set.tables turns limit st
+    → Goes h.set.tables turns limit a (Fine h.set.tables turns limit) (copy h ks from to st) (copy h ks from to (pushed a st))
+Goes-copy h turns limit a [] from to st is = (is, refl)
+Goes-copy h turns limit a (k ∷ ks) from to st is =
     Goes-bind h.set.tables turns limit a (Fine h.set.tables turns limit) (Fine h.set.tables turns limit) _ _ _ _ (Goes-read h turns limit a k from st is)
     (λ v after known. Goes-bind h.set.tables turns limit a (Fine h.set.tables turns limit) (Fine h.set.tables turns limit) _ _ _ _ (Goes-put h turns limit a to v after known)
-    (λ done later more. Goes-copy h turns limit a n k (further 1 from) (further 1 to) later more))
+    (λ done later more. Goes-copy h turns limit a ks (further 1 from) (further 1 to) later more))

@@ -7,7 +7,9 @@ use Rattle.hal_values.specs.Answers.{Answered}
 use Rattle.hal_values.specs.Answers as answered
 use Rattle.hal_values.specs.Loads.{IsWritten}
 use Rattle.hal_values.specs.Tables.{process_count}
-use Rattle.hal_meaning.specs.States.{Kept, Mode, asking, state, Evaluated, Gives, Asks, Caught, Restarts, Lost, Flow}
+use Rattle.hal_states.specs.Spots.{Kept}
+use Rattle.hal_states.specs.Modes.{Mode, asking}
+use Rattle.hal_meaning.specs.States.{state, Evaluated, Gives, Asks, Caught, Restarts, Lost, Flow}
 use Rattle.hal_meaning.specs.Access.{Here}
 use Rattle.hal_meaning.specs.Statements.{statements}
 use Rattle.hal_meaning.specs.Tasks.{Meaning, Cycling}

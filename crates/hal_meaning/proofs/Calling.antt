@@ -5,11 +5,12 @@ use Rattle.hal_grammar.specs.Leaves.{Naming}
 use Rattle.hal_values.specs.declared.environment.Entry.{Entry}
 use Rattle.hal_values.specs.declared.value.Value.TheVariants as value
 use Rattle.hal_values.specs.Answers.{Answered}
-use Rattle.hal_meaning.specs.Elements.{element_count}
+use Rattle.hal_states.specs.Spots.{Spot, Own}
+use Rattle.hal_meaning.specs.Elements.{kinds_of}
 use Rattle.hal_meaning.specs.Bodies.{Body}
 use Rattle.hal_meaning.specs.ReportNames.{first_place}
 use Rattle.hal_meaning.specs.Sets.{body_at}
-use Rattle.hal_meaning.specs.States.{Spot, Own, State, with_places, with_entries, Evaluated, Gives, Asks, Caught, Restarts, Lost, Flow}
+use Rattle.hal_meaning.specs.States.{State, with_places, with_entries, Evaluated, Gives, Asks, Caught, Restarts, Lost, Flow}
 use Rattle.hal_meaning.specs.Access.{Here}
 use Rattle.hal_meaning.specs.Variables.{kind_of_first}
 use Rattle.hal_meaning.specs.Calls.{Parameter, parameter_named, Passed, Plain, Whole, entering, bound, stored_parameter, stored_parameters, begun, left_with, run_call, made_call, call, inputs_of, outputs_of}
@@ -21,7 +22,7 @@ use Rattle.hal_meaning.proofs.Able.{Ready, Runs, Fit, seq, begun as task_begun}
 Runs-parameter : (h : Here) (limit : ℕ) (a : Answered) (p : Parameter) (passed : Passed) (st : State) → Fit h limit st → Runs h limit a (stored_parameter h p passed st) (stored_parameter h p passed (pushed a st))
 Runs-parameter h limit a p (Plain v) st is = Goes-store h h.set.turns limit a (kind_of_first p.shape.components) (Own (first_place h.places p.number)) v st is
 Runs-parameter h limit a p (Whole from) st is =
-    Goes-copy h h.set.turns limit a (element_count p.shape) (kind_of_first p.shape.components) from (Own (first_place h.places p.number)) st is
+    Goes-copy h h.set.turns limit a (kinds_of p.shape) from (Own (first_place h.places p.number)) st is
 
 Runs-parameters : (h : Here) (limit : ℕ) (a : Answered) (unit : ℕ) (names : List Naming) (more : List Passed) (st : State) → Fit h limit st
     → Runs h limit a (stored_parameters h unit names more st) (stored_parameters h unit names more (pushed a st))

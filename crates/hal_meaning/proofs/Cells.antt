@@ -21,11 +21,12 @@ use Rattle.hal_values.specs.declared.value.Value.TheVariants as value
 use Rattle.hal_values.specs.Kinds.{IsKind, IsOfKind}
 use Rattle.hal_values.specs.Tables.{IsCell}
 use Rattle.hal_operations.specs.Stores.{mended_store}
+use Rattle.hal_states.specs.OfKinds.{nothing}
 use Rattle.hal_meaning.specs.Elements.{Component, Shape, count, times, kinds_of_component, kinds_of, component, Above, lower, path_to, components_from, components_at, shape_of_type, shape_of}
-use Rattle.hal_meaning.specs.InitialValues.{nothing, held, one_each, filled, given, all_values, first_values}
+use Rattle.hal_meaning.specs.InitialValues.{held, one_each, filled, given, all_values, first_values}
 use Rattle.hal_meaning.specs.Places.{Storing, InCells, InPlaces, ByReference, Unstored, storing, cells_from, cells_of_item, cells_at}
 use Rattle.hal_meaning.specs.Sets.{cells_of}
-use Rattle.hal_meaning.proofs.OfKind.{of_kind_is, nothing_is}
+use Rattle.hal_states.proofs.OfKind.{of_kind_is, nothing_is}
 
 -- a size within its limit
 abbrev IsSize : ℕ → Option ℕ → Type 0

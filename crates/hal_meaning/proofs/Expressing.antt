@@ -26,12 +26,14 @@ use Rattle.hal_values.specs.declared.value.Value.{Value}
 use Rattle.hal_values.specs.declared.value.Value.TheVariants as value
 use Rattle.hal_values.specs.Answers.{Answered, error}
 use Rattle.hal_values.specs.Tables.{event_count}
+use Rattle.hal_states.specs.Spots.{Spot, further}
+use Rattle.hal_states.specs.Numbers.{integer_of}
 use Rattle.hal_meaning.specs.Elements.{Shape, chosen, offset}
-use Rattle.hal_meaning.specs.States.{Spot, State, Evaluated, Gives, bind}
-use Rattle.hal_meaning.specs.Access.{Here, further}
+use Rattle.hal_meaning.specs.States.{State, Evaluated, Gives, bind}
+use Rattle.hal_meaning.specs.Access.{Here}
 use Rattle.hal_meaning.specs.Variables.{Meant, MeantData, MeantConstant, MeantEvent, MeantBlock, MeantBuiltin, MeantNothing, name_meant, Index, Single, Dimension, dimensions_of, all_inside, kind_of_first, is_arrayed}
 use Rattle.hal_meaning.specs.Calls.{Passed}
-use Rattle.hal_meaning.specs.Expressions.{operation_of_relation, operation_of_sign, operation_of_conversion, is_condition, are_conditions, as_operand, apply_one, apply_two, signed, exponent_of, part_of, Located, located, event_value, alone_value, plain_value, named_value, built, sizes_named, copies_of, size_argument, is_size, inputs_at, is_whole_parameter, after_first, first_size, after_first_dimension, spoken, integer_of, by_place, argument, call_form, subscripted, meant_chosen, part_unless, expression, joined, folded, summed, values, passed, chosen_by, referred, chosen_data, data_chosen, array_indexes, indexes, index, position, component, parts_of, part_chosen}
+use Rattle.hal_meaning.specs.Expressions.{operation_of_relation, operation_of_sign, operation_of_conversion, is_condition, are_conditions, as_operand, apply_one, apply_two, signed, exponent_of, part_of, Located, located, event_value, alone_value, plain_value, named_value, built, sizes_named, copies_of, size_argument, is_size, inputs_at, is_whole_parameter, after_first, first_size, after_first_dimension, spoken, by_place, argument, call_form, subscripted, meant_chosen, part_unless, expression, joined, folded, summed, values, passed, chosen_by, referred, chosen_data, data_chosen, array_indexes, indexes, index, position, component, parts_of, part_chosen}
 use Rattle.hal_meaning.specs.Tasks.{Meaning}
 use Rattle.hal_meaning.proofs.Going.{pushed, Goes, Fine, Answers, Goes-bind}
 use Rattle.hal_meaning.proofs.Accessing.{after_answer, Goes-ask, Goes-if, Goes-raised, Goes-tested, Goes-read}

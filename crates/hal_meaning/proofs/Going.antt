@@ -13,8 +13,9 @@ use Rattle.hal_values.specs.Answers.{Answered}
 use Rattle.hal_values.specs.Answers as answered
 use Rattle.hal_values.specs.Loads.{IsWritten}
 use Rattle.hal_values.specs.Requests.{IsInOrder}
-use Rattle.hal_meaning.specs.Statements.{turns_given}
-use Rattle.hal_meaning.specs.States.{Kept, Mode, asking, State, state, Evaluated, Gives, Asks, Caught, Restarts, Lost, bind, asks_from, asks, stops_from, stops}
+use Rattle.hal_states.specs.Spots.{Kept}
+use Rattle.hal_states.specs.Modes.{turns_given, Mode, asking}
+use Rattle.hal_meaning.specs.States.{State, state, Evaluated, Gives, Asks, Caught, Restarts, Lost, bind, asks_from, asks, stops_from, stops}
 
 -- how many tasks answers let begin
 abbrev pub weight : ℕ → List Answered → ℕ

@@ -1,4 +1,3 @@
-pub mod OfKind
 pub mod Going
 pub mod Accessing
 pub mod Able

@@ -1,22 +1,25 @@
 -- A set is a load.
-use Rattle.std.specs.Prelude.{ℕ, ◌-◌, ◌≤◌, ◌<◌, ◌≡◌, ◌++◌, ◌==◌, length, List, [], ◌∷◌, Bool, true, false, Option, Some, None, All, IsSome, if◌then◌else◌}
-use Rattle.std.proofs.Common.{refl, sym, ap, subst, ◌∙◌, inl, inr, arith}
-use Rattle.std.proofs.lemmas.Bool.{eqb-true, eq-eqb}
+use Rattle.std.specs.Prelude.{ℕ, ◌-◌, ◌≤◌, ◌<◌, ◌≡◌, ◌++◌, ◌==◌, length, List, [], ◌∷◌, Option, Some, None, All}
+use Rattle.std.proofs.Common.{refl, sym, ap, subst, ◌∙◌, inl, inr}
+use Rattle.std.proofs.lemmas.Bool.{eq-eqb}
 use Rattle.std.proofs.lemmas.List.Elements.{All-nil}
 use Rattle.hal_values.specs.declared.request.Request.{Request}
 use Rattle.hal_values.specs.declared.request.Request.TheVariants as request
-use Rattle.hal_values.specs.declared.value.Value.{Value}
 use Rattle.hal_values.specs.Answers.{Answered}
 use Rattle.hal_values.specs.Answers as answered
-use Rattle.hal_values.specs.Loads.{IsLoad, IsWritten, IsUpdate, turn_limit}
+use Rattle.hal_values.specs.Loads.{IsLoad, IsWritten, turn_limit}
 use Rattle.hal_values.specs.Requests.{IsInOrder}
 use Rattle.hal_values.specs.Tables.{IsTables, process_count}
+use Rattle.hal_states.specs.Spots.{Kept}
+use Rattle.hal_states.specs.Modes.{asking}
 use Rattle.hal_meaning.specs.Bodies.{Body}
 use Rattle.hal_meaning.specs.Places.{Place}
 use Rattle.hal_meaning.specs.Sets.{Set}
-use Rattle.hal_meaning.specs.States.{Kept, Mode, asking, Evaluated, Gives, Asks, Caught, Restarts, Lost, Flow}
-use Rattle.hal_meaning.specs.Runs.{first_kept, here_in, process_body, places_of_process, course_of, asked, asked_mode, next, is_update, block_mode}
+use Rattle.hal_meaning.specs.States.{Evaluated, Gives, Asks, Caught, Restarts, Lost, Flow}
+use Rattle.hal_meaning.specs.Runs.{first_kept, here_in, process_body, places_of_process, course_of, asked, asked_mode, next, block_mode}
+use Rattle.hal_states.specs.Telling.{is_update}
 use Rattle.hal_meaning.specs.SetLoad.{load_of}
+use Rattle.hal_states.proofs.Telling.{few_made, is_same, writes_at, made_at, update_of, some_at}
 use Rattle.hal_meaning.proofs.Going.{weight, IsRight, Turned, Goes, Fine}
 use Rattle.hal_meaning.proofs.Tasking.{Goes-process}
 use Rattle.hal_meaning.proofs.Asking.{IsAsked, process_asks}
@@ -97,60 +100,6 @@ module _ (s : Set) (keeps : Keeps s) (p : ℕ) (exists : p < process_count s.tab
       nothing_written : IsRight s.tables asking
       nothing_written = All-nil (IsWritten s.tables)
   right_at places answers (Some b) = right_of s (weight s.turns answers) answered.Killed (course_of s p places b answers) _ (courses_of places b answered.Killed answers)
-
-few_made : (all left : ℕ) → all ≤ turn_limit → all - left ≤ turn_limit
-few_made all left few = omega arith
-
--- an option that is Some
-abbrev IsSame : {A : Type 0} → Option A → A → Type 0
-IsSame None v = ⊥
-IsSame (Some w) v = w ≡ v
-
-is_same : {A : Type 0} (o : Option A) (v : A) → o ≡ Some v → IsSame o v
-is_same o v e = subst (λ one. IsSame one v) (sym e) refl
-
-written_in : (b : Bool) (m : Mode) (writes : List (ℕ × Value)) → IsSame (if b then Some m.writes else None) writes → m.writes ≡ writes
-written_in true m writes is = is
-written_in false m writes is = absurd is
-
-writes_at : (update b : Bool) (m : Mode) (writes : List (ℕ × Value)) → IsSame (if update then (if b then Some m.writes else None) else None) writes → m.writes ≡ writes
-writes_at true b m writes is = written_in b m writes is
-writes_at false b m writes is = absurd is
-
-made_in : (made turns : ℕ) (b : Bool) (m : Mode) (writes : List (ℕ × Value)) → (made == turns) ≡ b → IsSame (if b then Some m.writes else None) writes → made ≡ turns
-made_in made turns true m writes e is = eqb-true made turns e
-made_in made turns false m writes e is = absurd is
-
-made_at : (update : Bool) (made turns : ℕ) (m : Mode) (writes : List (ℕ × Value)) → IsSame (if update then (if made == turns then Some m.writes else None) else None) writes → made ≡ turns
-made_at true made turns m writes is = made_in made turns (made == turns) m writes refl is
-made_at false made turns m writes is = absurd is
-
-update_of : (r : Request) → IsUpdate r → is_update r ≡ true
-update_of (request.Update groups) is = refl
-update_of request.Begin is = absurd is
-update_of (request.Read at) is = absurd is
-update_of (request.Write c v) is = absurd is
-update_of request.Pass is = absurd is
-update_of (request.Schedule plan) is = absurd is
-update_of (request.Cancel q) is = absurd is
-update_of (request.Terminate q) is = absurd is
-update_of (request.Wait pause) is = absurd is
-update_of (request.Signal e) is = absurd is
-update_of (request.Set e) is = absurd is
-update_of (request.Reset e) is = absurd is
-update_of (request.Priority q n) is = absurd is
-update_of (request.Print channel line) is = absurd is
-update_of (request.Input channel kind) is = absurd is
-update_of request.Now is = absurd is
-update_of (request.Stop e) is = absurd is
-update_of request.Finish is = absurd is
-update_of (request.Look c) is = absurd is
-update_of (request.Close n) is = absurd is
-
-some_at : (update b : Bool) (m : Mode) → update ≡ true → b ≡ true → IsSome (if update then (if b then Some m.writes else None) else None)
-some_at true true m is made = refl
-some_at true false m is made = absurd (cc)
-some_at false b m is made = absurd (cc)
 
 -- a set is a load
 pub set_is_load : (s : Set) → Keeps s → IsLoad (load_of s)

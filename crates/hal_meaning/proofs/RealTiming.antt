@@ -1,16 +1,12 @@
 -- What is said of real-time statements.
-use Rattle.std.specs.Prelude.{ℕ, suc, ◌+◌, ◌≤◌, ◌<◌, ◌≡◌, ◌==◌, nat_lt, length, List, [], ◌∷◌, ℤ, pos, negsuc, ◌≤ℤ◌, ◌*ℤ◌, int_lt, unsigned_abs, slice_get, Bool, true, false, Option, Some, None, if◌then◌else◌}
-use Rattle.std.specs.Bool.{passes}
-use Rattle.std.specs.Int.Signed.{lt_z_no}
+use Rattle.std.specs.Prelude.{ℕ, suc, ◌+◌, ◌≤◌, ◌<◌, ◌≡◌, ◌==◌, nat_lt, length, List, [], ◌∷◌, ℤ, pos, ◌*ℤ◌, slice_get, Bool, true, false, Option, Some, None, if◌then◌else◌}
 use Rattle.std.proofs.Common.{refl, arith}
-use Rattle.std.proofs.lemmas.Bool.{ltb-true, not_from_false}
-use Rattle.std.proofs.Math.Facts.{leb_yes}
+use Rattle.std.proofs.lemmas.Bool.{ltb-true}
 use Rattle.hal_grammar.specs.Leaves.{Naming}
 use Rattle.hal_grammar.specs.Expressions.{Expression, Or, And, Compare, Cat, Sum, Product, Power, Not, Literal, Decimal, Referred, Called, Convert, Parenthesis}
 use Rattle.hal_grammar.specs.Statements.{Guard, While, Until, Start, StartAt, StartIn, StartOn, Cycle, Cyclic, CyclicEvery, CyclicAfter, Schedule, Eventful, EventAction, Signal, Set, Reset}
 use Rattle.hal_scope.specs.Uses.{holds_event}
 use Rattle.hal_values.specs.declared.plan.Cycle as cycles
-use Rattle.hal_values.specs.declared.plan.Cycle.TheVariants as cycle
 use Rattle.hal_values.specs.declared.plan.Guard as guards
 use Rattle.hal_values.specs.declared.plan.Guard.TheVariants as guard
 use Rattle.hal_values.specs.declared.request.Request.{Request}
@@ -18,14 +14,17 @@ use Rattle.hal_values.specs.declared.request.Request.TheVariants as request
 use Rattle.hal_values.specs.declared.tables.Tables.{Tables}
 use Rattle.hal_values.specs.Answers.{Answered, error}
 use Rattle.hal_values.specs.Answers as answered
-use Rattle.hal_values.specs.Requests.{IsTime, HasExpression, HasProcess, IsInOrder, IsWhenInOrder, IsCycleInOrder, IsGuardInOrder, time_limit}
+use Rattle.hal_values.specs.Requests.{IsTime, HasExpression, HasProcess, IsInOrder, IsWhenInOrder, IsCycleInOrder, IsGuardInOrder}
 use Rattle.hal_values.specs.Tables.{process_count}
+use Rattle.hal_states.specs.Numbers.{integer_of}
+use Rattle.hal_states.specs.Times.{milliseconds, Again, nearest_priority, is_priority, plan_of, is_again, cycle_of}
 use Rattle.hal_meaning.specs.Events.{Stated, event_named}
 use Rattle.hal_meaning.specs.States.{State, Evaluated, Gives, bind}
 use Rattle.hal_meaning.specs.Access.{Here}
-use Rattle.hal_meaning.specs.Expressions.{expression, integer_of}
-use Rattle.hal_meaning.specs.RealTime.{limited, milliseconds, time, stated_from, stated_at_mark, on_first, by_last, process_named, process_or_own, start, priority, Again, Never, AtOnce, Every, After, again, limit as guarded, nearest_priority, is_priority, checked_priority, checked_again, answered_by, request_tried, plan_of, scheduled, each_named, named_or_own, priority_changed, change_of, eventful}
+use Rattle.hal_meaning.specs.Expressions.{expression}
+use Rattle.hal_meaning.specs.RealTime.{time, stated_from, stated_at_mark, on_first, by_last, process_named, process_or_own, start, priority, again, limit as guarded, checked_priority, checked_again, answered_by, request_tried, scheduled, each_named, named_or_own, priority_changed, change_of, eventful}
 use Rattle.hal_meaning.specs.Tasks.{Meaning}
+use Rattle.hal_states.proofs.Timing.{limited_is, IsAgain, cycle_is}
 use Rattle.hal_meaning.proofs.Going.{pushed, Goes, Fine, Answers, Goes-bind}
 use Rattle.hal_meaning.proofs.Accessing.{after_answer, Goes-ask, Goes-if, Goes-raise, Goes-event, IsChange, signals, sets, resets}
 use Rattle.hal_meaning.proofs.Able.{Ready, Runs, Fit, seq}
@@ -46,21 +45,6 @@ pub got_of : {A B : Type 0} (h : Here) (limit : ℕ) (a : Answered) (Is : B → 
     → Gets h limit a Is (bind done (λ v after. Gives (f v) after)) (bind other (λ v after. Gives (f v) after))
 got_of {B = B} h limit a Is done other f each is =
     Goes-bind h.set.tables h.set.turns limit a (Fine h.set.tables h.set.turns limit) (λ (v : B) (st : State). Is v × Fit h limit st) done other _ _ is (λ v st fit. ((each v, fit), refl))
-
-no_less : (t low : ℤ) → int_lt t low ≡ false → low ≤ℤ t
-no_less t low e = lt_z_no (passes _ (not_from_false (int_lt t low) e))
-
-high_time : (t : ℤ) (b : Bool) → int_lt (pos 2147483648000) t ≡ b → negsuc 2147483647999 ≤ℤ t → IsTime (if b then pos 2147483648000 else t)
-high_time t true e low = (omega arith, omega arith)
-high_time t false e low = (low, no_less (pos 2147483648000) t e)
-
-limited_time : (t : ℤ) (b : Bool) → int_lt t (negsuc 2147483647999) ≡ b → IsTime (if b then negsuc 2147483647999 else (if int_lt (pos 2147483648000) t then pos 2147483648000 else t))
-limited_time t true e = (omega arith, omega arith)
-limited_time t false e = high_time t (int_lt (pos 2147483648000) t) refl (no_less t (negsuc 2147483647999) e)
-
--- a time is within the limit
-limited_is : (t : ℤ) → IsTime (limited t)
-limited_is t = limited_time t (int_lt t (negsuc 2147483647999)) refl
 
 module _ (h : Here) (limit n : ℕ) (a : Answered) (rec after : Meaning) (ready : Ready h limit n a rec after) where
   seconds : (tree : Expression) (st : State) → Fit h limit st
@@ -129,27 +113,6 @@ pub or_own_exists : (h : Here) (name : Option Naming) → h.process < process_co
 or_own_exists h None own = own
 or_own_exists h (Some name) own = named_exists h name own
 
--- the time of a cycle that is written is within the limit
-abbrev IsAgain : Again → Type 0
-IsAgain Never = Unit {0}
-IsAgain AtOnce = Unit {0}
-IsAgain (Every t) = IsTime t
-IsAgain (After t) = IsTime t
-
-negative_within : (m : ℕ) → negsuc 2147483647999 ≤ℤ negsuc m → suc m ≤ 2147483648000
-negative_within m is = omega (arith, leb_yes {a = m} {b = 2147483647999} is.le)
-
-positive_within : (m : ℕ) → pos m ≤ℤ pos 2147483648000 → m ≤ 2147483648000
-positive_within m is = leb_yes {a = m} {b = 2147483648000} is.le
-
-size_within : (t : ℤ) → IsTime t → unsigned_abs t ≤ time_limit
-size_within (pos m) is = positive_within m is.1
-size_within (negsuc m) is = negative_within m is.0
-
-after_within : (t : ℤ) (b : Bool) → IsTime t → unsigned_abs (if b then pos 0 else t) ≤ time_limit
-after_within t true is = omega arith
-after_within t false is = size_within t is
-
 pub Runs-answered : (h : Here) (limit : ℕ) (a : Answered) (answer : Answered) (st : State) → Fit h limit st → Runs h limit a (answered_by h answer st) (answered_by h answer (pushed a st))
 Runs-answered h limit a (answered.Wrong e) st fit = Goes-raise h h.set.turns limit a e st fit
 Runs-answered h limit a answered.Begun st fit = (fit, refl)
@@ -171,12 +134,9 @@ Runs-priority h limit a p st fit =
     (λ is. Runs-mapped h limit a _ _ (λ ignored. nearest_priority p) (Goes-raise h h.set.turns limit a (error 2 4) st fit))
 
 Gets-again : (h : Here) (limit : ℕ) (a : Answered) (one : Again) (st : State) → IsAgain one → Fit h limit st → Gets h limit a IsCycleInOrder (checked_again h one st) (checked_again h one (pushed a st))
-Gets-again h limit a Never st is fit = ((tt, fit), refl)
-Gets-again h limit a AtOnce st is fit = ((tt, fit), refl)
-Gets-again h limit a (Every t) st is fit =
-    Goes-if h.set.tables h.set.turns limit a (λ (v : cycles.Cycle) (later : State). IsCycleInOrder v × Fit h limit later) (int_lt (pos 0) t) _ _ _ _ (λ above. ((size_within t is, fit), refl))
-    (λ below. got_of h limit a IsCycleInOrder _ _ (λ ignored. cycle.Every 1) (λ ignored. omega arith) (Goes-raise h h.set.turns limit a (error 2 5) st fit))
-Gets-again h limit a (After t) st is fit = ((after_within t (int_lt t (pos 0)) is, fit), refl)
+Gets-again h limit a one st is fit =
+    Goes-if h.set.tables h.set.turns limit a (λ (v : cycles.Cycle) (later : State). IsCycleInOrder v × Fit h limit later) (is_again one) _ _ _ _ (λ right. ((cycle_is one is, fit), refl))
+    (λ wrong. got_of h limit a IsCycleInOrder _ _ (λ ignored. cycle_of one) (λ ignored. cycle_is one is) (Goes-raise h h.set.turns limit a (error 2 5) st fit))
 
 -- the request changes one process alone, and isn't Finish
 record IsAsked (tables : Tables) (asks : ℕ → Request) : Type 0 where

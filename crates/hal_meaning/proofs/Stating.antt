@@ -18,13 +18,17 @@ use Rattle.hal_values.specs.Answers.{Answered, error}
 use Rattle.hal_values.specs.Answers as answered
 use Rattle.hal_values.specs.Loads.{IsWritten}
 use Rattle.hal_values.specs.Requests.{IsTime}
+use Rattle.hal_states.specs.Spots.{Spot, held_in}
+use Rattle.hal_states.specs.Modes.{turns_given}
+use Rattle.hal_states.specs.Lines.{line_of}
+use Rattle.hal_states.specs.Numbers.{integer_of, holds, is_past}
 use Rattle.hal_meaning.specs.Marks.{after_statement, after_alternative}
 use Rattle.hal_meaning.specs.Variables.{Meant, MeantData, MeantConstant, MeantEvent, MeantBlock, MeantBuiltin, MeantNothing, name_meant}
-use Rattle.hal_meaning.specs.States.{Spot, State, Evaluated, Gives, Asks, Caught, Restarts, Lost, bind, Flow, Normal, Leaves, Repeats, Returned}
-use Rattle.hal_meaning.specs.Access.{Here, within, updating, raise, turn, held_in, put}
-use Rattle.hal_meaning.specs.Expressions.{inputs_at, Located, integer_of, holds}
+use Rattle.hal_meaning.specs.States.{State, Evaluated, Gives, Asks, Caught, Restarts, Lost, bind, Flow, Normal, Leaves, Repeats, Returned}
+use Rattle.hal_meaning.specs.Access.{Here, within, updating, raise, turn, put}
+use Rattle.hal_meaning.specs.Expressions.{inputs_at, Located}
 use Rattle.hal_meaning.specs.RealTime.{stated_at_mark}
-use Rattle.hal_meaning.specs.Statements.{goes_on, replaced, components_in, component_received, received_by, is_array_named, received, all_received, kind_meant, kind_named, datum_of, datum_received, all_read, line_of, line_fitting, channel_of, written, spots, called, group_left, After, NextTurn, Ended, after_turn, goes_round, turn_made, turn_if, guard_holds, first_holds, span_holds, kept_at, variable_spot, variable_stored, variable_read, is_past, group_here, end_place, update_left, resumed, settled, turns_given, update_groups, entered_update, returned, step_of, begun_stepping, span_begins, next_stored, next_stepping, looping, listed, waited, is_one, goes_behind, one_of, spanned, statement, basic_statement, otherwise, without_case, case_of, selected, grouped, statements}
+use Rattle.hal_meaning.specs.Statements.{goes_on, replaced, components_in, component_received, received_by, is_array_named, received, all_received, kind_meant, kind_named, datum_of, datum_received, all_read, line_fitting, channel_of, written, spots, called, group_left, After, NextTurn, Ended, after_turn, goes_round, turn_made, turn_if, guard_holds, first_holds, span_holds, kept_at, variable_spot, variable_stored, variable_read, group_here, end_place, update_left, resumed, settled, update_groups, entered_update, returned, step_of, begun_stepping, span_begins, next_stored, next_stepping, looping, listed, waited, is_one, goes_behind, one_of, spanned, statement, basic_statement, otherwise, without_case, case_of, selected, grouped, statements}
 use Rattle.hal_meaning.specs.Tasks.{Looping, Meaning, Tested, Stepping, Listing, Resuming}
 use Rattle.hal_meaning.proofs.Going.{weight, turns_in, spare, pushed, Turned-through, Fine, Answers, Goes-bind, Goes-weaker}
 use Rattle.hal_meaning.proofs.Accessing.{after_answer, Begins, Goes-ask, Goes-request, Goes-if, Goes-raise, Goes-turn, Goes-read, Goes-put, Goes-store}

@@ -11,8 +11,10 @@ use Rattle.hal_values.specs.Answers.{Answered, error}
 use Rattle.hal_values.specs.Answers as answered
 use Rattle.hal_values.specs.Loads.{IsWritten}
 use Rattle.hal_values.specs.Tables.{process_count}
+use Rattle.hal_states.specs.Spots.{Kept}
+use Rattle.hal_states.specs.Modes.{Mode, asking}
 use Rattle.hal_meaning.specs.Marks.{Handling, handling_in}
-use Rattle.hal_meaning.specs.States.{Kept, Mode, asking, State, state, Evaluated, Gives, Asks, Caught, Restarts, Lost, bind, Flow, Normal, Leaves, Repeats, Returned}
+use Rattle.hal_meaning.specs.States.{State, state, Evaluated, Gives, Asks, Caught, Restarts, Lost, bind, Flow, Normal, Leaves, Repeats, Returned}
 use Rattle.hal_meaning.specs.Access.{Here, request_made}
 use Rattle.hal_meaning.specs.Statements.{statements, grouped}
 use Rattle.hal_meaning.specs.Tasks.{Task, Meaning, Tested, Stepping, Listing, Entering, Resuming, Cycling}

@@ -1,5 +1,5 @@
 -- What phrases do besides their parts: they ask, raise errors, begin turns, and read and write cells and places.
-use Rattle.std.specs.Prelude.{ℕ, zero, suc, ◌+◌, ◌/◌, ◌%◌, ◌^◌, ◌==◌, nat_lt, Bool, true, false, List, [], ◌∷◌, ◌++◌, pos, Option, Some, None, slice_get, slice_set, unwrap_or, Result, Ok, Err, if◌then◌else◌}
+use Rattle.std.specs.Prelude.{ℕ, zero, suc, nat_lt, Bool, true, false, List, [], ◌∷◌, pos, Option, Some, None, slice_get, slice_set, Result, Ok, Err, if◌then◌else◌}
 use Rattle.hal_grammar.specs.Statements.{Statements}
 use Rattle.hal_values.specs.declared.environment.Entry.{Entry}
 use Rattle.hal_values.specs.declared.environment.ErrNo.{ErrNo}
@@ -13,14 +13,15 @@ use Rattle.hal_values.specs.declared.value.Kind.{Kind}
 use Rattle.hal_values.specs.declared.value.Value.{Value}
 use Rattle.hal_values.specs.declared.value.Value.TheVariants as value
 use Rattle.hal_values.specs.Answers.{Answered, error}
-use Rattle.hal_values.specs.Answers as answered
 use Rattle.hal_values.specs.Searching.{Entered, entered, Found, BySystem, Ignored, ByStatement, search}
 use Rattle.hal_values.specs.Tables.{event_count}
 use Rattle.hal_operations.specs.Stores.{stored, mended_store}
-use Rattle.hal_meaning.specs.InitialValues.{nothing, of_kind}
+use Rattle.hal_states.specs.Spots.{Spot, Shared, Own, Nowhere, Holds, kept, held_in, further}
+use Rattle.hal_states.specs.OfKinds.{nothing, of_kind, told}
+use Rattle.hal_states.specs.Modes.{mode, are_spent, seen_cell, noted}
 use Rattle.hal_meaning.specs.Places.{Place}
 use Rattle.hal_meaning.specs.Sets.{Set}
-use Rattle.hal_meaning.specs.States.{Spot, Shared, Own, Nowhere, Held, Holds, kept, Mode, mode, State, with_kept, with_mode, with_places, Evaluated, Gives, Caught, bind, asks, stops}
+use Rattle.hal_meaning.specs.States.{State, with_kept, with_mode, with_places, Evaluated, Gives, Caught, bind, asks, stops}
 
 -- where a phrase stands: the set; the number of the process and its own places; the unit and the block in which names are looked up; the marks of
 -- the unit; the statements of the latest entered block, whether it is an UPDATE block, and the number of its first mark; and the blocks entered before it
@@ -69,11 +70,6 @@ sided h None (side.Signal e) st = event_changed h request.Signal e st
 sided h None (side.Set e) st = event_changed h request.Set e st
 sided h None (side.Reset e) st = event_changed h request.Reset e st
 
--- whether an UPDATE block is entered whose turns are used up
-abbrev pub are_spent : Option ℕ → ℕ → Bool
-are_spent (Some groups) zero = true
-are_spent groups turns = false
-
 -- what an error comes to that meets this action
 abbrev pub meets : Here → ErrNo → Found → State → Evaluated (Unit {0})
 meets h e (BySystem s) st = bind (sided h st.mode.groups s st) (λ done after. stops e after)
@@ -99,19 +95,6 @@ turned h st (Some groups) zero = bind (raise h (error 1 8) st) (λ ignored after
 abbrev pub turn : Here → State → Evaluated Bool
 turn h st = turned h st st.mode.groups st.mode.turns
 
--- whether a group is one of these
-abbrev pub has_bit : ℕ → ℕ → Bool
-has_bit groups group = ((groups / 2 ^ group) % 2) == 1
-
--- the value that an answer tells
-abbrev pub told : Kind → Answered → Value
-told k (answered.Told v) = of_kind k v
-told k other = nothing k
-
--- what a cell holds as an UPDATE block of these groups sees it
-abbrev pub seen_cell : ℕ → Cell → Option Value → Value
-seen_cell groups cell v = if has_bit groups cell.group then of_kind cell.kind (unwrap_or v (nothing cell.kind)) else nothing cell.kind
-
 abbrev pub read_in : ℕ → Cell → Option ℕ → State → Evaluated Value
 read_in c cell None st = asks (request.Read (spot.Cell c)) st (λ answer after. Gives (told cell.kind answer) after)
 read_in c cell (Some groups) st = Gives (seen_cell groups cell (slice_get st.mode.store c)) st
@@ -120,20 +103,11 @@ read_in c cell (Some groups) st = Gives (seen_cell groups cell (slice_get st.mod
 abbrev pub read_cell : Here → ℕ → State → Evaluated Value
 read_cell h c st = elim (slice_get h.set.tables.cells c) [ None ↦ Gives (value.Int (pos 0)) st | Some cell ↦ read_in c cell st.mode.groups st ]
 
--- what an own place holds
-abbrev pub held_in : Option Held → Value
-held_in (Some (Holds v)) = v
-held_in other = value.Int (pos 0)
-
 -- the value at a spot
 abbrev pub read : Here → Kind → Spot → State → Evaluated Value
 read h k (Shared c) st = read_cell h c st
 read h k (Own n) st = Gives (held_in (slice_get st.kept.places n)) st
 read h k Nowhere st = Gives (nothing k) st
-
--- an UPDATE block writes a cell of its groups
-abbrev pub noted : ℕ → ℕ → Cell → Value → Mode → Mode
-noted groups c cell v m = if has_bit groups cell.group then mode m.groups (slice_set m.store c v) (m.writes ++ ((c, v) ∷ [])) m.turns else m
 
 abbrev pub write_in : ℕ → Cell → Value → Option ℕ → State → Evaluated (Unit {0})
 write_in c cell v None st = request_made (request.Write c v) st
@@ -153,14 +127,8 @@ put h Nowhere v st = Gives tt st
 abbrev pub store : Here → Kind → Spot → Value → State → Evaluated (Unit {0})
 store h k at v st = bind (tested h (stored k v) (mended_store k v) st) (λ fitting after. put h at fitting after)
 
--- the spot so many elements further on
-abbrev pub further : ℕ → Spot → Spot
-further n (Shared c) = Shared (c + n)
-further n (Own k) = Own (k + n)
-further n Nowhere = Nowhere
-
--- so many elements are copied in order
-abbrev pub copy : Here → ℕ → Kind → Spot → Spot → State → Evaluated (Unit {0})
-copy h zero k from to st = Gives tt st
-copy h (suc n) k from to st =
-    bind (read h k from st) (λ v after. bind (put h to v after) (λ done later. copy h n k (further 1 from) (further 1 to) later))
+-- elements of these kinds are copied in order
+abbrev pub copy : Here → List Kind → Spot → Spot → State → Evaluated (Unit {0})
+copy h [] from to st = Gives tt st
+copy h (k ∷ ks) from to st =
+    bind (read h k from st) (λ v after. bind (put h to v after) (λ done later. copy h ks (further 1 from) (further 1 to) later))

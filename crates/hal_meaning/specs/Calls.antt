@@ -3,7 +3,7 @@ use Rattle.std.specs.Prelude.{ℕ, zero, suc, ◌==◌, Bool, true, false, ◌&&
 use Rattle.std.specs.Option.{option_and_then}
 use Rattle.hal_grammar.specs.Leaves.{Naming}
 use Rattle.hal_grammar.specs.Declarations as declarations
-use Rattle.hal_grammar.specs.Declarations.{IntegerKind, BooleanKind, EventKind, BitKind, CharacterKind, StructureKind}
+use Rattle.hal_grammar.specs.Declarations.{BooleanKind, BitKind, CharacterKind}
 use Rattle.hal_grammar.specs.Units.{Head, Procedure, Function, Returns, NoKind, HasKind}
 use Rattle.hal_phrases.specs.Phrases.{Node, Phrase, OfItem}
 use Rattle.hal_names.specs.declared.key.Space.TheVariants as space
@@ -13,12 +13,13 @@ use Rattle.hal_operations.specs.Mended.{mended_of_one}
 use Rattle.hal_values.specs.declared.environment.Entry.{Entry}
 use Rattle.hal_values.specs.declared.value.Value.{Value}
 use Rattle.hal_values.specs.declared.value.Value.TheVariants as value
-use Rattle.hal_meaning.specs.Elements.{Shape, shape_of, element_count}
+use Rattle.hal_states.specs.Spots.{Spot, Own, Held, Holds, Refers}
+use Rattle.hal_meaning.specs.Elements.{Shape, shape_of, kinds_of}
 use Rattle.hal_meaning.specs.Bodies.{Body}
 use Rattle.hal_meaning.specs.Places.{Place}
 use Rattle.hal_meaning.specs.ReportNames.{first_place}
 use Rattle.hal_meaning.specs.Sets.{Set, body_at}
-use Rattle.hal_meaning.specs.States.{Spot, Own, Held, Holds, Refers, State, with_places, with_entries, Evaluated, Gives, Asks, Caught, Restarts, Lost, bind, Flow, Normal, Returned}
+use Rattle.hal_meaning.specs.States.{State, with_places, with_entries, Evaluated, Gives, Asks, Caught, Restarts, Lost, bind, Flow, Normal, Returned}
 use Rattle.hal_meaning.specs.Access.{Here, all_entered, turn, store, copy}
 use Rattle.hal_meaning.specs.Variables.{kind_of_first}
 use Rattle.hal_meaning.specs.Tasks.{Meaning, Entering}
@@ -68,7 +69,7 @@ bound h unit names spots places = places
 -- an argument is stored in its parameter
 abbrev pub stored_parameter : Here → Parameter → Passed → State → Evaluated (Unit {0})
 stored_parameter h p (Plain v) st = store h (kind_of_first p.shape.components) (Own (first_place h.places p.number)) v st
-stored_parameter h p (Whole from) st = copy h (element_count p.shape) (kind_of_first p.shape.components) from (Own (first_place h.places p.number)) st
+stored_parameter h p (Whole from) st = copy h (kinds_of p.shape) from (Own (first_place h.places p.number)) st
 
 -- arguments are stored from the last to the first
 abbrev pub stored_parameters : Here → ℕ → List Naming → List Passed → State → Evaluated (Unit {0})

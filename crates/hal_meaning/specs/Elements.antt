@@ -40,10 +40,6 @@ count c = product c.sizes
 abbrev pub copy_size : List Component → ℕ
 copy_size components = sum_by count components
 
--- how many elements data have
-abbrev pub element_count : Shape → ℕ
-element_count shape = unwrap_or shape.copies 1 * copy_size shape.components
-
 -- lists one after another, so many times
 abbrev pub times : {X : Type 0} → ℕ → List X → List X
 times zero xs = []

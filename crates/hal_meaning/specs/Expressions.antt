@@ -25,10 +25,13 @@ use Rattle.hal_values.specs.declared.value.Value.{Value}
 use Rattle.hal_values.specs.declared.value.Value.TheVariants as value
 use Rattle.hal_values.specs.Answers.{error}
 use Rattle.hal_values.specs.Tables.{event_count}
+use Rattle.hal_states.specs.Spots.{Spot, Nowhere, Held, further}
+use Rattle.hal_states.specs.OfKinds.{told}
+use Rattle.hal_states.specs.Numbers.{integer_of, holds, one_bit}
 use Rattle.hal_meaning.specs.Elements.{Shape, copy_size, chosen, offset}
 use Rattle.hal_meaning.specs.Sets.{Set, body_at}
-use Rattle.hal_meaning.specs.States.{Spot, Nowhere, Held, State, Evaluated, Gives, bind}
-use Rattle.hal_meaning.specs.Access.{Here, ask, raise, tested, read, told, further}
+use Rattle.hal_meaning.specs.States.{State, Evaluated, Gives, bind}
+use Rattle.hal_meaning.specs.Access.{Here, ask, raise, tested, read}
 use Rattle.hal_meaning.specs.Variables.{Meant, MeantData, MeantConstant, MeantEvent, MeantBlock, MeantBuiltin, MeantNothing, name_meant, Index, Single, Several, Dimension, dimension, dimensions_of, all_inside, elements_before, sizes_of_first, kind_of_first, is_arrayed, is_whole}
 use Rattle.hal_meaning.specs.Calls.{Passed, Plain, Whole, parameter_named, inputs_of, call}
 use Rattle.hal_meaning.specs.Tasks.{Meaning}
@@ -62,21 +65,6 @@ literal_value True = value.Bits 1 1
 literal_value On = value.Bits 1 1
 literal_value False = value.Bits 1 0
 literal_value Off = value.Bits 1 0
-
--- the integer that a value is
-abbrev pub integer_of : Value → ℤ
-integer_of (value.Int a) = a
-integer_of v = pos 0
-
--- whether a value holds as a condition: bits that aren't all zeros
-abbrev pub holds : Value → Bool
-holds (value.Bits len word) = nat_lt 0 word
-holds v = false
-
--- the same as one bit
-abbrev pub one_bit : Bool → Value
-one_bit true = value.Bits 1 1
-one_bit false = value.Bits 1 0
 
 abbrev mutual
   -- whether an expression is a condition: a comparison, or what is made of some

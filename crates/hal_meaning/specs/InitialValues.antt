@@ -1,10 +1,9 @@
 -- What elements hold at first.
-use Rattle.std.specs.Prelude.{◌^◌, ◌==◌, nat_le, nat_lt, length, Bool, false, not, ◌&&◌, ◌++◌, map, List, [], ◌∷◌, ℤ, pos, negsuc, int_lt, Option, Some, None, replicate, if◌then◌else◌}
+use Rattle.std.specs.Prelude.{◌++◌, map, List, [], ◌∷◌, pos, Option, Some, None, replicate}
 use Rattle.hal_grammar.specs.Declarations.{Initial, Value, LiteralTimes, NameTimes, ListTimes, Initials, NoInitials, MoreInitials, Attribute}
 use Rattle.hal_phrases.specs.Phrases.{Phrase}
 use Rattle.hal_kinds.specs.Attributes.{initial_among, constant_among}
 use Rattle.hal_values.specs.declared.value.Kind.{Kind}
-use Rattle.hal_values.specs.declared.value.Kind.TheVariants as kind
 use Rattle.hal_values.specs.declared.value.Value as values
 use Rattle.hal_values.specs.declared.value.Value.TheVariants as value
 use Rattle.hal_operations.specs.Stores.{mended_store}
@@ -13,30 +12,8 @@ use Rattle.hal_constants.specs.declared.constant.Constant.{Constant}
 use Rattle.hal_constants.specs.declared.constant.Constant.TheVariants as constant
 use Rattle.hal_constants.specs.Constants.{constant_of}
 use Rattle.hal_constants.specs.Known.{Known, signed_literal, signed_name}
+use Rattle.hal_states.specs.OfKinds.{nothing, of_kind}
 use Rattle.hal_meaning.specs.Elements.{times}
-
--- zero, zeros or the empty text
-abbrev pub nothing : Kind → values.Value
-nothing kind.Single = value.Int (pos 0)
-nothing kind.Double = value.Int (pos 0)
-nothing (kind.Bits n) = value.Bits n 0
-nothing (kind.Text n) = value.Text []
-
--- whether an integer lies within bounds
-abbrev pub lies_within : ℤ → ℤ → ℤ → Bool
-lies_within low high a = not (int_lt a low) && not (int_lt high a)
-
--- whether a value is of the kind
-unfoldable pub is_of : Kind → values.Value → Bool
-is_of kind.Single (value.Int a) = lies_within (negsuc 32767) (pos 32767) a
-is_of kind.Double (value.Int a) = lies_within (negsuc 2147483647) (pos 2147483647) a
-is_of (kind.Bits n) (value.Bits len word) = (len == n) && nat_lt word (2 ^ n)
-is_of (kind.Text n) (value.Text text) = nat_le (length text) n
-is_of k v = false
-
--- the value, where it is of the kind. No other comes where a set is accepted
-abbrev pub of_kind : Kind → values.Value → values.Value
-of_kind k v = if is_of k v then v else nothing k
 
 -- what a cell of the kind holds of a value
 abbrev pub held : Kind → values.Value → values.Value

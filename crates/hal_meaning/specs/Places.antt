@@ -18,8 +18,9 @@ use Rattle.hal_values.specs.declared.tables.Cell.{Cell}
 use Rattle.hal_values.specs.declared.value.Kind.{Kind}
 use Rattle.hal_values.specs.declared.value.Kind.TheVariants as kind
 use Rattle.hal_values.specs.declared.value.Value.{Value}
+use Rattle.hal_states.specs.OfKinds.{nothing}
 use Rattle.hal_meaning.specs.Elements.{kinds_of, shape_of}
-use Rattle.hal_meaning.specs.InitialValues.{nothing, first_values}
+use Rattle.hal_meaning.specs.InitialValues.{first_values}
 use Rattle.hal_meaning.specs.Bodies.{is_reentrant_head, processes_reaching, processes_of, is_unit}
 
 -- the lock group that an attribute gives

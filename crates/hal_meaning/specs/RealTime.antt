@@ -1,6 +1,5 @@
 -- What real-time statements ask for.
-use Rattle.std.specs.Prelude.{ℕ, suc, ◌==◌, nat_lt, Bool, true, false, List, [], ◌∷◌, ℤ, pos, negsuc, ◌*ℤ◌, int_lt, unsigned_abs, Option, Some, None, slice_get, if◌then◌else◌}
-use Rattle.std.specs.Int.{int_min, int_max}
+use Rattle.std.specs.Prelude.{ℕ, suc, ◌==◌, nat_lt, List, [], ◌∷◌, ℤ, pos, Option, Some, None, slice_get, if◌then◌else◌}
 use Rattle.hal_grammar.specs.Leaves.{Naming}
 use Rattle.hal_grammar.specs.Expressions.{Expression, Decimal}
 use Rattle.hal_grammar.specs.Statements.{Guard, While, Until, Start, StartAt, StartIn, StartOn, Cycle, Cyclic, CyclicEvery, CyclicAfter, Schedule, EventAction, Signal, Set, Reset, Eventful}
@@ -8,35 +7,22 @@ use Rattle.hal_scope.specs.Uses.{holds_event}
 use Rattle.hal_values.specs.declared.plan.When.{When}
 use Rattle.hal_values.specs.declared.plan.When.TheVariants as when
 use Rattle.hal_values.specs.declared.plan.Cycle as cycles
-use Rattle.hal_values.specs.declared.plan.Cycle.TheVariants as cycle
 use Rattle.hal_values.specs.declared.plan.Guard as guards
 use Rattle.hal_values.specs.declared.plan.Guard.TheVariants as guard
-use Rattle.hal_values.specs.declared.plan.Plan.{Plan}
 use Rattle.hal_values.specs.declared.environment.Side.{Side}
 use Rattle.hal_values.specs.declared.environment.Side.TheVariants as side
 use Rattle.hal_values.specs.declared.request.Request.{Request}
 use Rattle.hal_values.specs.declared.request.Request.TheVariants as request
-use Rattle.hal_values.specs.declared.value.Value.{Value}
 use Rattle.hal_values.specs.Answers.{Answered, error}
 use Rattle.hal_values.specs.Answers as answered
 use Rattle.hal_values.specs.Tables.{process_count}
+use Rattle.hal_states.specs.Numbers.{integer_of}
+use Rattle.hal_states.specs.Times.{milliseconds, thousandths, nearest_priority, is_priority, Again, Never, AtOnce, Every, After, plan_of, is_again, cycle_of}
 use Rattle.hal_meaning.specs.Events.{Stated, event_named}
 use Rattle.hal_meaning.specs.States.{State, Evaluated, Gives, bind}
 use Rattle.hal_meaning.specs.Access.{Here, ask, raise, event_changed}
-use Rattle.hal_meaning.specs.Expressions.{expression, integer_of}
+use Rattle.hal_meaning.specs.Expressions.{expression}
 use Rattle.hal_meaning.specs.Tasks.{Meaning}
-
--- a time within the limit
-abbrev pub limited : ℤ → ℤ
-limited t = if int_lt t (negsuc 2147483647999) then negsuc 2147483647999 else (if int_lt (pos 2147483648000) t then pos 2147483648000 else t)
-
--- the milliseconds of a number of seconds, which has 32 bits
-abbrev pub milliseconds : Value → ℤ
-milliseconds v = limited (integer_of v *ℤ pos 1000)
-
--- a decimal literal has thousandths
-abbrev pub thousandths : ℕ → ℤ
-thousandths n = limited (pos n)
 
 -- a time operand, in milliseconds
 abbrev pub time : Meaning → Here → Expression → State → Evaluated ℤ
@@ -85,11 +71,6 @@ abbrev pub priority : Meaning → Here → Option Expression → State → Evalu
 priority rec h None st = Gives (pos 50) st
 priority rec h (Some tree) st = bind (expression rec h tree st) (λ v after. Gives (integer_of v) after)
 
--- when a process runs again, as it is written
-pub data Again : Type 0 where
-  Never AtOnce : Again
-  Every After : (time : ℤ) → Again
-
 abbrev pub again : Meaning → Here → Option Cycle → State → Evaluated Again
 again rec h None st = Gives Never st
 again rec h (Some (Cyclic place)) st = Gives AtOnce st
@@ -104,24 +85,14 @@ limit rec h xs (Some (Until place tree)) st =
     if holds_event h.set.phrases h.block tree then Gives (by_last guard.Until xs) st
     else bind (time rec h tree st) (λ t after. Gives (guard.UntilTime t) after)
 
--- a priority lies in 0 to 255
-abbrev pub nearest_priority : ℤ → ℕ
-nearest_priority n = unsigned_abs (int_max (pos 0) (int_min n (pos 255)))
-
-abbrev pub is_priority : ℤ → Bool
-is_priority n = if int_lt n (pos 0) then false else (if int_lt (pos 255) n then false else true)
-
 abbrev pub checked_priority : Here → ℤ → State → Evaluated ℕ
 checked_priority h n st =
     if is_priority n then Gives (nearest_priority n) st else bind (raise h (error 2 4) st) (λ ignored after. Gives (nearest_priority n) after)
 
--- EVERY is above zero; a negative AFTER counts as 0
+-- EVERY is above zero
 abbrev pub checked_again : Here → Again → State → Evaluated cycles.Cycle
-checked_again h Never st = Gives cycle.Once st
-checked_again h AtOnce st = Gives cycle.Again st
-checked_again h (Every t) st =
-    if int_lt (pos 0) t then Gives (cycle.Every (unsigned_abs t)) st else bind (raise h (error 2 5) st) (λ ignored after. Gives (cycle.Every 1) after)
-checked_again h (After t) st = Gives (cycle.After (unsigned_abs (int_max (pos 0) t))) st
+checked_again h one st =
+    if is_again one then Gives (cycle_of one) st else bind (raise h (error 2 5) st) (λ ignored after. Gives (cycle_of one) after)
 
 -- an answer that is an error raises it
 abbrev pub answered_by : Here → Answered → State → Evaluated (Unit {0})
@@ -131,9 +102,6 @@ answered_by h other st = Gives tt st
 -- a request to which an error may be the answer
 abbrev pub request_tried : Here → Request → State → Evaluated (Unit {0})
 request_tried h r st = bind (ask r st) (λ answer after. answered_by h answer after)
-
-abbrev pub plan_of : ℕ → When → ℕ → Bool → cycles.Cycle → guards.Guard → Plan
-plan_of process starts prio dependent round until = record { process = process; when = starts; priority = prio; dependent = dependent; cycle = round; guard = until }
 
 -- SCHEDULE: its operands are evaluated in their order, then the priority is tested, then EVERY, and then it asks
 abbrev pub scheduled : Meaning → Here → ℕ → Schedule → State → Evaluated (Unit {0})

@@ -1,16 +1,19 @@
 -- What a process asks for next, after the answers that it got so far.
-use Rattle.std.specs.Prelude.{ℕ, zero, suc, ◌-◌, ◌==◌, Bool, true, false, List, [], ◌∷◌, ◌++◌, map, Option, Some, None, slice_get, if◌then◌else◌}
+use Rattle.std.specs.Prelude.{ℕ, zero, suc, Bool, true, false, List, [], ◌∷◌, ◌++◌, map, Option, Some, None, slice_get, if◌then◌else◌}
 use Rattle.hal_grammar.specs.Expressions.{NoExpressions, MoreExpressions}
 use Rattle.hal_values.specs.declared.request.Request.{Request}
 use Rattle.hal_values.specs.declared.request.Request.TheVariants as request
 use Rattle.hal_values.specs.declared.value.Value.{Value}
 use Rattle.hal_values.specs.Answers.{Answered, Ends, error}
 use Rattle.hal_values.specs.Answers as answered
+use Rattle.hal_states.specs.Spots.{Held, Holds, Refers, Nowhere, Kept, kept}
+use Rattle.hal_states.specs.Modes.{Mode, asking}
+use Rattle.hal_states.specs.Telling.{writes_asked}
 use Rattle.hal_meaning.specs.Bodies.{Body, processes_of}
 use Rattle.hal_meaning.specs.Marks.{Handling, handling_in}
 use Rattle.hal_meaning.specs.Places.{Place, places_of}
 use Rattle.hal_meaning.specs.Sets.{Set, body_at}
-use Rattle.hal_meaning.specs.States.{Held, Holds, Refers, Nowhere, Kept, kept, Mode, asking, State, state, Evaluated, Gives, Asks, Caught, Restarts, Lost, bind, Flow, Normal, Returned}
+use Rattle.hal_meaning.specs.States.{State, state, Evaluated, Gives, Asks, Caught, Restarts, Lost, bind, Flow, Normal, Returned}
 use Rattle.hal_meaning.specs.Access.{Here, raise, request_made}
 use Rattle.hal_meaning.specs.Calls.{is_function}
 use Rattle.hal_meaning.specs.Statements.{statement, statements, grouped, settled, turn_if, goes_behind, guard_holds, span_begins, listed, next_stepping}
@@ -137,18 +140,10 @@ asked_mode other = asking
 abbrev pub next : Set → ℕ → List Answered → Request
 next s p answers = asked (course s p answers)
 
-abbrev pub is_update : Request → Bool
-is_update (request.Update groups) = true
-is_update other = false
-
--- the writes of the UPDATE block that was entered last, where of so many turns it has made just these
-abbrev pub writes_in : ℕ → Mode → ℕ → Option (List (ℕ × Value))
-writes_in all m turns = if (all - m.turns) == turns then Some m.writes else None
-
 -- how the UPDATE block ends that a process asks for; no phrase looks at the number of turns that an answer tells
 abbrev pub block_mode : Set → ℕ → List Answered → List Value → Mode
 block_mode s p answers snapshot = asked_mode (course s p (answers ++ (answered.Block snapshot 0 ∷ [])))
 
 -- its writes, where it ends after just so many turns
 abbrev pub block : Set → ℕ → List Answered → Ends
-block s p answers snapshot turns = if is_update (next s p answers) then writes_in s.turns (block_mode s p answers snapshot) turns else None
+block s p answers snapshot turns = writes_asked s.turns (next s p answers) (block_mode s p answers snapshot) turns

@@ -1,31 +1,22 @@
 -- A set as a load.
-use Rattle.std.specs.Prelude.{ℕ, ◌==◌, ◌≤◌, ◌<◌, length, Bool, false, List, filter_map, Some, None, slice_get, if◌then◌else◌}
-use Rattle.hal_values.specs.declared.tables.ReportBase.{ReportBase}
-use Rattle.hal_values.specs.declared.tables.ReportBase.TheVariants as base
+use Rattle.std.specs.Prelude.{ℕ, ◌≤◌, ◌<◌, length, List}
 use Rattle.hal_values.specs.declared.value.Value.{Value}
 use Rattle.hal_values.specs.Answers.{Answered}
 use Rattle.hal_values.specs.Loads as loads
 use Rattle.hal_values.specs.Loads.{turn_limit}
-use Rattle.hal_values.specs.ReportElements.{Element, elements}
 use Rattle.hal_base.specs.declared.limits.TheConstants.{CELL_LIMIT, EVENT_LIMIT, PROCESS_LIMIT}
 use Rattle.hal_grammar.specs.Units.{File}
 use Rattle.hal_phrases.specs.GatheredUnits.{phrases_of}
 use Rattle.hal_constants.specs.Known.{known}
+use Rattle.hal_states.specs.Telling.{own_values}
 use Rattle.hal_meaning.specs.Bodies.{processes_of}
 use Rattle.hal_meaning.specs.Events.{declared_events}
 use Rattle.hal_meaning.specs.Sets.{Set, cells_of}
-use Rattle.hal_meaning.specs.Access.{held_in}
 use Rattle.hal_meaning.specs.Runs.{course, asked_kept, next, block}
-
--- the own elements of a process that the report shows
-abbrev pub is_own_of : ℕ → ReportBase → Bool
-is_own_of p (base.Own q) = p == q
-is_own_of p other = false
 
 -- the values of the own elements that the report names of a process give
 abbrev pub own : Set → ℕ → List Answered → List Value
-own s p answers =
-    filter_map (λ (e : Element). if is_own_of p e.base then Some (held_in (slice_get (asked_kept (course s p answers)).places e.number)) else None) (elements s.tables)
+own s p answers = own_values s.tables p (asked_kept (course s p answers)).places
 
 -- a set as a load
 abbrev pub load_of : Set → loads.Meaning

@@ -1,7 +1,7 @@
 -- What statements come to.
-use Rattle.std.specs.Prelude.{ℕ, zero, suc, ◌==◌, nat_lt, Bool, true, false, not, List, [], ◌∷◌, ◌++◌, length, take, ℤ, pos, negsuc, ◌+ℤ◌, ◌-ℤ◌, int_lt, bytes_eq, Option, Some, None, slice_get, slice_set, Ok, Err, if◌then◌else◌}
+use Rattle.std.specs.Prelude.{ℕ, zero, suc, ◌==◌, nat_lt, Bool, true, false, not, List, [], ◌∷◌, length, take, ℤ, pos, negsuc, ◌+ℤ◌, ◌-ℤ◌, bytes_eq, Option, Some, None, slice_get, slice_set, Ok, Err, if◌then◌else◌}
 use Rattle.std.specs.List.{list_any}
-use Rattle.std.specs.Fmt.{signed_decimal}
+use Rattle.hal_base.specs.declared.limits.TheConstants.{LINE_LIMIT}
 use Rattle.hal_grammar.specs.Leaves.{Naming}
 use Rattle.hal_grammar.specs.Expressions.{Expression, Expressions, NoExpressions, MoreExpressions, Reference, Refers, Subscript, ByName, ByInteger, ByParts, Subscripts, NoSubscripts, MoreSubscripts}
 use Rattle.hal_grammar.specs.Statements.{Guard, While, Until, Span, Stepped, Listed, Selector, EveryError, GroupErrors, OneError, Response, System, Ignore, Statement, Labelled, Basic, Null, Assignment, If, Do, DoCase, DoLoop, DoFor, Exit, Repeat, Return, Call, Read, Write, Update, Scheduled, Cancel, Terminate, Wait, WaitUntil, WaitForDependent, WaitFor, Event, UpdatePriority, OnErrorStatement, OnErrorResponse, OffError, SendError, Alternative, NoAlternative, Otherwise, Group, Groups, Statements, NoStatements, MoreStatements}
@@ -9,7 +9,6 @@ use Rattle.hal_operations.specs.declared.part.Part.{Part}
 use Rattle.hal_operations.specs.declared.part.Part.TheVariants as part
 use Rattle.hal_operations.specs.Parts.{patched, mended_patch, place_count}
 use Rattle.hal_constants.specs.Constants.{is_none}
-use Rattle.hal_values.specs.BitTexts.{bits_text}
 use Rattle.hal_values.specs.declared.environment.Act.{Act}
 use Rattle.hal_values.specs.declared.environment.Act.TheVariants as act
 use Rattle.hal_values.specs.declared.environment.Entry.{Entry}
@@ -25,16 +24,20 @@ use Rattle.hal_values.specs.declared.value.Value.TheVariants as value
 use Rattle.hal_values.specs.Answers.{Answered, error}
 use Rattle.hal_values.specs.Answers as answered
 use Rattle.hal_values.specs.Searching.{with_entry, without}
+use Rattle.hal_states.specs.Spots.{Spot, Nowhere, Held, Holds, Refers, held_in}
+use Rattle.hal_states.specs.Modes.{closed, opened}
+use Rattle.hal_states.specs.Lines.{line_of}
+use Rattle.hal_states.specs.Numbers.{integer_of, holds, is_past}
 use Rattle.hal_meaning.specs.Elements.{chosen}
 use Rattle.hal_meaning.specs.LockGroups.{groups_of}
 use Rattle.hal_meaning.specs.Marks.{after_statement, after_alternative}
 use Rattle.hal_meaning.specs.ReportNames.{first_place}
 use Rattle.hal_meaning.specs.Sets.{body_at}
-use Rattle.hal_meaning.specs.States.{Spot, Nowhere, Held, Holds, Refers, Mode, mode, State, with_entries, with_mode, with_places, Evaluated, Gives, Asks, Caught, Restarts, Lost, bind, Flow, Normal, Leaves, Repeats, Returned}
-use Rattle.hal_meaning.specs.Access.{Here, within, updating, ask, request_made, raise, turn, held_in, read, put, store}
+use Rattle.hal_meaning.specs.States.{State, with_entries, with_mode, with_places, Evaluated, Gives, Asks, Caught, Restarts, Lost, bind, Flow, Normal, Leaves, Repeats, Returned}
+use Rattle.hal_meaning.specs.Access.{Here, within, updating, ask, request_made, raise, turn, read, put, store}
 use Rattle.hal_meaning.specs.Variables.{Meant, MeantData, MeantBlock, name_meant, kind_of_first, is_arrayed}
 use Rattle.hal_meaning.specs.Calls.{call, returned_by}
-use Rattle.hal_meaning.specs.Expressions.{expression, values, passed, inputs_at, chosen_data, Located, part_chosen, named_value, sizes_named, integer_of, holds}
+use Rattle.hal_meaning.specs.Expressions.{expression, values, passed, inputs_at, chosen_data, Located, part_chosen, named_value, sizes_named}
 use Rattle.hal_meaning.specs.RealTime.{time, stated_at_mark, scheduled, named_or_own, priority_changed, eventful, side_of}
 use Rattle.hal_meaning.specs.Tasks.{Looping, Meaning, Tested, Stepping, Listing, Resuming}
 
@@ -110,20 +113,9 @@ all_read rec h channel (receiver ∷ receivers) st =
     bind (ask (request.Input channel (kind_named h receiver st.kept.places)) st)
     (λ answer st1. bind (datum_of h answer st1) (λ datum st2. bind (datum_received rec h receiver datum st2) (λ done st3. all_read rec h channel receivers st3)))
 
--- the text of a value
-abbrev pub text_of : Value → List ℕ
-text_of (value.Int a) = signed_decimal a
-text_of (value.Bits len word) = bits_text len word
-text_of (value.Text text) = text
-
--- a blank before each item
-abbrev pub line_of : List Value → List ℕ
-line_of [] = []
-line_of (v ∷ vs) = (32 ∷ text_of v) ++ line_of vs
-
 -- a line has at most 1,000 bytes
 abbrev pub line_fitting : Here → List ℕ → State → Evaluated (List ℕ)
-line_fitting h line st = if nat_lt 1000 (length line) then bind (raise h (error 3 3) st) (λ ignored after. Gives (take 1000 line) after) else Gives line st
+line_fitting h line st = if nat_lt LINE_LIMIT (length line) then bind (raise h (error 3 3) st) (λ ignored after. Gives (take LINE_LIMIT line) after) else Gives line st
 
 -- the number that a channel is
 abbrev pub channel_of : Value → ℕ
@@ -226,10 +218,6 @@ loop_place h m = elim (slice_get h.marks m) [ None ↦ 0 | Some k ↦ first_plac
 abbrev pub kept_at : ℕ → Value → State → State
 kept_at n v st = with_places (slice_set st.kept.places n (Holds v)) st
 
--- whether a value is past the end, by the sign of the step
-abbrev pub is_past : ℤ → ℤ → ℤ → Bool
-is_past step end value = if int_lt step (pos 0) then int_lt value end else int_lt end value
-
 -- a DO FOR group's variable
 abbrev pub variable_spot : Meant → Spot
 variable_spot (MeantData at shape) = at
@@ -250,10 +238,6 @@ group_here h true m = elim (slice_get h.marks m) [ None ↦ h | Some k ↦ withi
 abbrev pub end_place : Here → Bool → ℕ → ℕ
 end_place h false m = loop_place h m
 end_place h true m = suc (loop_place h m)
-
--- an UPDATE block ends, and with it its entries; what is caught in an earlier block goes on there
-abbrev pub closed : Mode → Mode
-closed m = mode None m.store m.writes m.turns
 
 abbrev pub update_left : List Entry → Evaluated Flow → Evaluated Flow
 update_left entries (Gives flow after) = Gives flow (with_entries entries (with_mode (closed after.mode) after))
@@ -276,26 +260,12 @@ settled rec h (Caught (suc level) place after) = Caught (suc level) place after
 settled rec h (Restarts keeps left) = Restarts keeps left
 settled rec h Lost = Lost
 
--- the shared data as an UPDATE block sees them
-abbrev pub snapshot_of : Answered → List Value
-snapshot_of (answered.Block snapshot turns) = snapshot
-snapshot_of other = []
-
--- how many turns an UPDATE block has that begins with this answer
-abbrev pub turns_given : ℕ → Answered → ℕ
-turns_given turns (answered.Block snapshot made) = turns
-turns_given turns answered.Begun = 0
-turns_given turns (answered.Told v) = 0
-turns_given turns answered.Done = 0
-turns_given turns (answered.Wrong e) = 0
-turns_given turns answered.Killed = 0
-
 -- the groups of the UPDATE block with this mark
 abbrev pub update_groups : Here → ℕ → ℕ
 update_groups h m = elim (slice_get h.marks m) [ None ↦ 0 | Some u ↦ groups_of h.set.phrases h.set.constants u ]
 
 abbrev pub entered_update : Here → ℕ → Answered → State → State
-entered_update h m answer st = with_entries [] (with_mode (mode (Some (update_groups h m)) (snapshot_of answer) [] (turns_given h.set.turns answer)) st)
+entered_update h m answer st = with_entries [] (with_mode (opened h.set.turns (update_groups h m) answer) st)
 
 -- the value that RETURN gives, as the unit's type has it
 abbrev pub returned_in : Here → Value → Value

@@ -1,5 +1,5 @@
 -- The state in which phrases are evaluated, and what their evaluation comes to.
-use Rattle.std.specs.Prelude.{ℕ, List, [], ◌∷◌, Option, None}
+use Rattle.std.specs.Prelude.{ℕ, List, [], ◌∷◌, Option}
 use Rattle.hal_values.specs.declared.environment.Entry.{Entry}
 use Rattle.hal_values.specs.declared.environment.ErrNo.{ErrNo}
 use Rattle.hal_values.specs.declared.request.Request.{Request}
@@ -7,39 +7,8 @@ use Rattle.hal_values.specs.declared.request.Request.TheVariants as request
 use Rattle.hal_values.specs.declared.value.Value.{Value}
 use Rattle.hal_values.specs.Answers.{Answered}
 use Rattle.hal_values.specs.Answers as answered
-
--- where the first of some cells lies: a shared cell, an own place, or nowhere
-pub data Spot : Type 0 where
-  Shared Own : (number : ℕ) → Spot
-  Nowhere : Spot
-
--- what an own place holds: a value, or what an ASSIGN parameter stands for
-pub data Held : Type 0 where
-  Holds : (value : Value) → Held
-  Refers : (spot : Spot) → Held
-
--- what a process keeps over its cycles: its own places, and its last error
-pub record Kept : Type 0 where
-  pub places : List Held
-  pub last : ErrNo
-
-abbrev pub kept : List Held → ErrNo → Kept
-kept places last = record { places = places; last = last }
-
--- how shared data are reached: each access asks, or an UPDATE block of these groups is entered. Of the latest UPDATE block: what the shared cells
--- hold as it sees them, its writes so far, the latest last, and the turns that it has left
-pub record Mode : Type 0 where
-  pub groups : Option ℕ
-  pub store : List Value
-  pub writes : List (ℕ × Value)
-  pub turns : ℕ
-
-abbrev pub mode : Option ℕ → List Value → List (ℕ × Value) → ℕ → Mode
-mode groups store writes turns = record { groups = groups; store = store; writes = writes; turns = turns }
-
--- no UPDATE block was entered
-abbrev pub asking : Mode
-asking = mode None [] [] 0
+use Rattle.hal_states.specs.Spots.{Held, Kept, kept}
+use Rattle.hal_states.specs.Modes.{Mode, mode}
 
 -- what is kept; the error entries of the latest entered block; how shared data are reached; and the answers that are still to be taken
 pub record State : Type 0 where

@@ -1,7 +1,6 @@
 -- What names mean where phrases are evaluated, and where their data lie.
-use Rattle.std.specs.Prelude.{ℕ, ◌+◌, ◌*◌, Bool, true, false, ◌&&◌, ◌||◌, not, List, [], ◌∷◌, ℤ, pos, ◌-ℤ◌, int_lt, unsigned_abs, Option, Some, None, slice_get, unwrap_or, if◌then◌else◌}
+use Rattle.std.specs.Prelude.{ℕ, ◌+◌, ◌*◌, Bool, true, false, ◌&&◌, ◌||◌, not, List, [], ◌∷◌, ℤ, pos, Some, None, slice_get, unwrap_or, if◌then◌else◌}
 use Rattle.std.specs.Option.{is_some}
-use Rattle.std.specs.Int.{int_min, int_max}
 use Rattle.hal_grammar.specs.Declarations.{Attribute, Declared}
 use Rattle.hal_grammar.specs.Units.{Head, Program, Compool, Task, Procedure, Function}
 use Rattle.hal_phrases.specs.Phrases.{Node, Phrase, OfUnit, OfItem, OfTemporaryGroup}
@@ -14,18 +13,14 @@ use Rattle.hal_values.specs.declared.value.Kind.{Kind}
 use Rattle.hal_values.specs.declared.value.Kind.TheVariants as kind
 use Rattle.hal_values.specs.declared.value.Value.{Value}
 use Rattle.hal_values.specs.declared.value.Value.TheVariants as value
+use Rattle.hal_states.specs.Spots.{Spot, Shared, Own, Nowhere, Held, referred_to}
+use Rattle.hal_states.specs.Numbers.{is_inside, before_nearest}
 use Rattle.hal_meaning.specs.Elements.{Component, Shape, shape_of, product}
 use Rattle.hal_meaning.specs.Bodies.{meant}
 use Rattle.hal_meaning.specs.Places.{Storing, InCells, InPlaces, ByReference, Unstored, storing}
 use Rattle.hal_meaning.specs.Events.{event_of}
 use Rattle.hal_meaning.specs.ReportNames.{first_cell, first_place}
-use Rattle.hal_meaning.specs.States.{Spot, Shared, Own, Nowhere, Held, Refers}
 use Rattle.hal_meaning.specs.Access.{Here}
-
--- where an ASSIGN parameter's data lie
-abbrev pub referred_to : Option Held → Spot
-referred_to (Some (Refers at)) = at
-referred_to other = Nowhere
 
 -- where data begin that are stored so
 abbrev pub spot_of : Here → List Held → ℕ → Storing → Spot
@@ -85,22 +80,14 @@ pub data Index : Type 0 where
   Single : (place : ℤ) → Index
   Several : (first last : ℤ) → Index
 
--- whether a place lies in 1 to the size
-abbrev pub is_inside : ℕ → ℤ → Bool
-is_inside size place = not (int_lt place (pos 1)) && not (int_lt (pos size) place)
-
 abbrev pub index_is_inside : ℕ → Index → Bool
 index_is_inside size (Single place) = is_inside size place
 index_is_inside size (Several first last) = is_inside size first && is_inside size last
 
--- the nearest place
-abbrev pub nearest_place : ℕ → ℤ → ℤ
-nearest_place size place = int_max (pos 1) (int_min place (pos size))
-
 -- how many places lie before the first one that a subscript chooses
 abbrev pub places_before : ℕ → Index → ℕ
-places_before size (Single place) = unsigned_abs (nearest_place size place -ℤ pos 1)
-places_before size (Several first last) = unsigned_abs (nearest_place size first -ℤ pos 1)
+places_before size (Single place) = before_nearest size place
+places_before size (Several first last) = before_nearest size first
 
 -- a dimension of data, or their copies: its size, and how far the next place is
 pub record Dimension : Type 0 where

@@ -10,7 +10,7 @@ use Rattle.hal_values.specs.declared.value.Kind.TheVariants as kind
 use Rattle.hal_values.specs.declared.value.Value.{Value}
 use Rattle.hal_values.specs.declared.value.Value.TheVariants as value
 use Rattle.hal_values.specs.Kinds.{IsOfKind}
-use Rattle.hal_meaning.specs.InitialValues.{nothing, is_of, of_kind, lies_within}
+use Rattle.hal_states.specs.OfKinds.{nothing, is_of, of_kind, lies_within}
 
 both : (a b : Bool) → (a && b) ≡ true → (a ≡ true) × (b ≡ true)
 both true b e = (refl, e)

@@ -1,0 +1,4 @@
+pub mod Orderly
+pub mod Acting
+pub mod Coursing
+pub mod Loading

@@ -1,0 +1,9 @@
+pub mod Images
+pub mod Cores
+pub mod Raising
+pub mod Addressing
+pub mod Computing
+pub mod Controlling
+pub mod Asking
+pub mod Machine
+pub mod Courses

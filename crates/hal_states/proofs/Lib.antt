@@ -1,0 +1,3 @@
+pub mod OfKind
+pub mod Timing
+pub mod Telling
