@@ -1,0 +1,5 @@
+pub mod Near
+pub mod RightStrings
+pub mod RightTexts
+pub mod RightResults
+pub mod KindsKept
