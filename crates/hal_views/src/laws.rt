@@ -1,0 +1,14 @@
+//! What holds of each set of files.
+
+ghost use Rattle.std.specs.Prelude.{List, length, ◌≤◌};
+ghost use Rattle.hal_base.specs.declared.limits.TheConstants.{CELL_LIMIT};
+ghost use Rattle.hal_grammar.specs.Units.{File};
+ghost use Rattle.hal_phrases.specs.GatheredUnits.{phrases_of};
+ghost use Rattle.hal_constants.specs.Known.{known};
+ghost use Rattle.hal_meaning.specs.Sets.{cells_of};
+ghost use Rattle.hal_views.specs.Views.{HasRoom};
+
+/// A set that has room keeps the limit of shared cells, which each load keeps.
+pub fn a_set_with_room_has_few_cells()
+    ensures { (files : List File) → HasRoom files → length (cells_of (phrases_of files) (known (phrases_of files))) ≤ CELL_LIMIT }
+{}
