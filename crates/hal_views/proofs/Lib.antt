@@ -1,1 +1,2 @@
 pub mod CellsCounted
+pub mod Distinct

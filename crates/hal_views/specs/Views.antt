@@ -164,9 +164,13 @@ abbrev pub distinct : List View → List View → List View
 distinct found [] = found
 distinct found (v ∷ others) = distinct (if list_any (same_view v) found then found else found ++ (v ∷ [])) others
 
--- the views of a set, in the order of the phrases
+-- the views of the phrases of units, in their order
+abbrev pub named_views : List Phrase → Known → List View
+named_views ps vs = flat_map (λ (p : Phrase). if is_in_unit ps p.around.home then views_at ps vs p p.node else []) ps
+
+-- the views of a set: each of these once
 abbrev pub views_of : List Phrase → Known → List View
-views_of ps vs = distinct [] (flat_map (λ (p : Phrase). if is_in_unit ps p.around.home then views_at ps vs p p.node else []) ps)
+views_of ps vs = distinct [] (named_views ps vs)
 
 -- how many places of so many a view reaches in a dimension: where one is chosen, it may be each of them
 abbrev pub places_reached : ℕ → Choice → ℕ

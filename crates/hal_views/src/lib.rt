@@ -3,4 +3,4 @@
 
 mod laws;
 
-pub use laws::a_set_with_room_has_few_cells;
+pub use laws::{a_set_with_room_has_few_cells, views_are_those_of_phrases};
