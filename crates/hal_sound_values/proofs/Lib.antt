@@ -3,3 +3,4 @@ pub mod RightStrings
 pub mod RightTexts
 pub mod RightResults
 pub mod KindsKept
+pub mod Giving

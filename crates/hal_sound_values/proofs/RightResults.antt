@@ -55,7 +55,7 @@ one_right op (value.Int a) h = one_integer op a (integer_near a h)
 one_right op (value.Bits len word) h = one_string op len word h
 one_right op (value.Text text) h = one_text op text h
 
-computed_is : (op : Op2) (a b : ℤ) → IsNear 31 a → IfOk (computed op a b) (IsNear 31)
+pub computed_is : (op : Op2) (a b : ℤ) → IsNear 31 a → IfOk (computed op a b) (IsNear 31)
 computed_is op2.Plus a b h = ranged_is double (a +ℤ b)
 computed_is op2.Minus a b h = ranged_is double (a -ℤ b)
 computed_is op2.Product a b h = ranged_is double (a *ℤ b)

@@ -8,11 +8,12 @@ ghost use Rattle.hal_operations.specs.declared.operation.Op1.{Op1};
 ghost use Rattle.hal_operations.specs.declared.operation.Op2.{Op2};
 ghost use Rattle.hal_operations.specs.declared.part.Part.{Part};
 ghost use Rattle.hal_operations.specs.Mended.{mended_of_one, mended_of_two};
-ghost use Rattle.hal_operations.specs.Operands.{IsStorable};
+ghost use Rattle.hal_operations.specs.Operands.{IsStorable, Takes, TakesBoth};
 ghost use Rattle.hal_operations.specs.Parts.{picked, patched, mended_pick, mended_patch};
 ghost use Rattle.hal_operations.specs.Stores.{stored, mended_store};
 ghost use Rattle.hal_operations.specs.Values.{value_of_one, value_of_two};
 ghost use Rattle.hal_sound_values.specs.Right.{IsRight, IsAlso, IsPart};
+ghost use Rattle.hal_sound_values.specs.Given.{IsGivenByOne, IsGivenByTwo};
 
 /// Each operation gives right values from right ones, also after an ignored error.
 pub fn operations_give_right_values()
@@ -47,4 +48,13 @@ pub fn right_values_have_kinds()
     ensures right { (k : Kind) (v : Value) → IsKind k → IsOfKind k v → IsRight v }
     ensures kind { (v : Value) → IsRight v → (k : Kind) × IsKind k × IsOfKind k v }
     ensures datum { (k : Kind) (v : Value) → IsKind k → IsDatum k v → IsRight v × IsStorable k v }
+{}
+
+/// Of operands that it takes an operation gives a value of its kind, also after an ignored error: a comparison one bit, a sum an integer,
+/// and so on.
+pub fn operations_give_values_of_their_kinds()
+    ensures one { (op : Op1) (v : Value) → IsRight v → Takes op v → IfOk (value_of_one op v) (IsGivenByOne op v) }
+    ensures mended_one { (op : Op1) (v : Value) → IsRight v → Takes op v → IsGivenByOne op v (mended_of_one op v) }
+    ensures two { (op : Op2) (v w : Value) → IsRight v → TakesBoth op v w → IfOk (value_of_two op v w) (IsGivenByTwo op v w) }
+    ensures mended_two { (op : Op2) (v w : Value) → IsRight v → TakesBoth op v w → IsGivenByTwo op v w (mended_of_two op v w) }
 {}

@@ -5,6 +5,7 @@
 mod laws;
 
 pub use laws::{
-    cells_hold_values_of_their_kinds, operations_give_right_values, parts_are_right_values,
-    replaced_parts_keep_kinds, right_values_have_kinds,
+    cells_hold_values_of_their_kinds, operations_give_right_values,
+    operations_give_values_of_their_kinds, parts_are_right_values, replaced_parts_keep_kinds,
+    right_values_have_kinds,
 };
