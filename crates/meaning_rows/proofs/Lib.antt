@@ -1,8 +1,12 @@
+pub mod Asks
 pub mod Errors
 pub mod Expressions
 pub mod Input
+pub mod Names
+pub mod Phrases
 pub mod Processes
 pub mod Statements
+pub mod Storage
 pub mod Units
 pub mod Updates
 pub mod Worked

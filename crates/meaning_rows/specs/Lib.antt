@@ -1,2 +1,4 @@
 pub mod Trees
 pub mod Playing
+pub mod Listing
+pub mod Asking

@@ -1,0 +1,2 @@
+pub mod CellsCounted
+pub mod Distinct
