@@ -70,10 +70,18 @@ signed_literal sign literal = signed sign (literal_constant literal)
 abbrev pub signed_name : List Phrase → Known → Phrase → Option Sign → Naming → Constant
 signed_name ps vs p sign name = signed sign (constant_named ps vs p name.name [])
 
--- whether there is no further value
-unfoldable pub no_more : Initials → Bool
-no_more NoInitials = true
-no_more other = false
+unfoldable mutual
+  -- whether an initial value with its repetition gives no value
+  pub gives_none : Initial → Bool
+  gives_none (Value tree) = false
+  gives_none (LiteralTimes place count sign at literal) = count == 0
+  gives_none (NameTimes place count sign name) = count == 0
+  gives_none (ListTimes place count values) = (count == 0) || give_none values
+
+  -- the same of initial values
+  pub give_none : Initials → Bool
+  give_none NoInitials = true
+  give_none (MoreInitials first others) = gives_none first && give_none others
 
 unfoldable mutual
   -- the one value that an initial value gives, where it gives one
@@ -81,12 +89,19 @@ unfoldable mutual
   only_of ps vs p (Value tree) = constant_of ps vs p tree
   only_of ps vs p (LiteralTimes place count sign at literal) = if count == 1 then signed_literal sign literal else constant.Unfit
   only_of ps vs p (NameTimes place count sign name) = if count == 1 then signed_name ps vs p sign name else constant.Unfit
-  only_of ps vs p (ListTimes place count values) = if count == 1 then only_among ps vs p values else constant.Unfit
+  only_of ps vs p (ListTimes place count values) = if count == 1 then only_with ps vs p constant.Unfit false values else constant.Unfit
 
-  -- the same of initial values
-  pub only_among : List Phrase → Known → Phrase → Initials → Constant
-  only_among ps vs p NoInitials = constant.Unfit
-  only_among ps vs p (MoreInitials first others) = if no_more others then only_of ps vs p first else constant.Unfit
+  -- the same of initial values behind others, which gave this or, where there is none yet, nothing
+  pub only_with : List Phrase → Known → Phrase → Constant → Bool → Initials → Constant
+  only_with ps vs p so_far one NoInitials = so_far
+  only_with ps vs p so_far one (MoreInitials first others) =
+      if gives_none first then only_with ps vs p so_far one others
+      else if one then constant.Unfit
+      else only_with ps vs p (only_of ps vs p first) true others
+
+-- the one value that initial values give, where they give one
+abbrev pub only_among : List Phrase → Known → Phrase → Initials → Constant
+only_among ps vs p values = only_with ps vs p constant.Unfit false values
 
 unfoldable pub kept : Result values.Value ErrNo → Option values.Value
 kept (Ok v) = Some v

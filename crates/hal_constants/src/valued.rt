@@ -123,6 +123,34 @@ pub fn signed_name(
     signed(sign, constant_named(names, known, phrase, &name.name, &[]))
 }
 
+/// Whether an initial value with its repetition gives no value.
+#[cycle(none)]
+#[tactic(auto, using(hal_tree::proofs::MadeDeclarations::made_value, hal_tree::proofs::MadeDeclarations::made_literal_times, hal_tree::proofs::MadeDeclarations::made_name_times, hal_tree::proofs::MadeDeclarations::made_list_times), unfolding(crate::specs::Known::gives_none))]
+fn gives_none(initial: &Initial) -> bool
+    ensures { result ≡ facts.gives_none (seen_initial initial.now) }
+{
+    match initial {
+        Initial::Value { .. } => false,
+        Initial::LiteralTimes { count, .. } => *count == 0,
+        Initial::NameTimes { count, .. } => *count == 0,
+        Initial::ListTimes { count, values, .. } => *count == 0 || give_none(values),
+    }
+}
+
+/// The same of initial values.
+#[cycle(none)]
+#[tactic(auto, unfolding(crate::specs::Known::give_none, hal_tree::specs::Rows::initials))]
+fn give_none(values: &[Initial]) -> bool
+    ensures { result ≡ facts.give_none (initials (map seen_initial values.now)) }
+{
+    for initial in values {
+        if !gives_none(initial) {
+            return false;
+        }
+    }
+    true
+}
+
 /// The one value that an initial value gives, where it gives one.
 #[cycle(only)]
 #[tactic(auto, using(hal_tree::proofs::MadeDeclarations::made_value, hal_tree::proofs::MadeDeclarations::made_literal_times, hal_tree::proofs::MadeDeclarations::made_name_times, hal_tree::proofs::MadeDeclarations::made_list_times), unfolding(crate::specs::Known::only_of))]
@@ -167,18 +195,22 @@ fn only_of(initial: &Initial, names: &Names<'_>, known: &Known, phrase: &Phrase<
 
 /// The same of initial values.
 #[cycle(only)]
-#[tactic(auto, using(crate::proofs::Lists::no_value), unfolding(crate::specs::Known::only_among, hal_tree::specs::Rows::initials))]
+#[tactic(auto, unfolding(crate::specs::Known::only_with, hal_tree::specs::Rows::initials))]
 fn only_among(values: &[Initial], names: &Names<'_>, known: &Known, phrase: &Phrase<'_>) -> Constant
     ensures { result ≡ facts.only_among (seen_names names.now) (seen_known known.now) (seen_phrase phrase.now) (initials (map seen_initial values.now)) }
 {
-    let Some((initial, others)) = values.split_first() else {
-        return Constant::Unfit;
-    };
-    if others.is_empty() {
-        only_of(initial, names, known, phrase)
-    } else {
-        Constant::Unfit
+    let mut so_far = Constant::Unfit;
+    let mut one = false;
+    for initial in values {
+        if !gives_none(initial) {
+            if one {
+                return Constant::Unfit;
+            }
+            so_far = only_of(initial, names, known, phrase);
+            one = true;
+        }
     }
+    so_far
 }
 
 /// A value as a cell of the kind holds it.

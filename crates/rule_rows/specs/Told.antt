@@ -1,0 +1,27 @@
+-- What a row says of a set of files.
+use Rattle.std.specs.Prelude.{ℕ, List}
+use Rattle.hal_base.specs.declared.refusal.Place.{Place}
+use Rattle.hal_grammar.specs.Units.{File}
+use Rattle.hal_phrases.specs.GatheredUnits.{phrases_of}
+use Rattle.hal_scope.specs.Rules.{Breaks, IsSound, rows}
+use Rattle.hal_types.specs.Rules.{type_rows}
+
+-- it breaks this rule of names at this place
+abbrev pub BreaksNames : List File → ℕ → Place → Type 0
+BreaksNames files rule place = Breaks rows (phrases_of files) rule place
+
+-- it breaks no rule of names
+abbrev pub IsNamed : List File → Type 0
+IsNamed files = IsSound rows (phrases_of files)
+
+-- it breaks no rule of names, and this rule of types at this place
+abbrev pub BreaksTypes : List File → ℕ → Place → Type 0
+BreaksTypes files rule place = IsNamed files × Breaks type_rows (phrases_of files) rule place
+
+-- it breaks no rule of names and none of types
+abbrev pub IsTyped : List File → Type 0
+IsTyped files = IsNamed files × IsSound type_rows (phrases_of files)
+
+-- it breaks this rule of types at this place, whatever it breaks of names
+abbrev pub MistypesAlone : List File → ℕ → Place → Type 0
+MistypesAlone files rule place = Breaks type_rows (phrases_of files) rule place

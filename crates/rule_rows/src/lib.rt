@@ -1,0 +1,2 @@
+//! Rows of the rules of names and types, which the checker computes.
+#![tactic(auto)]
