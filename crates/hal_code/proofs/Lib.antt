@@ -1,4 +1,5 @@
 pub mod Orderly
 pub mod Acting
 pub mod Coursing
+pub mod RightTables
 pub mod Loading

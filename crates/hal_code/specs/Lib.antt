@@ -7,3 +7,10 @@ pub mod Controlling
 pub mod Asking
 pub mod Machine
 pub mod Courses
+pub mod Sorts
+pub mod Memory
+pub mod Blocks
+pub mod Operands
+pub mod Effects
+pub mod Flow
+pub mod Right

@@ -12,6 +12,6 @@ mod row;
 pub use choice::Choice;
 pub use image::ImageParts;
 pub use instr::Instr;
-pub use laws::an_image_with_right_tables_is_a_load;
+pub use laws::{a_right_image_is_a_load, an_image_with_right_tables_is_a_load};
 pub use operand::{Delay, EventChange, Limit, Places, Response, Round, Start, Time};
 pub use row::{Base, Block, Dimension, OwnPlace, Process, ResultKind, Run, Target, View};
