@@ -10,7 +10,7 @@ use Rattle.hal_code.specs.Cores.{Setting, Core, Wait, Renews, Step, Waits, Moves
 use Rattle.hal_code.specs.Machine.{stepped, begun, after_answer}
 use Rattle.hal_code.specs.Courses.{rank, Asked, lost, moving, counting, settled, asked_after, course, next}
 use Rattle.hal_code.proofs.Orderly.{Writes, Good, Sound}
-use Rattle.hal_code.proofs.Acting.{Sound-stepped, Sound-begun, Sound-answer}
+use Rattle.hal_code.proofs.Acting.{Anywhere, Sound-stepped, Sound-begun, Sound-answer}
 
 module _ (s : Setting) (own : s.process < process_count s.tables) where
   -- what is asked is in order
@@ -20,19 +20,19 @@ module _ (s : Setting) (own : s.process < process_count s.tables) where
   lost_good : (c : Core) → Writes s.tables c.mode → IsGood (lost c)
   lost_good c writes = record { order = tt; wait = tt; renews = λ is. absurd (cc); writes = writes }
 
-  moving_good : (counted : Core → Asked) → ((c : Core) → Writes s.tables c.mode → IsGood (counted c)) → (moves : ℕ) (step : Step) → Sound s.tables step → IsGood (moving s counted moves step)
+  moving_good : (counted : Core → Asked) → ((c : Core) → Writes s.tables c.mode → IsGood (counted c)) → (moves : ℕ) (step : Step) → Sound s.tables Anywhere step → IsGood (moving s counted moves step)
   moving_good counted each moves (Waits r w c) sound = sound.is
   moving_good counted each moves (Counts c) sound = each c sound.is
-  moving_good counted each zero (Moves c) sound = lost_good c sound.is
-  moving_good counted each (suc moves) (Moves c) sound = moving_good counted each moves (stepped s c) (Sound-stepped s own c sound.is)
+  moving_good counted each zero (Moves c) sound = lost_good c sound.is.0
+  moving_good counted each (suc moves) (Moves c) sound = moving_good counted each moves (stepped s c) (Sound-stepped s own c sound.is.0)
 
   counting_good : (turns : ℕ) (c : Core) → Writes s.tables c.mode → IsGood (counting s turns c)
   counting_good zero c writes = lost_good c writes
   counting_good (suc turns) c writes = moving_good (counting s turns) (counting_good turns) (rank s c) (stepped s c) (Sound-stepped s own c writes)
 
-  settled_good : (step : Step) → Sound s.tables step → IsGood (settled s step)
+  settled_good : (step : Step) → Sound s.tables Anywhere step → IsGood (settled s step)
   settled_good (Waits r w c) sound = sound.is
-  settled_good (Moves c) sound = counting_good (suc c.mode.turns) c sound.is
+  settled_good (Moves c) sound = counting_good (suc c.mode.turns) c sound.is.0
   settled_good (Counts c) sound = counting_good (suc c.mode.turns) c sound.is
 
   after_good : (one : Asked) (answers : List Answered) → IsGood one → IsGood (asked_after s one answers)

@@ -1,7 +1,7 @@
 -- The tables of an image that is right are right.
-use Rattle.std.specs.Prelude.{ℕ, zero, suc, ◌+◌, ◌≤◌, ◌<◌, ◌≡◌, ◌++◌, ◌==◌, nat_le, nat_lt, length, map, replicate, List, [], ◌∷◌, Bool, true, false, not, ◌&&◌, Option, Some, None, All, if◌then◌else◌}
+use Rattle.std.specs.Prelude.{ℕ, ◌+◌, ◌≤◌, ◌<◌, ◌≡◌, nat_le, nat_lt, length, replicate, List, [], ◌∷◌, Bool, true, false, not, ◌&&◌, Option, Some, None, All, if◌then◌else◌}
 use Rattle.std.specs.List.{list_all}
-use Rattle.std.proofs.Common.{refl, sym, subst, ◌∙◌, ap, arith}
+use Rattle.std.proofs.Common.{refl, sym, subst, ◌∙◌, arith}
 use Rattle.std.proofs.lemmas.Bool.{leb-true, ltb-true, eqb-true, and_parts}
 use Rattle.std.proofs.lemmas.List.{length-append, length-map, length-replicate}
 use Rattle.std.proofs.lemmas.List.Elements.{All-nil, All-cons, All-append, All-replicate}
@@ -11,7 +11,6 @@ use Rattle.hal_values.specs.declared.tables.Item.{Item}
 use Rattle.hal_values.specs.declared.tables.Item.TheVariants as item
 use Rattle.hal_values.specs.declared.value.Kind.{Kind}
 use Rattle.hal_values.specs.declared.value.Kind.TheVariants as kind
-use Rattle.hal_values.specs.declared.value.Value.{Value}
 use Rattle.hal_values.specs.Kinds.{IsKind}
 use Rattle.hal_values.specs.Tables.{IsTables, IsCell, IsPostfix, IsExpression}
 use Rattle.hal_states.specs.OfKinds.{is_of}
@@ -25,7 +24,7 @@ use Rattle.hal_code.specs.Images.{expanded, row_count, start_of, tables_of}
 use Rattle.hal_code.specs.Sorts.{is_kind, is_initial}
 use Rattle.hal_code.specs.Blocks.{outward}
 use Rattle.hal_code.specs.Operands.{is_known, events_of}
-use Rattle.hal_code.specs.Right.{wrong_instr, blocks_right, cell_right, place_right, processes_right, shapes_right, views_right, names_right, cell_count, limits_right, postfix_right, rows_right, first_failure, IsRight}
+use Rattle.hal_code.specs.Right.{wrong_instr, blocks_right, cell_right, place_right, processes_right, shapes_right, views_right, names_right, cell_count, limits_right, postfix_right, rows_right, IsRight}
 
 -- none fails, so the rows are right
 right_of : (blocks rows : Bool) (wrong : Option ℕ) (n : ℕ) → ◌≡◌ {A = Option ℕ} (if not blocks then Some n else elim wrong [ None ↦ if rows then None else Some n | Some m ↦ Some m ]) None → rows ≡ true

@@ -14,3 +14,4 @@ pub mod Operands
 pub mod Effects
 pub mod Flow
 pub mod Right
+pub mod Forward

@@ -12,6 +12,9 @@ mod row;
 pub use choice::Choice;
 pub use image::ImageParts;
 pub use instr::Instr;
-pub use laws::{a_right_image_is_a_load, an_image_with_right_tables_is_a_load};
+pub use laws::{
+    a_right_image_is_a_load, an_image_with_right_tables_is_a_load, each_move_lowers_the_rank,
+    the_code_of_a_right_image_goes_on,
+};
 pub use operand::{Delay, EventChange, Limit, Places, Response, Round, Start, Time};
 pub use row::{Base, Block, Dimension, OwnPlace, Process, ResultKind, Run, Target, View};
