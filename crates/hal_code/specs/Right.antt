@@ -9,6 +9,7 @@ use Rattle.hal_values.specs.declared.tables.Item.TheVariants as item
 use Rattle.hal_values.specs.declared.tables.ReportBase.TheVariants as named
 use Rattle.hal_values.specs.declared.tables.ReportName.{ReportName}
 use Rattle.hal_values.specs.declared.value.Kind.{Kind}
+use Rattle.hal_values.specs.ReportElements.{size_of}
 use Rattle.hal_code.specs.declared.choice.Choice.{Choice}
 use Rattle.hal_code.specs.declared.image.ImageParts.{ImageParts}
 use Rattle.hal_code.specs.declared.instr.Instr.{Instr}
@@ -175,16 +176,12 @@ postfix_right events operands (item.Not ∷ items) = nat_le 1 operands && postfi
 postfix_right events operands (item.And ∷ items) = nat_le 2 operands && postfix_right events (operands - 1) items
 postfix_right events operands (item.Or ∷ items) = nat_le 2 operands && postfix_right events (operands - 1) items
 
--- how many elements a report name shows in a copy, and how many copies it has; the number of lines
-abbrev pub element_count : List ℕ → ℕ
-element_count [] = 1
-element_count (n ∷ ns) = n * element_count ns
-
+-- how many copies a report name has, and how many lines it gives
 abbrev pub copies_of : ReportName → ℕ
 copies_of name = if name.copies == 0 then 1 else name.copies
 
 abbrev pub line_count : ReportName → ℕ
-line_count name = copies_of name * element_count name.dimensions
+line_count name = copies_of name * size_of name.dimensions
 
 -- elements from a number on are there
 abbrev pub elements_there : ImageParts → ReportName → ℕ → ℕ → Bool
@@ -196,7 +193,7 @@ elements_there image name from count = elim name.base [
 
 -- those of each copy are there
 abbrev pub name_right : ImageParts → ReportName → Bool
-name_right image name = list_all (λ copy. elements_there image name (name.first + copy * name.stride) (element_count name.dimensions)) (range_with_len 0 (copies_of name))
+name_right image name = list_all (λ copy. elements_there image name (name.first + copy * name.stride) (size_of name.dimensions)) (range_with_len 0 (copies_of name))
 
 abbrev pub names_right : ImageParts → Bool
 names_right image = nat_le (sum_by line_count image.names) spread_limit && list_all (name_right image) image.names
