@@ -1,2 +1,3 @@
-pub mod Failures
 pub mod Instructions
+pub mod WrongInstructions
+pub mod WrongTables
