@@ -331,13 +331,11 @@ module _ (P : Landing) (s : Setting) (own : s.process < process_count s.tables) 
 
   Sound-jump_not : (target : ℕ) (stack : List Operand) (c : Core) → Writes s.tables c.mode → P (suc c.at) c.frames → P target c.frames → Sound s.tables P (act_jump_not target stack c)
   Sound-jump_not target [] c writes lands jumps = sticks P s.tables c writes
-  Sound-jump_not target (Val (value.Int n) ∷ stack) c writes lands jumps = sticks P s.tables c writes
-  Sound-jump_not target (Val (value.Bits len word) ∷ stack) c writes lands jumps = moves P s.tables _ writes (one_of (holds (value.Bits len word)))
+  Sound-jump_not target (Val v ∷ stack) c writes lands jumps = moves P s.tables _ writes (one_of (holds v))
     where
       one_of : (b : Bool) → P (if b then suc c.at else target) c.frames
       one_of true = lands
       one_of false = jumps
-  Sound-jump_not target (Val (value.Text text) ∷ stack) c writes lands jumps = sticks P s.tables c writes
   Sound-jump_not target (At at k ∷ stack) c writes lands jumps = sticks P s.tables c writes
   Sound-jump_not target (Area at shape ∷ stack) c writes lands jumps = sticks P s.tables c writes
 

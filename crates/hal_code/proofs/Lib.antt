@@ -5,3 +5,5 @@ pub mod RightTables
 pub mod Loading
 pub mod Falling
 pub mod Forwards
+pub mod Turning
+pub mod Coming

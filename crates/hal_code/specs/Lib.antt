@@ -7,6 +7,7 @@ pub mod Controlling
 pub mod Asking
 pub mod Machine
 pub mod Courses
+pub mod Executions
 pub mod Sorts
 pub mod Memory
 pub mod Blocks
