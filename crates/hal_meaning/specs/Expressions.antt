@@ -1,5 +1,5 @@
 -- What expressions come to. Evaluation goes from left to right, and an error arises where its operation is done.
-use Rattle.std.specs.Prelude.{ℕ, Bool, true, false, ◌&&◌, ◌||◌, List, [], ◌∷◌, ◌++◌, ℤ, pos, ◌+ℤ◌, ◌-ℤ◌, nat_lt, Option, Some, None, unwrap_or, if◌then◌else◌}
+use Rattle.std.specs.Prelude.{ℕ, Bool, true, false, not, ◌&&◌, ◌||◌, List, [], ◌∷◌, ◌++◌, ℤ, pos, ◌+ℤ◌, ◌-ℤ◌, nat_lt, Option, Some, None, unwrap_or, if◌then◌else◌}
 use Rattle.hal_grammar.specs.Leaves.{Naming, Sign, Plus, Minus, Relation, Equal, Less, Greater, AtMost, AtLeast, NotEqual, NotLess, NotGreater, Conversion, ToInteger, ToBits, ToText, LiteralValue, Integer, Text, Bits, True, False, On, Off}
 use Rattle.hal_grammar.specs.Expressions.{Expression, Or, And, Compare, Cat, Sum, Product, Power, Not, Literal, Decimal, Referred, Called, Convert, Parenthesis, Expressions, NoExpressions, MoreExpressions, Terms, NoTerms, MoreTerms, Reference, Refers, Subscript, Unsubscripted, ByName, ByInteger, ByParts, Subscripts, NoSubscripts, MoreSubscripts, Sub, Every, One, Range, Portion, Position, FromBeginning, FromEnd}
 use Rattle.hal_scope.specs.declared.builtin.Builtin.{Builtin}
@@ -79,7 +79,11 @@ abbrev mutual
   are_conditions NoExpressions = false
   are_conditions (MoreExpressions first others) = is_condition first || are_conditions others
 
--- an operand of AND or OR: beside a condition, bits are a condition
+-- whether an operand of AND or OR is made a condition: it is bits, and one beside it is a condition
+abbrev pub becomes_condition : Bool → Expression → Bool
+becomes_condition beside_condition operand = beside_condition && not (is_condition operand)
+
+-- an operand of AND or OR: bits that become a condition are one bit
 abbrev pub as_operand : Bool → Value → Value
 as_operand true v = one_bit (holds v)
 as_operand false v = v
@@ -246,9 +250,9 @@ abbrev mutual
   -- an expression
   pub expression : Meaning → Here → Expression → State → Evaluated Value
   expression rec h (Or place first others) st =
-      bind (expression rec h first st) (λ v after. joined rec h op2.Or (is_condition first || are_conditions others) (as_operand (is_condition first || are_conditions others) v) others after)
+      bind (expression rec h first st) (λ v after. joined rec h op2.Or (is_condition first || are_conditions others) (as_operand (becomes_condition (is_condition first || are_conditions others) first) v) others after)
   expression rec h (And place first others) st =
-      bind (expression rec h first st) (λ v after. joined rec h op2.And (is_condition first || are_conditions others) (as_operand (is_condition first || are_conditions others) v) others after)
+      bind (expression rec h first st) (λ v after. joined rec h op2.And (is_condition first || are_conditions others) (as_operand (becomes_condition (is_condition first || are_conditions others) first) v) others after)
   expression rec h (Compare place left relation right) st =
       bind (expression rec h left st) (λ v after. bind (expression rec h right after) (λ w later. apply_two h (operation_of_relation relation) v w later))
   expression rec h (Cat place first others) st = bind (expression rec h first st) (λ v after. folded rec h op2.Cat v others after)
@@ -270,7 +274,7 @@ abbrev mutual
   pub joined : Meaning → Here → Op2 → Bool → Value → Expressions → State → Evaluated Value
   joined rec h op condition v NoExpressions st = Gives v st
   joined rec h op condition v (MoreExpressions first others) st =
-      bind (expression rec h first st) (λ w after. bind (apply_two h op v (as_operand condition w) after) (λ x later. joined rec h op condition x others later))
+      bind (expression rec h first st) (λ w after. bind (apply_two h op v (as_operand (becomes_condition condition first) w) after) (λ x later. joined rec h op condition x others later))
 
   -- operands of an operation behind a value
   pub folded : Meaning → Here → Op2 → Value → Expressions → State → Evaluated Value

@@ -1,0 +1,9 @@
+pub mod Leading
+pub mod Reaching
+pub mod Searching
+pub mod Raising
+pub mod Expressing
+pub mod Stating
+pub mod Statements
+pub mod Tasking
+pub mod Agreeing

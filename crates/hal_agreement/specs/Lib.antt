@@ -1,0 +1,5 @@
+pub mod Sites
+pub mod PlacedExpressions
+pub mod PlacedStatements
+pub mod PlacedBlocks
+pub mod Placed

@@ -1,0 +1,131 @@
+-- Where the code of statements stands: from an instruction to the one at which control goes on.
+use Rattle.std.specs.Prelude.{◌≡◌, ℕ, zero, suc, Bool, true, false, List, [], ◌∷◌, pos, Option, Some, None, if◌then◌else◌}
+use Rattle.hal_grammar.specs.Leaves.{Naming, Integer}
+use Rattle.hal_grammar.specs.Expressions.{Expression, Literal, Expressions, NoExpressions, MoreExpressions, Reference, Refers, Unsubscripted}
+use Rattle.hal_grammar.specs.Statements.{Guard, While, Until, Statement, Labelled, Basic, Null, Assignment, If, Do, DoLoop, Exit, Repeat, Return, Write, SendError, Alternative, NoAlternative, Otherwise, Group, Groups, Statements, NoStatements, MoreStatements}
+use Rattle.hal_states.specs.Spots.{Held, further}
+use Rattle.hal_meaning.specs.Elements.{chosen, offset}
+use Rattle.hal_meaning.specs.Marks.{after_statement}
+use Rattle.hal_meaning.specs.Statements.{is_meant, label_name}
+use Rattle.hal_meaning.specs.Variables.{Meant, MeantData, name_meant, kind_of_first}
+use Rattle.hal_code.specs.declared.image.ImageParts.{ImageParts}
+use Rattle.hal_code.specs.declared.instr.Instr.TheVariants as instr
+use Rattle.hal_agreement.specs.Sites.{Site, here_at}
+use Rattle.hal_agreement.specs.PlacedExpressions.{Has, One, AddressAt, ExpressionAt}
+
+-- a group that is open where a statement stands: its labels, where EXIT leads, and where REPEAT does, of a loop
+pub record Opened : Type 0 where
+  pub labels : List Naming
+  pub exit : ℕ
+  pub again : Option ℕ
+
+abbrev pub opened : List Naming → ℕ → Option ℕ → Opened
+opened labels exit again = record { labels = labels; exit = exit; again = again }
+
+-- where EXIT with this label or without one leads
+abbrev pub exit_of : List Opened → Option (List ℕ) → Option ℕ
+exit_of [] label = None
+exit_of (g ∷ gs) label = if is_meant g.labels label then Some g.exit else exit_of gs label
+
+-- and REPEAT, which passes over groups that are no loops
+abbrev pub again_of : List Opened → Option (List ℕ) → Option ℕ
+again_of [] label = None
+again_of (g ∷ gs) label = elim g.again [ None ↦ again_of gs label | Some at ↦ if is_meant g.labels label then Some at else again_of gs label ]
+
+-- how RETURN leaves the block in which a statement stands: a process goes on to its FINISH; an UPDATE block has none
+pub data Leaving : Type 0 where
+  ToFinish : (at : ℕ) → Leaving
+  NoReturn : Leaving
+
+-- the groups that are open around a statement, and how RETURN leaves the block
+pub record Exits : Type 0 where
+  pub groups : List Opened
+  pub leaving : Leaving
+
+abbrev pub within_group : Opened → Exits → Exits
+within_group g exits = record { groups = g ∷ exits.groups; leaving = exits.leaving }
+
+-- a receiver gets the value on the stack: CELL and KEEP
+abbrev pub KeptAt : ImageParts → List Naming → List Held → Meant → ℕ → ℕ → Type 0
+KeptAt image path held (MeantData at shape) from to =
+    AddressAt image held (kind_of_first (chosen path shape.components)) (further (offset path shape.components) at) from × One image (suc from) instr.Keep to
+KeptAt image path held other from to = ⊥
+
+abbrev pub ReceiverAt : ImageParts → Site → Reference → ℕ → ℕ → Type 0
+ReceiverAt image site (Refers place name path Unsubscripted) from to = (held : List Held) → KeptAt image path held (name_meant (here_at site) name held) from to
+ReceiverAt image site other from to = ⊥
+
+-- receivers get it from left to right, each but the last one from a copy
+abbrev pub ReceiversAt : ImageParts → Site → List Reference → ℕ → ℕ → Type 0
+ReceiversAt image site [] from to = ⊥
+ReceiversAt image site (receiver ∷ []) from to = ReceiverAt image site receiver from to
+ReceiversAt image site (receiver ∷ next ∷ others) from to =
+    (middle : ℕ) × Has image from instr.Dup × ReceiverAt image site receiver (suc from) middle × ReceiversAt image site (next ∷ others) middle to
+
+-- a channel that is written as an integer
+abbrev pub ChannelAt : Expression → ℕ → Type 0
+ChannelAt (Literal place (Integer number)) channel = number ≡ channel
+ChannelAt other channel = ⊥
+
+-- items, each added to the line
+abbrev pub ItemsAt : ImageParts → Site → Expressions → ℕ → ℕ → Type 0
+ItemsAt image site NoExpressions from to = from ≡ to
+ItemsAt image site (MoreExpressions first others) from to =
+    (middle : ℕ) × ExpressionAt image site first from middle × Has image middle instr.Item × ItemsAt image site others (suc middle) to
+
+-- a condition, behind which control goes on where it holds, and else to a target
+abbrev pub ConditionAt : ImageParts → Site → Expression → ℕ → ℕ → ℕ → Type 0
+ConditionAt image site condition from target to = (middle : ℕ) × ExpressionAt image site condition from middle × One image middle (instr.JumpNot target) to
+
+-- the first test of a loop: UNTIL isn't tested
+abbrev pub FirstTestAt : ImageParts → Site → Guard → ℕ → ℕ → ℕ → Type 0
+FirstTestAt image site (While place condition) from exit to = ConditionAt image site condition from exit to
+FirstTestAt image site (Until place condition) from exit to = from ≡ to
+
+-- each later test of a loop whose turns begin at a TURN: control goes there, or on
+abbrev pub TestAt : ImageParts → Site → Guard → ℕ → ℕ → ℕ → Type 0
+TestAt image site (While place condition) from turn to =
+    (middle : ℕ) × ExpressionAt image site condition from middle × Has image middle (instr.JumpNot to) × One image (suc middle) (instr.Jump turn) to
+TestAt image site (Until place condition) from turn to = ConditionAt image site condition from turn to
+
+-- RETURN without a value
+abbrev pub ReturnAt : ImageParts → Leaving → ℕ → ℕ → Type 0
+ReturnAt image (ToFinish at) from to = One image from (instr.Jump at) to
+ReturnAt image NoReturn from to = ⊥
+
+abbrev mutual
+  pub StatementAt : ImageParts → Site → Exits → ℕ → Statement → ℕ → ℕ → Type 0
+  StatementAt image site exits m (Labelled labels basic) from to = BasicAt image site exits m labels basic from to
+
+  -- a statement with these labels, before which the next mark has this number
+  pub BasicAt : ImageParts → Site → Exits → ℕ → List Naming → Basic → ℕ → ℕ → Type 0
+  BasicAt image site exits m labels (Null place) from to = from ≡ to
+  BasicAt image site exits m labels (Assignment place receivers tree) from to = (middle : ℕ) × ExpressionAt image site tree from middle × ReceiversAt image site receivers middle to
+  BasicAt image site exits m labels (If place condition consequence alternative) from to =
+      (other : ℕ) × (begin : ℕ) × (end : ℕ) × ConditionAt image site condition from other begin × StatementAt image site exits m consequence begin end
+      × AlternativeAt image site exits (after_statement m consequence) alternative end other to
+  BasicAt image site exits m labels (Do place group) from to = GroupAt image site (within_group (opened labels to None) exits) (suc m) group from to
+  BasicAt image site exits m labels (DoLoop place g group) from to =
+      (turn : ℕ) × (again : ℕ) × FirstTestAt image site g from to turn × Has image turn (instr.Turn to)
+      × GroupAt image site (within_group (opened labels to (Some again)) exits) (suc m) group (suc turn) again × TestAt image site g again turn to
+  BasicAt image site exits m labels (Exit place label) from to = (target : ℕ) × (exit_of exits.groups (label_name label) ≡ Some target) × One image from (instr.Jump target) to
+  BasicAt image site exits m labels (Repeat place label) from to = (target : ℕ) × (again_of exits.groups (label_name label) ≡ Some target) × One image from (instr.Jump target) to
+  BasicAt image site exits m labels (Return place None) from to = ReturnAt image exits.leaving from to
+  BasicAt image site exits m labels (Write place channel items) from to =
+      (number : ℕ) × (last : ℕ) × ChannelAt channel number × ItemsAt image site items from last × One image last (instr.Print number) to
+  BasicAt image site exits m labels (SendError place group_at group number_at number) from to = One image from (instr.Raise group number) to
+  BasicAt image site exits m labels other from to = ⊥
+
+  -- what stands after ELSE; the consequence before it ends at the first address, and the condition leads to the second one where it fails
+  pub AlternativeAt : ImageParts → Site → Exits → ℕ → Alternative → ℕ → ℕ → ℕ → Type 0
+  AlternativeAt image site exits m NoAlternative end other to = (end ≡ to) × (other ≡ to)
+  AlternativeAt image site exits m (Otherwise one) end other to = Has image end (instr.Jump to) × StatementAt image site exits m one other to
+
+  pub GroupAt : ImageParts → Site → Exits → ℕ → Group → ℕ → ℕ → Type 0
+  GroupAt image site exits m (Groups list close) from to = StatementsAt image site exits m list from to
+
+  -- statements one after another
+  pub StatementsAt : ImageParts → Site → Exits → ℕ → Statements → ℕ → ℕ → Type 0
+  StatementsAt image site exits m NoStatements from to = from ≡ to
+  StatementsAt image site exits m (MoreStatements first others) from to =
+      (middle : ℕ) × StatementAt image site exits m first from middle × StatementsAt image site exits (after_statement m first) others middle to
