@@ -66,7 +66,7 @@ module _ (s : Set) (image : ImageParts) (placed : IsPlaced s image) (stated_few 
   poses one answers =
       posed (setting image (first_of image p) (here_in s p (places_of_process s p) one.body)) (nest [] (λ level. one.spot) 1) _ answers (course_of s p (places_of_process s p) one.body answers)
       (process_asks (here_in s p (places_of_process s p) one.body) exists stated_few answered.Killed (first_kept (places_of_process s p)) answers)
-      ((task_knows image (first_of image p) (tasks s.turns answers) (tasks_known image (first_of image p) s.turns answers)).cycles (here_in s p (places_of_process s p) one.body) (λ level. one.spot) (alone s p one.body one.spot) one.plain one.code
+      ((task_knows image (first_of image p) (tasks s.turns answers) (tasks_known image (first_of image p) s.turns answers)).cycles (here_in s p (places_of_process s p) one.body) (λ level. one.spot) (alone s p one.body one.spot) one.plain refl one.code
       (first_kept (places_of_process s p)) answers).holds
 
   settings_same : (one : IsPlacedProcess s image p) → setting image (first_of image p) (here_in s p (places_of_process s p) one.body) ≡ setting_of s.turns image p

@@ -1,9 +1,12 @@
 pub mod Leading
 pub mod Reaching
 pub mod Searching
+pub mod Handling
 pub mod Raising
 pub mod Expressing
 pub mod Stating
+pub mod Entering
+pub mod Settling
 pub mod Statements
 pub mod Tasking
 pub mod Agreeing

@@ -15,7 +15,7 @@ use Rattle.hal_states.specs.Modes.{are_spent}
 use Rattle.hal_states.specs.Lines.{line_of, item_of}
 use Rattle.hal_states.specs.Numbers.{holds}
 use Rattle.hal_meaning.specs.Elements.{chosen, offset}
-use Rattle.hal_meaning.specs.Marks.{after_statement}
+use Rattle.hal_meaning.specs.Marks.{after_statement, handling_in}
 use Rattle.hal_meaning.specs.States.{State, Evaluated, Gives, Asks, Caught, Restarts, Lost, bind, Flow, Normal, Leaves, Repeats, Returned}
 use Rattle.hal_meaning.specs.Access.{Here, raise, turn, store, request_made}
 use Rattle.hal_meaning.specs.Variables.{Meant, MeantData, MeantConstant, MeantEvent, MeantBlock, MeantBuiltin, MeantNothing, name_meant, kind_of_first}
@@ -31,9 +31,11 @@ use Rattle.hal_code.specs.Addressing.{stored_at}
 use Rattle.hal_code.specs.Machine.{act}
 use Rattle.hal_agreement.specs.Sites.{Site, site_of}
 use Rattle.hal_agreement.specs.PlacedExpressions.{Has, One, AddressAt, ExpressionAt}
-use Rattle.hal_agreement.specs.PlacedStatements.{Opened, opened, exit_of, again_of, Leaving, ToFinish, NoReturn, Exits, within_group, KeptAt, ReceiverAt, ReceiversAt, ChannelAt, ItemsAt, ConditionAt, FirstTestAt, TestAt, ReturnAt, StatementAt, BasicAt, AlternativeAt, GroupAt, StatementsAt}
+use Rattle.hal_agreement.specs.PlacedStatements.{Opened, opened, exit_of, again_of, Leaving, ToFinish, NoReturn, Exits, within_group, of_block, KeptAt, ReceiverAt, ReceiversAt, ChannelAt, ItemsAt, ConditionAt, FirstTestAt, TestAt, ReturnAt, StatementAt, BasicAt, AlternativeAt, GroupAt, StatementsAt}
+use Rattle.hal_meaning.specs.Runs.{in_function}
+use Rattle.hal_agreement.proofs.Handling.{HandledAt}
 use Rattle.hal_agreement.proofs.Leading.{Leads, stays, through, moved}
-use Rattle.hal_agreement.proofs.Reaching.{Nest, setting, core_at, Arrives, Holds, Reaches, OnStep, before, bind_reaches, bind_on, asks_reaches, acts}
+use Rattle.hal_agreement.proofs.Reaching.{Nest, behind, setting, core_at, Arrives, Holds, Reaches, OnStep, before, bind_reaches, bind_on, asks_reaches, acts}
 use Rattle.hal_agreement.proofs.Raising.{Standing, bind_bind, asks_then, raised_reaches, store_reaches, turned_reaches}
 use Rattle.hal_agreement.proofs.Expressing.{name_same, address_reaches, expression_reaches}
 
@@ -54,12 +56,19 @@ flow_to exits n to (Leaves label) st = going_to n st (exit_of exits.groups label
 flow_to exits n to (Repeats label) st = going_to n st (again_of exits.groups label)
 flow_to exits n to (Returned v) st = left_by n st exits.leaving
 
+-- where statements of ON ERROR stand, as the machine's entries have it and as the exits do
+abbrev pub Marks : Nest → Exits → Type 0
+Marks n exits = (m : ℕ) → n.spot 0 m ≡ exits.handler m
+
 -- what is known of the tasks that are begun in statements
 pub record Sound (image : ImageParts) (begin : ℕ) (rec : Meaning) : Type 0 where
-  pub loops : (h : Here) (n : Nest) (exits : Exits) (loop : Looping) (g : Guard) (turn again to : ℕ) → Standing h n → Has image turn (instr.Turn to)
+  pub loops : (h : Here) (n : Nest) (exits : Exits) (loop : Looping) (g : Guard) (turn again to : ℕ) → Standing h n → Marks n exits → Has image turn (instr.Turn to)
       → GroupAt image (site_of h) (within_group (opened loop.labels to (Some again)) exits) (suc loop.mark) loop.group (suc turn) again
       → TestAt image (site_of h) g again turn to → (st : State)
       → Reaches (setting image begin h) n (flow_to exits n to) (Moves (core_at again [] [] n st)) st.left (rec (Tested h loop g) st)
+  pub resumes : (h : Here) (n : Nest) (leaving : Leaving) (finish : ℕ) → Standing h n → in_function h ≡ false
+      → ((place : ℕ) → HandledAt image (site_of h) (of_block leaving (n.spot 0)) (handling_in place h.first h.body) (n.spot 0 place) finish) → (place : ℕ) (st : State)
+      → Reaches (setting image begin h) (behind n) (flow_to (of_block leaving (n.spot 0)) n finish) (Moves (core_at (n.spot 0 place) [] [] n st)) st.left (rec (Resuming h place) st)
 
 module _ (image : ImageParts) (begin : ℕ) (rec : Meaning) (h : Here) (n : Nest) (standing : Standing h n) where
   abbrev pub FlowsAt : Exits → ℕ → Step → List Answered → Evaluated Flow → Type 0
@@ -104,10 +113,14 @@ module _ (image : ImageParts) (begin : ℕ) (rec : Meaning) (h : Here) (n : Nest
   valued fine e from middle line st go at each =
       bind_reaches (setting image begin h) n (λ v after. Moves (core_at middle (Val v ∷ []) line n after)) fine _ st.left _ go (expression_reaches image begin h n standing rec e from middle [] line st at) each
 
-  pub jump_leads : (from target : ℕ) (st : State) (left : List Answered) → Has image from (instr.Jump target) → Leads (setting image begin h) (Begins from st) left (Begins target st) left
-  jump_leads from target st left has =
-      subst (λ step. Leads (setting image begin h) (Begins from st) left step left) (ap (λ o. elim o [ None ↦ stuck (core_at from [] [] n st) | Some i ↦ act (setting image begin h) i (core_at from [] [] n st) ]) has)
+  -- an instruction that leads there
+  pub instr_leads : (i : Instr) (from : ℕ) (st : State) (left : List Answered) (to : Step) → Has image from i → act (setting image begin h) i (core_at from [] [] n st) ≡ to → Leads (setting image begin h) (Begins from st) left to left
+  instr_leads i from st left to has is =
+      subst (λ step. Leads (setting image begin h) (Begins from st) left step left) (ap (λ o. elim o [ None ↦ stuck (core_at from [] [] n st) | Some found ↦ act (setting image begin h) found (core_at from [] [] n st) ]) has ∙ is)
       (moved (setting image begin h) (core_at from [] [] n st) left)
+
+  pub jump_leads : (from target : ℕ) (st : State) (left : List Answered) → Has image from (instr.Jump target) → Leads (setting image begin h) (Begins from st) left (Begins target st) left
+  jump_leads from target st left has = instr_leads (instr.Jump target) from st left (Begins target st) has refl
 
   led_holds : (exits : Exits) (end to : ℕ) (step : Step) (left : List Answered) (r : Evaluated Flow) → ((st : State) → Leads (setting image begin h) (Begins end st) st.left (Begins to st) st.left)
       → Holds (setting image begin h) n (flow_to exits n end) step left r → Holds (setting image begin h) n (flow_to exits n to) step left r

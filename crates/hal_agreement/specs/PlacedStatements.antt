@@ -2,13 +2,23 @@
 use Rattle.std.specs.Prelude.{◌≡◌, ℕ, zero, suc, Bool, true, false, List, [], ◌∷◌, pos, Option, Some, None, if◌then◌else◌}
 use Rattle.hal_grammar.specs.Leaves.{Naming, Integer}
 use Rattle.hal_grammar.specs.Expressions.{Expression, Literal, Expressions, NoExpressions, MoreExpressions, Reference, Refers, Unsubscripted}
-use Rattle.hal_grammar.specs.Statements.{Guard, While, Until, Statement, Labelled, Basic, Null, Assignment, If, Do, DoLoop, Exit, Repeat, Return, Write, SendError, Alternative, NoAlternative, Otherwise, Group, Groups, Statements, NoStatements, MoreStatements}
+use Rattle.hal_grammar.specs.Statements as statements
+use Rattle.hal_grammar.specs.Statements.{Guard, While, Until, Selector, System, Ignore, Statement, Labelled, Basic, Null, Assignment, If, Do, DoLoop, Exit, Repeat, Return, Write, Update, OnErrorStatement, OnErrorResponse, OffError, SendError, Alternative, NoAlternative, Otherwise, Group, Groups, Statements, NoStatements, MoreStatements}
 use Rattle.hal_states.specs.Spots.{Held, further}
 use Rattle.hal_meaning.specs.Elements.{chosen, offset}
-use Rattle.hal_meaning.specs.Marks.{after_statement}
-use Rattle.hal_meaning.specs.Statements.{is_meant, label_name}
+use Rattle.hal_meaning.specs.Marks.{after_statement, handling_in}
+use Rattle.hal_meaning.specs.RealTime.{side_of}
+use Rattle.hal_meaning.specs.Statements as tree
+use Rattle.hal_meaning.specs.Statements.{is_meant, label_name, update_groups}
 use Rattle.hal_meaning.specs.Variables.{Meant, MeantData, name_meant, kind_of_first}
+use Rattle.hal_code.specs.declared.choice.Choice.TheVariants as choice
 use Rattle.hal_code.specs.declared.image.ImageParts.{ImageParts}
+use Rattle.hal_code.specs.declared.instr.Instr.{Instr}
+use Rattle.hal_code.specs.declared.operand.EventChange.{EventChange}
+use Rattle.hal_code.specs.declared.operand.EventChange.TheVariants as change
+use Rattle.hal_code.specs.declared.operand.Response.{Response}
+use Rattle.hal_code.specs.declared.operand.Response.TheVariants as response
+use Rattle.hal_code.specs.Controlling as machine
 use Rattle.hal_code.specs.declared.instr.Instr.TheVariants as instr
 use Rattle.hal_agreement.specs.Sites.{Site, here_at}
 use Rattle.hal_agreement.specs.PlacedExpressions.{Has, One, AddressAt, ExpressionAt}
@@ -37,13 +47,22 @@ pub data Leaving : Type 0 where
   ToFinish : (at : ℕ) → Leaving
   NoReturn : Leaving
 
--- the groups that are open around a statement, and how RETURN leaves the block
+-- the groups that are open around a statement; how RETURN leaves the block; and where the statement of the ON ERROR of the block with this mark stands
 pub record Exits : Type 0 where
   pub groups : List Opened
   pub leaving : Leaving
+  pub handler : ℕ → ℕ
 
 abbrev pub within_group : Opened → Exits → Exits
-within_group g exits = record { groups = g ∷ exits.groups; leaving = exits.leaving }
+within_group g exits = record { groups = g ∷ exits.groups; leaving = exits.leaving; handler = exits.handler }
+
+-- the statements of a block, around which no group is open
+abbrev pub of_block : Leaving → (ℕ → ℕ) → Exits
+of_block leaving handler = record { groups = []; leaving = leaving; handler = handler }
+
+-- marks of a block that are none of an ON ERROR with a statement directly in it lead to the block's end; none of them is ever set
+abbrev pub LeadsOut : (ℕ → ℕ) → ℕ → Statements → ℕ → Type 0
+LeadsOut handler first body finish = (place : ℕ) → handling_in place first body ≡ None → handler place ≡ finish
 
 -- a receiver gets the value on the stack: CELL and KEEP
 abbrev pub KeptAt : ImageParts → List Naming → List Held → Meant → ℕ → ℕ → Type 0
@@ -93,6 +112,19 @@ abbrev pub ReturnAt : ImageParts → Leaving → ℕ → ℕ → Type 0
 ReturnAt image (ToFinish at) from to = One image from (instr.Jump at) to
 ReturnAt image NoReturn from to = ⊥
 
+-- the instruction that sets an entry for errors
+abbrev pub sets : ℕ → ℕ → Response → EventChange → ℕ → ℕ → Instr
+sets group number r change event target = instr.On group number (choice.Known r) (choice.Known change) event target
+
+-- group and number of an instruction select what ON ERROR or OFF ERROR does
+abbrev pub Selects : Selector → ℕ → ℕ → Type 0
+Selects s group number = machine.selector_of group number ≡ tree.selector_of s
+
+-- SYSTEM and IGNORE
+abbrev pub response_of : statements.Response → Response
+response_of System = response.System
+response_of Ignore = response.Ignore
+
 abbrev mutual
   pub StatementAt : ImageParts → Site → Exits → ℕ → Statement → ℕ → ℕ → Type 0
   StatementAt image site exits m (Labelled labels basic) from to = BasicAt image site exits m labels basic from to
@@ -114,6 +146,15 @@ abbrev mutual
   BasicAt image site exits m labels (Write place channel items) from to =
       (number : ℕ) × (last : ℕ) × ChannelAt channel number × ItemsAt image site items from last × One image last (instr.Print number) to
   BasicAt image site exits m labels (SendError place group_at group number_at number) from to = One image from (instr.Raise group number) to
+  BasicAt image site exits m labels (Update place body close) from to =
+      (handler : ℕ → ℕ) × (last : ℕ) × Has image from (instr.Open (update_groups (here_at site) m)) × StatementsAt image site (of_block NoReturn handler) (suc m) body (suc from) last
+      × LeadsOut handler (suc m) body last × One image last instr.Close to
+  BasicAt image site exits m labels (OnErrorStatement place s handler) from to =
+      (group : ℕ) × (number : ℕ) × Selects s group number × Has image from (sets group number response.Statement change.Nothing 0 (suc (suc from))) × Has image (suc from) (instr.Jump to)
+      × (exits.handler m ≡ suc (suc from)) × StatementAt image site exits (suc m) handler (suc (suc from)) to
+  BasicAt image site exits m labels (OnErrorResponse place s r e) from to =
+      (group : ℕ) × (number : ℕ) × (changes : EventChange) × (event : ℕ) × Selects s group number × (machine.side_of changes event ≡ side_of (here_at site) e) × One image from (sets group number (response_of r) changes event 0) to
+  BasicAt image site exits m labels (OffError place s) from to = (group : ℕ) × (number : ℕ) × Selects s group number × One image from (instr.Off group number) to
   BasicAt image site exits m labels other from to = ⊥
 
   -- what stands after ELSE; the consequence before it ends at the first address, and the condition leads to the second one where it fails
