@@ -29,7 +29,8 @@ use Rattle.hal_code.specs.Sorts.{sort_of}
 use Rattle.hal_sound_code.specs.Lying.{sort_of_value, sorts_of, AllLead}
 use Rattle.hal_sound_code.specs.Standing.{Stands}
 use Rattle.hal_sound_code.proofs.Addressing.{Typed-viewed, Typed-fetch, Typed-peek, Typed-keep}
-use Rattle.hal_sound_code.proofs.Computing.{Onward, Typed-pushed, Typed-dup, Typed-drop, Typed-one, Typed-two, Typed-len, Typed-pick, Typed-patch, Typed-next}
+use Rattle.hal_sound_code.proofs.Computing.{Onward, Typed-pushed, Typed-dup, Typed-drop, Typed-one, Typed-two, Typed-len, Typed-next}
+use Rattle.hal_sound_code.proofs.Parting.{Typed-pick, Typed-patch}
 use Rattle.hal_sound_code.proofs.Controlling.{of_option, on_of, jump_well, Typed-jump_not, Typed-turn, Typed-call}
 use Rattle.hal_sound_code.proofs.Copying.{Typed-copy, Typed-bind, Typed-clear}
 use Rattle.hal_sound_code.proofs.Grounds.{Ground}

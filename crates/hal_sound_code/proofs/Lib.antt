@@ -8,6 +8,7 @@ pub mod Values
 pub mod Points
 pub mod Taking
 pub mod Computing
+pub mod Parting
 pub mod Memory
 pub mod Views
 pub mod Rows
@@ -15,6 +16,7 @@ pub mod Addressing
 pub mod Copying
 pub mod Controlling
 pub mod Returning
+pub mod Times
 pub mod Scheduling
 pub mod Grounds
 pub mod Acting
