@@ -24,3 +24,4 @@ pub mod Answering
 pub mod Coursing
 pub mod Frames
 pub mod Fitting
+pub mod Rooms

@@ -1,3 +1,4 @@
 pub mod Lying
 pub mod Standing
 pub mod Typed
+pub mod Room

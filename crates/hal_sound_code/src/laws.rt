@@ -1,6 +1,6 @@
 //! What holds of the processes of an image that is right.
 
-ghost use Rattle.std.specs.Prelude.{ℕ, ◌≡◌, ◌<◌, ◌+◌, ◌*◌, List, length};
+ghost use Rattle.std.specs.Prelude.{ℕ, ◌≡◌, ◌<◌, ◌≤◌, ◌*◌, List, length};
 ghost use Rattle.hal_values.specs.declared.request.Request.{Request};
 ghost use Rattle.hal_values.specs.declared.request.Request.TheVariants as request;
 ghost use Rattle.hal_values.specs.Answers.{Answered, Ends, Fits, error};
@@ -12,6 +12,7 @@ ghost use Rattle.hal_code.specs.Courses.{setting_of, course, next, load_of};
 ghost use Rattle.hal_code.specs.Images.{tables_of};
 ghost use Rattle.hal_code.specs.Machine.{begun, stepped, after_answer};
 ghost use Rattle.hal_code.specs.Right.{IsRight};
+ghost use Rattle.hal_sound_code.specs.Room.{room_below, operand_count};
 ghost use Rattle.hal_sound_code.specs.Standing.{call_count};
 ghost use Rattle.hal_sound_code.specs.Typed.{IsTyped, IsTypedStep, Awaits, IsAwaited};
 
@@ -45,4 +46,9 @@ pub fn each_step_of_a_right_image_fits()
 pub fn a_right_image_calls_downwards()
     ensures calls { (turns : ℕ) (image : ImageParts) (p : ℕ) (c : Core) → IsTyped (setting_of turns image p) c → call_count c.frames < length image.blocks }
     ensures frames { (turns : ℕ) (image : ImageParts) (p : ℕ) (c : Core) → IsTyped (setting_of turns image p) c → length c.frames < 2 * length image.blocks }
+{}
+
+/// All operands together, those of the running block and of each block that called, have room where each block has as many as the deepest stack of its flow.
+pub fn operands_have_room()
+    ensures { (turns : ℕ) (image : ImageParts) (p : ℕ) (c : Core) → IsTyped (setting_of turns image p) c → operand_count c ≤ room_below image (length image.blocks) }
 {}
