@@ -30,6 +30,7 @@ use Rattle.hal_sound_code.specs.Lying.{sort_of_value, sorts_of, AllLead}
 use Rattle.hal_sound_code.specs.Standing.{Stands}
 use Rattle.hal_sound_code.proofs.Addressing.{Typed-viewed, Typed-fetch, Typed-peek, Typed-keep}
 use Rattle.hal_sound_code.proofs.Computing.{Onward, Typed-pushed, Typed-dup, Typed-drop, Typed-one, Typed-two, Typed-len, Typed-next}
+use Rattle.hal_sound_code.proofs.Memory.{both_true}
 use Rattle.hal_sound_code.proofs.Parting.{Typed-pick, Typed-patch}
 use Rattle.hal_sound_code.proofs.Controlling.{of_option, on_of, jump_well, Typed-jump_not, Typed-turn, Typed-call}
 use Rattle.hal_sound_code.proofs.Copying.{Typed-copy, Typed-bind, Typed-clear}
@@ -63,11 +64,7 @@ module _ (s : Setting) (ground : Ground s) (most : ℕ) (c : Core) (well : Well 
   names : (i : Instr) (f : Is i) (v : ℕ) → names_view v i ≡ true → (f.block.process == s.process) ≡ true → process_names s.image v s.process ≡ true
   names i f v is own =
       any_at (λ (block : Block). (block.process == s.process) && list_any (names_view v) (code_of s.image block)) s.image.blocks well.typed.number f.block f.row
-      (both (f.block.process == s.process) (list_any (names_view v) (code_of s.image f.block)) own (any_at (names_view v) (code_of s.image f.block) f.place i f.found is))
-    where
-      both : (a b : Bool) → a ≡ true → b ≡ true → (a && b) ≡ true
-      both true b h g = g
-      both false b h g = absurd (cc)
+      (both_true (f.block.process == s.process) (list_any (names_view v) (code_of s.image f.block)) own (any_at (names_view v) (code_of s.image f.block) f.place i f.found is))
 
   Typed-of_view : (i : Instr) (f : Is i) (v : ℕ) (view : View) → names_view v i ≡ true → slice_get s.image.views v ≡ Some view → is_view_for s.image f.block view ≡ true → viewed_sorts (slice_get s.image.views v) (sorts_of c.stack) ≡ Some f.after
       → Stands s well.typed.number well.typed.inside (suc c.at) f.after → Typed s most (viewed s view c)

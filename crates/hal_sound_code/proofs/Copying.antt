@@ -8,13 +8,13 @@ use Rattle.hal_values.specs.declared.tables.Cell.{Cell}
 use Rattle.hal_values.specs.declared.value.Kind.{Kind}
 use Rattle.hal_values.specs.declared.value.Value.{Value}
 use Rattle.hal_values.specs.declared.value.Value.TheVariants as value
-use Rattle.hal_states.specs.Spots.{Spot, Shared, Own, Nowhere, Refers, kept, held_in}
+use Rattle.hal_states.specs.Spots.{Holds, Spot, Shared, Own, Nowhere, Refers, kept, held_in}
 use Rattle.hal_states.specs.OfKinds.{nothing}
 use Rattle.hal_states.specs.Modes.{seen_cell}
 use Rattle.hal_states.proofs.OfKind.{nothing_is}
 use Rattle.hal_code.specs.declared.row.Block.{Block}
 use Rattle.hal_code.specs.declared.row.OwnPlace.{OwnPlace}
-use Rattle.hal_code.specs.Addressing.{placed, copied_cell, copied, act_bind, act_copy, act_clear}
+use Rattle.hal_code.specs.Addressing.{cleared, placed, copied_cell, copied, act_bind, act_copy, act_clear}
 use Rattle.hal_code.specs.Blocks.{is_common, block_places}
 use Rattle.hal_code.specs.Cores.{Operand, Val, At, Area, Setting, Core, going, with_kept, Copies, Step}
 use Rattle.hal_code.specs.Effects.{Sorts, bound_sorts, copied_sorts}
@@ -26,7 +26,7 @@ use Rattle.hal_sound_code.proofs.Computing.{Onward}
 use Rattle.hal_sound_code.proofs.Places.{First, first_lies, held_value, held_set, held_bound, held_cleared}
 use Rattle.hal_sound_code.proofs.Memory.{lies_own}
 use Rattle.hal_sound_code.proofs.Rows.{sort_of_kind}
-use Rattle.hal_sound_code.proofs.Stepping.{Well, Typed, moves, awaits}
+use Rattle.hal_sound_code.proofs.Stepping.{well_kept, Well, Typed, moves, awaits}
 use Rattle.hal_sound_code.proofs.Taking.{if_taken}
 use Rattle.hal_sound_code.proofs.Views.{places_there}
 use Rattle.hal_sound_code.proofs.Addressing.{Found, cell_there, seen_sort}
@@ -41,18 +41,7 @@ referred_there some all each number shape e = of_place (slice_get some number) r
 
 -- a core with a value at an own place
 pub well_placed : (s : Setting) (most : ℕ) (place : ℕ) (k : Kind) (v : Value) (c : Core) → Well s most c → slice_get (own_memory (places_of s.image s.process)) place ≡ Some (Some k) → sort_of_value v ≡ sort_of k → Well s most (placed place v c)
-well_placed s most place k v c well lies is = record {
-  typed = record {
-    number = well.typed.number;
-    inside = well.typed.inside;
-    stands = well.typed.stands;
-    lead = well.typed.lead;
-    enter = well.typed.enter;
-    below = well.typed.below;
-    kept = held_set s (places_of s.image s.process) c.kept.places place k v well.typed.kept lies is;
-  };
-  few = well.few;
-}
+well_placed s most place k v c well lies is = well_kept s most c (slice_set c.kept.places place (Holds v)) well (held_set s (places_of s.image s.process) c.kept.places place k v well.typed.kept lies is)
 
 module _ (s : Setting) (most : ℕ) (same : s.tables ≡ tables_of s.image) where
   -- the cells of a copy that are left
@@ -118,18 +107,7 @@ module _ (s : Setting) (most : ℕ) (same : s.tables ≡ tables_of s.image) wher
     Typed-copy place (At at k ∷ stack) c after on lead e = absurd (cc)
 
     well_bound : (place shape : ℕ) (at : Spot) (c : Core) → Well s most c → referred_shape (places_of s.image s.process) place ≡ Some shape → LieAt s at (kinds_of s.image shape) → Well s most (with_kept (kept (slice_set c.kept.places place (Refers at)) c.kept.last) c)
-    well_bound place shape at c well refers lies = record {
-      typed = record {
-        number = well.typed.number;
-        inside = well.typed.inside;
-        stands = well.typed.stands;
-        lead = well.typed.lead;
-        enter = well.typed.enter;
-        below = well.typed.below;
-        kept = held_bound s (places_of s.image s.process) c.kept.places place shape at well.typed.kept refers lies;
-      };
-      few = well.few;
-    }
+    well_bound place shape at c well refers lies = well_kept s most c (slice_set c.kept.places place (Refers at)) well (held_bound s (places_of s.image s.process) c.kept.places place shape at well.typed.kept refers lies)
 
     pub Typed-bind : (place : ℕ) (stack : List Operand) (c : Core) (after : Sorts) → Onward s most c after → AllLead s stack → bound_sorts s.image block place (sorts_of stack) ≡ Some after → Typed s most (act_bind place stack c)
     Typed-bind place [] c after on lead e = absurd (cc)
@@ -151,15 +129,4 @@ module _ (s : Setting) (most : ℕ) (same : s.tables ≡ tables_of s.image) wher
 
   -- CLEAR
   pub Typed-clear : (place count : ℕ) (c : Core) → AreHeld s (places_of s.image s.process) s.firsts → Well s most (going (suc c.at) c.stack c) → Typed s most (act_clear s place count c)
-  Typed-clear place count c first well = moves s most _ (record {
-    typed = record {
-      number = well.typed.number;
-      inside = well.typed.inside;
-      stands = well.typed.stands;
-      lead = well.typed.lead;
-      enter = well.typed.enter;
-      below = well.typed.below;
-      kept = held_cleared s (places_of s.image s.process) c.kept.places place count first well.typed.kept;
-    };
-    few = well.few;
-  })
+  Typed-clear place count c first well = moves s most _ (well_kept s most (going (suc c.at) c.stack c) (cleared s.firsts place count c.kept.places) well (held_cleared s (places_of s.image s.process) c.kept.places place count first well.typed.kept))

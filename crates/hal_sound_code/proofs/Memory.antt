@@ -21,7 +21,7 @@ use Rattle.hal_code.specs.Sorts.{same_kind}
 use Rattle.hal_sound_code.specs.Lying.{LieAt}
 use Rattle.hal_sound_code.proofs.Places.{First, first_lies}
 
-both_true : (a b : Bool) → a ≡ true → b ≡ true → (a && b) ≡ true
+pub both_true : (a b : Bool) → a ≡ true → b ≡ true → (a && b) ≡ true
 both_true true true e f = refl
 both_true true false e f = absurd (cc)
 both_true false b e f = absurd (cc)

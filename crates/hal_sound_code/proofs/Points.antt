@@ -92,7 +92,7 @@ no_and : (last rest : Bool) → last ≡ false → (last && rest) ≡ true → �
 no_and true rest e is = cc
 no_and false rest e is = cc
 
-not_both : (b : Bool) → b ≡ true → b ≡ false → ⊥
+pub not_both : (b : Bool) → b ≡ true → b ≡ false → ⊥
 not_both true one other = cc
 not_both false one other = cc
 

@@ -12,7 +12,7 @@ use Rattle.hal_values.specs.declared.value.Value.{Value}
 use Rattle.hal_values.specs.Answers.{error}
 use Rattle.hal_values.specs.Searching.{Found, BySystem, Ignored, ByStatement, search}
 use Rattle.hal_values.specs.Tables.{event_count}
-use Rattle.hal_states.specs.Spots.{Spot, Shared, Own, Nowhere}
+use Rattle.hal_states.specs.Spots.{Holds, Spot, Shared, Own, Nowhere}
 use Rattle.hal_states.specs.OfKinds.{of_kind}
 use Rattle.hal_states.specs.Modes.{Mode, mode, are_spent, has_bit, noted}
 use Rattle.hal_states.specs.Times.{Again, is_again}
@@ -21,7 +21,8 @@ use Rattle.hal_code.specs.Cores.{Setting, Core, all_entered, Rest, Goes, Puts, A
 use Rattle.hal_code.specs.Raising.{stuck, changed_event, sided, cut, turned_in, turned, entered_at, meets, failing, raised_to, raised, put_cell, put, tried_plan, planned, rested, raised_before}
 use Rattle.hal_sound_code.specs.Typed.{IsKept, IsTyped, MayHold, IsError, IsAsked, IsLeft, IsReady}
 use Rattle.hal_sound_code.proofs.Places.{first_lies, held_set}
-use Rattle.hal_sound_code.proofs.Stepping.{Well, Typed, typed_with, stops, moves, counts, awaits, goes_on, either}
+use Rattle.hal_sound_code.proofs.Stepping.{well_kept, Well, Typed, typed_with, stops, moves, counts, awaits, goes_on, either}
+use Rattle.hal_sound_code.proofs.Points.{not_both}
 use Rattle.hal_sound_code.proofs.Entering.{Entered, leads_below}
 
 -- a change of an event is asked for
@@ -58,11 +59,7 @@ module _ (s : Setting) (most : ℕ) where
   Typed-turned spent c well none = Typed-turned_in c.mode.groups c.mode.turns spent c well.typed well.few none
 
   Typed-entered : (c : Core) → Entered s most c → Typed s most (entered_at c)
-  Typed-entered c is = Typed-turned (stuck c) c is.well (λ spent. absurd (no (are_spent c.mode.groups c.mode.turns) spent is.unspent))
-    where
-      no : (b : Bool) → b ≡ true → b ≡ false → ⊥
-      no true one other = cc
-      no false one other = cc
+  Typed-entered c is = Typed-turned (stuck c) c is.well (λ spent. absurd (not_both (are_spent c.mode.groups c.mode.turns) spent is.unspent))
 
   Typed-statement : (e : ErrNo) (level place : ℕ) (c : Core) → Well s most c → search (are_spent c.mode.groups c.mode.turns) (all_entered c.entries c.frames) e ≡ ByStatement level place → Typed s most (entered_at (cut level place c.frames c))
   Typed-statement e level place c well found = at_level (leads_below s most e c.frames c well.typed.number well.typed.inside (are_spent c.mode.groups c.mode.turns) 0 level place well.typed.enter well.typed.below well.typed.kept well.few refl found)
@@ -103,18 +100,7 @@ module _ (s : Setting) (most : ℕ) where
       at_cell : (o : Option Cell) → Typed s most (elim o [ None ↦ Moves c | Some cell ↦ put_cell number cell (of_kind cell.kind v) c.mode.groups c ])
       at_cell None = moves s most c well
       at_cell (Some cell) = Typed-put_cell number cell (of_kind cell.kind v) c.mode.groups c well
-  Typed-put (Own number) v c well may = moves s most _ (record {
-    typed = record {
-      number = well.typed.number;
-      inside = well.typed.inside;
-      stands = well.typed.stands;
-      lead = well.typed.lead;
-      enter = well.typed.enter;
-      below = well.typed.below;
-      kept = held_set s (places_of s.image s.process) c.kept.places number may.0 v well.typed.kept (first_lies _ number may.0 [] may.1).there may.2;
-    };
-    few = well.few;
-  })
+  Typed-put (Own number) v c well may = moves s most _ (well_kept s most c (slice_set c.kept.places number (Holds v)) well (held_set s (places_of s.image s.process) c.kept.places number may.0 v well.typed.kept (first_lies _ number may.0 [] may.1).there may.2))
   Typed-put Nowhere v c well may = moves s most c well
 
   Typed-plan : (plan : Plan) (c : Core) → Well s most c → Typed s most (tried_plan plan c)

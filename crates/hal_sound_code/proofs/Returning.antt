@@ -1,6 +1,6 @@
 -- The ends of blocks, UPDATE blocks, and entries for errors fit.
 use Rattle.std.specs.Prelude.{ℕ, suc, ◌≡◌, nat_le, Bool, true, false, not, ◌&&◌, List, [], ◌∷◌, Option, Some, None, slice_get}
-use Rattle.std.proofs.Common.{refl, subst}
+use Rattle.std.proofs.Common.{refl, sym, subst}
 use Rattle.std.proofs.lemmas.Bool.{leb-true, and_parts}
 use Rattle.hal_values.specs.declared.environment.Entry.{Entry}
 use Rattle.hal_values.specs.declared.environment.Side.{Side}
@@ -27,7 +27,8 @@ use Rattle.hal_sound_code.specs.Lying.{sorts_of}
 use Rattle.hal_sound_code.specs.Standing.{Stands, Enters, AllEnter, AreBelow}
 use Rattle.hal_sound_code.proofs.Controlling.{Typed-returned, without_enter}
 use Rattle.hal_sound_code.proofs.Entering.{Under}
-use Rattle.hal_sound_code.proofs.Points.{flow, Faces, entry_stands}
+use Rattle.hal_sound_code.proofs.Points.{not_both, flow, Faces, entry_stands}
+use Rattle.hal_sound_code.proofs.Taking.{some_is}
 use Rattle.hal_sound_code.proofs.Raising.{Typed-raised}
 use Rattle.hal_sound_code.proofs.Stepping.{Well, Typed, moves, awaits}
 
@@ -44,10 +45,6 @@ close_inside : (out : List Bool) (inside : Bool) → stands_right out inside ins
 close_inside out true e = refl
 close_inside out false e = absurd (cc)
 
-no_both : (b : Bool) → b ≡ true → b ≡ false → ⊥
-no_both true one other = cc
-no_both false one other = cc
-
 not_true : (b : Bool) → not b ≡ true → b ≡ false
 not_true true e = absurd (cc)
 not_true false e = refl
@@ -55,11 +52,11 @@ not_true false e = refl
 module _ (s : Setting) (most : ℕ) (c : Core) (well : Well s most c) where
   Typed-back : (frames : List Frame) (number : ℕ) (inside : Bool) (block : Block) (after : Sorts) → AreBelow s number inside frames → slice_get s.image.blocks number ≡ Some block → is_of_process s.image number ≡ false → inside ≡ false
       → returned_sorts block.result (sorts_of c.stack) ≡ Some after → Typed s most (act_return frames c)
-  Typed-back [] number inside block after below row other outside e = absurd (no_both (is_of_process s.image number) below.1 other)
+  Typed-back [] number inside block after below row other outside e = absurd (not_both (is_of_process s.image number) below.1 other)
   Typed-back (f ∷ fs) number inside block after below row other outside e = at_back f.back below
     where
       at_back : (back : Option Return) → Under s number inside f.entries fs back → Typed s most (elim back [ None ↦ stuck c | Some one ↦ returned one.result c.stack one f.entries fs c ])
-      at_back None under = absurd (no_both inside under.0 outside)
+      at_back None under = absurd (not_both inside under.0 outside)
       at_back (Some back) under =
           Typed-returned s most c well.typed.kept well.few under.1.caller under.1.within back f.entries fs block.result back.result c.stack after (under.1.result block row) e under.1.stands under.1.lead under.1.enter under.1.below
 
@@ -68,7 +65,7 @@ module _ (s : Setting) (most : ℕ) (c : Core) (well : Well s most c) where
       Typed-back c.frames well.typed.number well.typed.inside f.block f.after well.typed.below f.row (not_true (is_of_process s.image well.typed.number) f.framed) (return_outside (outward s.image) well.typed.inside f.placed) f.stack
 
   Typed-shut : (frames : List Frame) → AreBelow s well.typed.number well.typed.inside frames → well.typed.inside ≡ true → Stands s well.typed.number false (suc c.at) (sorts_of c.stack) → Typed s most (act_close frames c)
-  Typed-shut [] below in_block stands = absurd (no_both well.typed.inside in_block below.0)
+  Typed-shut [] below in_block stands = absurd (not_both well.typed.inside in_block below.0)
   Typed-shut (f ∷ fs) below in_block stands = at_back f.back below
     where
       at_back : (back : Option Return) → Under s well.typed.number well.typed.inside f.entries fs back → Typed s most (elim back [ None ↦ Moves (core (suc c.at) c.stack c.line f.entries fs c.kept (closed c.mode)) | Some one ↦ stuck c ])
@@ -76,28 +73,22 @@ module _ (s : Setting) (most : ℕ) (c : Core) (well : Well s most c) where
         typed = record { number = well.typed.number; inside = false; stands = stands; lead = well.typed.lead; enter = under.1; below = under.2; kept = well.typed.kept };
         few = well.few;
       })
-      at_back (Some back) under = absurd (no_both well.typed.inside in_block under.0)
+      at_back (Some back) under = absurd (not_both well.typed.inside in_block under.0)
 
   pub Typed-close : (f : Faces s well.typed.number well.typed.inside c.at (sorts_of c.stack) instr.Close) → Typed s most (act_close c.frames c)
-  Typed-close f = Typed-shut c.frames well.typed.below (close_inside (outward s.image) well.typed.inside f.placed) (subst (λ sorts. Stands s well.typed.number false (suc c.at) sorts) (let same : f.after ≡ sorts_of c.stack = same_after f.after (sorts_of c.stack) f.stack in same) (f.onward refl))
-    where
-      same_after : (after sorts : Sorts) → Some sorts ≡ Some after → after ≡ sorts
-      same_after after sorts e = cc
+  Typed-close f = Typed-shut c.frames well.typed.below (close_inside (outward s.image) well.typed.inside f.placed) (subst (λ sorts. Stands s well.typed.number false (suc c.at) sorts) (sym (some_is (sorts_of c.stack) f.after f.stack)) (f.onward refl))
 
   pub Typed-open : (groups : ℕ) (f : Faces s well.typed.number well.typed.inside c.at (sorts_of c.stack) (instr.Open groups)) → Typed s most (act_open groups c)
   Typed-open groups f = awaits s most (request.Update groups) (Opens groups) _ (λ h. cc) well.typed.kept (record {
     number = well.typed.number;
     inside = true;
-    stands = subst (λ sorts. Stands s well.typed.number true (suc c.at) sorts) (same_after f.after (sorts_of c.stack) f.stack) (f.onward refl);
+    stands = subst (λ sorts. Stands s well.typed.number true (suc c.at) sorts) (sym (some_is (sorts_of c.stack) f.after f.stack)) (f.onward refl);
     lead = well.typed.lead;
     enter = tt;
     below = (refl, subst (λ inside. AllEnter s well.typed.number inside c.entries) outside well.typed.enter, subst (λ inside. AreBelow s well.typed.number inside c.frames) outside well.typed.below);
     kept = well.typed.kept;
   })
     where
-      same_after : (after sorts : Sorts) → Some sorts ≡ Some after → after ≡ sorts
-      same_after after sorts e = cc
-
       outside : well.typed.inside ≡ false
       outside = open_outside (outward s.image) well.typed.inside groups f.placed
 

@@ -4,9 +4,11 @@ use Rattle.std.proofs.Common.{refl, ap, arith}
 use Rattle.hal_values.specs.declared.environment.ErrNo.{ErrNo}
 use Rattle.hal_values.specs.declared.request.Request.{Request}
 use Rattle.hal_values.specs.declared.request.Request.TheVariants as request
-use Rattle.hal_states.specs.Spots.{kept}
+use Rattle.hal_states.specs.Spots.{Held, kept}
 use Rattle.hal_states.specs.Modes.{Mode}
-use Rattle.hal_code.specs.Cores.{Setting, Core, core, Goes, Wait, Then, Step, Waits, Moves, Counts}
+use Rattle.hal_code.specs.Images.{places_of}
+use Rattle.hal_code.specs.Cores.{with_kept, Setting, Core, core, Goes, Wait, Then, Step, Waits, Moves, Counts}
+use Rattle.hal_sound_code.specs.Lying.{AreHeld}
 use Rattle.hal_sound_code.specs.Typed.{IsKept, IsTyped, IsError, IsAsked, IsReady, Awaits}
 
 -- a core that fits, with at most so many turns left
@@ -26,6 +28,13 @@ pub record Typed (s : Setting) (most : ℕ) (step : Step) : Type 0 where
 -- other lines, modes and last errors
 pub typed_with : (s : Setting) (c : Core) (line : List ℕ) (m : Mode) (last : ErrNo) → IsTyped s c → IsTyped s (core c.at c.stack line c.entries c.frames (kept c.kept.places last) m)
 typed_with s c line m last is = record { number = is.number; inside = is.inside; stands = is.stands; lead = is.lead; enter = is.enter; below = is.below; kept = is.kept }
+
+-- other values of own places
+pub well_kept : (s : Setting) (most : ℕ) (c : Core) (places : List Held) → Well s most c → AreHeld s (places_of s.image s.process) places → Well s most (with_kept (kept places c.kept.last) c)
+well_kept s most c places well are = record {
+  typed = record { number = well.typed.number; inside = well.typed.inside; stands = well.typed.stands; lead = well.typed.lead; enter = well.typed.enter; below = well.typed.below; kept = are };
+  few = well.few;
+}
 
 -- the group of the error with which a process ends
 abbrev group_of : Request → ℕ
