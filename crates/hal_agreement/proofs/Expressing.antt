@@ -34,7 +34,6 @@ use Rattle.hal_meaning.specs.Variables.{Meant, MeantData, MeantConstant, MeantEv
 use Rattle.hal_meaning.specs.Expressions.{literal_value, is_condition, are_conditions, becomes_condition, as_operand, apply_one, apply_two, signed, exponent_of, operation_of_relation, operation_of_sign, operation_of_conversion, is_size, event_value, alone_value, plain_value, built, sizes_named, size_argument, inputs_at, call_form, subscripted, expression, joined, folded, summed, values, passed, referred, data_chosen, component}
 use Rattle.hal_meaning.specs.Tasks.{Meaning}
 use Rattle.hal_code.specs.declared.choice.Choice.TheVariants as choice
-use Rattle.hal_code.specs.declared.image.ImageParts.{ImageParts}
 use Rattle.hal_code.specs.declared.instr.Instr.{Instr}
 use Rattle.hal_code.specs.declared.instr.Instr.TheVariants as instr
 use Rattle.hal_code.specs.declared.row.Base.{Base}
@@ -44,8 +43,11 @@ use Rattle.hal_code.specs.Cores.{Operand, Val, At, Core, going, Pushes, Setting,
 use Rattle.hal_code.specs.Raising.{stuck}
 use Rattle.hal_code.specs.Addressing.{spot_of, pushed, cell_viewed, act_cell}
 use Rattle.hal_code.specs.Machine.{act}
+use Rattle.hal_agreement.specs.Codes.{Code}
 use Rattle.hal_agreement.specs.Sites.{Site, site_of, here_at}
 use Rattle.hal_agreement.specs.PlacedExpressions.{Has, One, pushes, two, IsPlain, AddressAt, AloneAt, ValueAt, NameAt, ReferenceAt, SignAt, stay, ExpressionAt, FoldedAt, TermsAt, CalledAt, BuiltAt}
+use Rattle.hal_agreement.proofs.Calling.{function_reaches}
+use Rattle.hal_agreement.proofs.Knowing.{Sound}
 use Rattle.hal_agreement.proofs.Leading.{stays}
 use Rattle.hal_agreement.proofs.Reaching.{Nest, setting, core_at, Reaches, bind_reaches, acts}
 use Rattle.hal_agreement.proofs.Raising.{Standing, bind_bind, asks_then, tested_reaches, read_reaches}
@@ -89,264 +91,263 @@ as_it_is : (b : Bool) (v : Value) → not b ≡ true → as_operand b v ≡ v
 as_it_is true v is = absurd (cc)
 as_it_is false v is = refl
 
-module _ (image : ImageParts) (begin : ℕ) (h : Here) (n : Nest) (standing : Standing h n) where
+module _ (code : Code) (begin : ℕ) (rec : Meaning) (sound : Sound code begin rec) (h : Here) (n : Nest) (standing : Standing code h n) where
   -- a value is left on the stack, and control goes on there
   abbrev pub ValuesAt : ℕ → List Operand → List ℕ → Step → List Answered → Evaluated Value → Type 0
-  ValuesAt to stack line step left r = Reaches (setting image begin h) n (λ v st. Some (Moves (core_at to (Val v ∷ stack) line n st))) step left r
+  ValuesAt to stack line step left r = Reaches (setting code begin h) n (λ v st. Some (Moves (core_at to (Val v ∷ stack) line n st))) step left r
 
   -- from an instruction on, with these operands
   abbrev pub From : ℕ → List Operand → List ℕ → State → Step
   From at stack line st = Moves (core_at at stack line n st)
 
   gives : (to : ℕ) (stack : List Operand) (line : List ℕ) (v : Value) (st : State) → ValuesAt to stack line (From to (Val v ∷ stack) line st) st.left (Gives v st)
-  gives to stack line v st = record { holds = stays (setting image begin h) _ st.left }
+  gives to stack line v st = record { holds = stays (setting code begin h) _ st.left }
 
   -- an instruction that is the last one
-  last : (i : Instr) (at to : ℕ) (before stack : List Operand) (line : List ℕ) (st : State) (r : Evaluated Value) → One image at i to
-      → ValuesAt (suc at) stack line (act (setting image begin h) i (core_at at before line n st)) st.left r → ValuesAt to stack line (From at before line st) st.left r
+  last : (i : Instr) (at to : ℕ) (before stack : List Operand) (line : List ℕ) (st : State) (r : Evaluated Value) → One code at i to
+      → ValuesAt (suc at) stack line (act (setting code begin h) i (core_at at before line n st)) st.left r → ValuesAt to stack line (From at before line st) st.left r
   last i at to before stack line st r one is =
       subst (λ end. ValuesAt end stack line (From at before line st) st.left r) one.1
-      (acts (setting image begin h) n (λ v after. Some (Moves (core_at (suc at) (Val v ∷ stack) line n after))) (core_at at before line n st) st.left i r one.0 is)
+      (acts (setting code begin h) n (λ v after. Some (Moves (core_at (suc at) (Val v ∷ stack) line n after))) (core_at at before line n st) st.left i r one.0 is)
 
   -- a value is followed by something
   then_reaches : (middle to : ℕ) (under stack : List Operand) (line : List ℕ) (step : Step) (left : List Answered) (r : Evaluated Value) (go : Value → State → Evaluated Value)
       → ValuesAt middle under line step left r → ((v : Value) (st : State) → ValuesAt to stack line (From middle (Val v ∷ under) line st) st.left (go v st)) → ValuesAt to stack line step left (bind r go)
   then_reaches middle to under stack line step left r go is each =
-      bind_reaches (setting image begin h) n (λ v st. From middle (Val v ∷ under) line st) (λ v st. Some (Moves (core_at to (Val v ∷ stack) line n st))) step left r go is each
+      bind_reaches (setting code begin h) n (λ v st. From middle (Val v ∷ under) line st) (λ v st. Some (Moves (core_at to (Val v ∷ stack) line n st))) step left r go is each
 
-  pushed_reaches : (v : Value) (at : ℕ) (stack : List Operand) (line : List ℕ) (st : State) → ValuesAt (suc at) stack line (act (setting image begin h) (pushes v) (core_at at stack line n st)) st.left (Gives v st)
+  pushed_reaches : (v : Value) (at : ℕ) (stack : List Operand) (line : List ℕ) (st : State) → ValuesAt (suc at) stack line (act (setting code begin h) (pushes v) (core_at at stack line n st)) st.left (Gives v st)
   pushed_reaches (value.Int a) at stack line st = gives (suc at) stack line (value.Int a) st
   pushed_reaches (value.Bits len word) at stack line st = gives (suc at) stack line (value.Bits len word) st
   pushed_reaches (value.Text text) at stack line st = gives (suc at) stack line (value.Text text) st
 
   -- a value that is written in the code
-  pub constant_reaches : (v : Value) (from to : ℕ) (stack : List Operand) (line : List ℕ) (st : State) → One image from (pushes v) to → ValuesAt to stack line (From from stack line st) st.left (Gives v st)
+  pub constant_reaches : (v : Value) (from to : ℕ) (stack : List Operand) (line : List ℕ) (st : State) → One code from (pushes v) to → ValuesAt to stack line (From from stack line st) st.left (Gives v st)
   constant_reaches v from to stack line st one = last (pushes v) from to stack stack line st (Gives v st) one (pushed_reaches v from stack line st)
 
-  one_reaches : (op : Op1) (at to : ℕ) (v : Value) (stack : List Operand) (line : List ℕ) (st : State) → One image at (instr.Op1 (choice.Known op)) to → ValuesAt to stack line (From at (Val v ∷ stack) line st) st.left (apply_one h op v st)
+  one_reaches : (op : Op1) (at to : ℕ) (v : Value) (stack : List Operand) (line : List ℕ) (st : State) → One code at (instr.Op1 (choice.Known op)) to → ValuesAt to stack line (From at (Val v ∷ stack) line st) st.left (apply_one h op v st)
   one_reaches op at to v stack line st one =
       last (instr.Op1 (choice.Known op)) at to (Val v ∷ stack) stack line st (apply_one h op v st) one
-      (tested_reaches image begin h n standing (value_of_one op v) (mended_of_one op v) at (Val v ∷ stack) stack line st)
+      (tested_reaches code begin h n standing (value_of_one op v) (mended_of_one op v) at (Val v ∷ stack) stack line st)
 
-  two_reaches : (op : Op2) (at to : ℕ) (v w : Value) (stack : List Operand) (line : List ℕ) (st : State) → One image at (two op) to → ValuesAt to stack line (From at (Val w ∷ Val v ∷ stack) line st) st.left (apply_two h op v w st)
+  two_reaches : (op : Op2) (at to : ℕ) (v w : Value) (stack : List Operand) (line : List ℕ) (st : State) → One code at (two op) to → ValuesAt to stack line (From at (Val w ∷ Val v ∷ stack) line st) st.left (apply_two h op v w st)
   two_reaches op at to v w stack line st one =
       last (two op) at to (Val w ∷ Val v ∷ stack) stack line st (apply_two h op v w st) one
-      (tested_reaches image begin h n standing (value_of_two op v w) (mended_of_two op v w) at (Val w ∷ Val v ∷ stack) stack line st)
+      (tested_reaches code begin h n standing (value_of_two op v w) (mended_of_two op v w) at (Val w ∷ Val v ∷ stack) stack line st)
 
   -- CELL with a view of one cell
   plain_view : (b : Base) (k : Kind) (spot : Spot) (c : Core) → spot_of b c.kept.places ≡ spot
-      → cell_viewed (setting image begin h) (record { base = b; dimensions = []; target = target.Cell k }) c ≡ Moves (going (suc c.at) (At spot k ∷ c.stack) c)
+      → cell_viewed (setting code begin h) (record { base = b; dimensions = []; target = target.Cell k }) c ≡ Moves (going (suc c.at) (At spot k ∷ c.stack) c)
   plain_view b k spot c is = ap (λ at. Moves (going (suc c.at) (At at k ∷ c.stack) c)) (further_none (spot_of b c.kept.places) ∙ is)
 
-  viewed : (view : View) (k : Kind) (spot : Spot) (c : Core) → IsPlain view c.kept.places k spot → cell_viewed (setting image begin h) view c ≡ Moves (going (suc c.at) (At spot k ∷ c.stack) c)
+  viewed : (view : View) (k : Kind) (spot : Spot) (c : Core) → IsPlain view c.kept.places k spot → cell_viewed (setting code begin h) view c ≡ Moves (going (suc c.at) (At spot k ∷ c.stack) c)
   viewed view k spot c is =
-      subst (λ ds. cell_viewed (setting image begin h) (record { base = view.base; dimensions = ds; target = view.target }) c ≡ Moves (going (suc c.at) (At spot k ∷ c.stack) c)) (sym is.dimensions)
-      (subst (λ t. cell_viewed (setting image begin h) (record { base = view.base; dimensions = []; target = t }) c ≡ Moves (going (suc c.at) (At spot k ∷ c.stack) c)) (sym is.target)
+      subst (λ ds. cell_viewed (setting code begin h) (record { base = view.base; dimensions = ds; target = view.target }) c ≡ Moves (going (suc c.at) (At spot k ∷ c.stack) c)) (sym is.dimensions)
+      (subst (λ t. cell_viewed (setting code begin h) (record { base = view.base; dimensions = []; target = t }) c ≡ Moves (going (suc c.at) (At spot k ∷ c.stack) c)) (sym is.target)
       (plain_view view.base k spot c is.base))
 
-  cell_acts : (number : ℕ) (view : View) (k : Kind) (spot : Spot) (c : Core) → slice_get image.views number ≡ Some view → IsPlain view c.kept.places k spot
-      → act_cell (setting image begin h) number c ≡ Moves (going (suc c.at) (At spot k ∷ c.stack) c)
+  cell_acts : (number : ℕ) (view : View) (k : Kind) (spot : Spot) (c : Core) → slice_get code.image.views number ≡ Some view → IsPlain view c.kept.places k spot
+      → act_cell (setting code begin h) number c ≡ Moves (going (suc c.at) (At spot k ∷ c.stack) c)
   cell_acts number view k spot c row is =
-      ap (λ o. elim o [ None ↦ stuck c | Some found ↦ cell_viewed (setting image begin h) found c ]) row ∙ viewed view k spot c is
+      ap (λ o. elim o [ None ↦ stuck c | Some found ↦ cell_viewed (setting code begin h) found c ]) row ∙ viewed view k spot c is
 
   -- the address of a cell
-  pub address_reaches : {A : Type 0} (fine : A → State → Option Step) (k : Kind) (spot : Spot) (from : ℕ) (stack : List Operand) (line : List ℕ) (st : State) (r : Evaluated A) → AddressAt image st.kept.places k spot from
-      → Reaches (setting image begin h) n fine (From (suc from) (At spot k ∷ stack) line st) st.left r → Reaches (setting image begin h) n fine (From from stack line st) st.left r
+  pub address_reaches : {A : Type 0} (fine : A → State → Option Step) (k : Kind) (spot : Spot) (from : ℕ) (stack : List Operand) (line : List ℕ) (st : State) (r : Evaluated A) → AddressAt code st.kept.places k spot from
+      → Reaches (setting code begin h) n fine (From (suc from) (At spot k ∷ stack) line st) st.left r → Reaches (setting code begin h) n fine (From from stack line st) st.left r
   address_reaches fine k spot from stack line st r at is =
-      acts (setting image begin h) n fine (core_at from stack line n st) st.left (instr.Cell at.number) r at.cell
-      (subst (λ step. Reaches (setting image begin h) n fine step st.left r) (sym (cell_acts at.number at.view k spot (core_at from stack line n st) at.row at.plain)) is)
+      acts (setting code begin h) n fine (core_at from stack line n st) st.left (instr.Cell at.number) r at.cell
+      (subst (λ step. Reaches (setting code begin h) n fine step st.left r) (sym (cell_acts at.number at.view k spot (core_at from stack line n st) at.row at.plain)) is)
 
   -- the value of data
-  data_reaches : (k : Kind) (spot : Spot) (from to : ℕ) (stack : List Operand) (line : List ℕ) (st : State) → AddressAt image st.kept.places k spot from → One image (suc from) instr.Fetch to
+  data_reaches : (k : Kind) (spot : Spot) (from to : ℕ) (stack : List Operand) (line : List ℕ) (st : State) → AddressAt code st.kept.places k spot from → One code (suc from) instr.Fetch to
       → ValuesAt to stack line (From from stack line st) st.left (read h k spot st)
   data_reaches k spot from to stack line st at fetch =
       address_reaches (λ v after. Some (Moves (core_at to (Val v ∷ stack) line n after))) k spot from stack line st (read h k spot st) at
-      (last instr.Fetch (suc from) to (At spot k ∷ stack) stack line st (read h k spot st) fetch (read_reaches image begin h n standing (suc from) (At spot k ∷ stack) stack line k spot st))
+      (last instr.Fetch (suc from) to (At spot k ∷ stack) stack line st (read h k spot st) fetch (read_reaches code begin h n standing (suc from) (At spot k ∷ stack) stack line k spot st))
 
   event_in : (b : Bool) (e from : ℕ) (stack : List Operand) (line : List ℕ) (st : State)
       → ValuesAt (suc from) stack line (if b then Waits (request.Read (asked.Event e)) (Pushes (kind.Bits 1)) (core_at (suc from) stack line n st) else pushed (value.Bits 1 0) stack (core_at from stack line n st)) st.left
       (if b then bind (ask (request.Read (asked.Event e)) st) (λ answer after. Gives (told (kind.Bits 1) answer) after) else Gives (value.Bits 1 0) st)
   event_in true e from stack line st =
-      asks_then image begin h n _ (request.Read (asked.Event e)) (Pushes (kind.Bits 1)) (core_at (suc from) stack line n st) st.entries st.left (λ a after. Gives a after) (λ a after. Gives (told (kind.Bits 1) a) after)
-      (λ a rest. record { holds = stays (setting image begin h) _ rest })
+      asks_then code begin h n _ (request.Read (asked.Event e)) (Pushes (kind.Bits 1)) (core_at (suc from) stack line n st) st.entries st.left (λ a after. Gives a after) (λ a after. Gives (told (kind.Bits 1) a) after)
+      (λ a rest. record { holds = stays (setting code begin h) _ rest })
   event_in false e from stack line st = gives (suc from) stack line (value.Bits 1 0) st
 
-  event_reaches : (e from to : ℕ) (stack : List Operand) (line : List ℕ) (st : State) → One image from (instr.Event e) to → ValuesAt to stack line (From from stack line st) st.left (event_value h e st)
+  event_reaches : (e from to : ℕ) (stack : List Operand) (line : List ℕ) (st : State) → One code from (instr.Event e) to → ValuesAt to stack line (From from stack line st) st.left (event_value h e st)
   event_reaches e from to stack line st one =
       last (instr.Event e) from to stack stack line st (event_value h e st) one (event_in (nat_lt e (event_count h.set.tables)) e from stack line st)
 
-  alone_reaches : (b : Builtin) (from to : ℕ) (stack : List Operand) (line : List ℕ) (st : State) → AloneAt image b from to → ValuesAt to stack line (From from stack line st) st.left (alone_value b st)
+  alone_reaches : (b : Builtin) (from to : ℕ) (stack : List Operand) (line : List ℕ) (st : State) → AloneAt code b from to → ValuesAt to stack line (From from stack line st) st.left (alone_value b st)
   alone_reaches builtin.Errgrp from to stack line st one =
       last instr.ErrGrp from to stack stack line st (Gives (value.Int (pos st.kept.last.group)) st) one (gives (suc from) stack line (value.Int (pos st.kept.last.group)) st)
   alone_reaches builtin.Errnum from to stack line st one =
       last instr.ErrNum from to stack stack line st (Gives (value.Int (pos st.kept.last.number)) st) one (gives (suc from) stack line (value.Int (pos st.kept.last.number)) st)
   alone_reaches builtin.Runtime from to stack line st one =
       last instr.Now from to stack stack line st (alone_value builtin.Runtime st) one
-      (asks_then image begin h n _ request.Now (Pushes kind.Double) (core_at (suc from) stack line n st) st.entries st.left (λ a after. Gives a after) (λ a after. Gives (told kind.Double a) after)
-      (λ a rest. record { holds = stays (setting image begin h) _ rest }))
+      (asks_then code begin h n _ request.Now (Pushes kind.Double) (core_at (suc from) stack line n st) st.entries st.left (λ a after. Gives a after) (λ a after. Gives (told kind.Double a) after)
+      (λ a rest. record { holds = stays (setting code begin h) _ rest }))
   alone_reaches other from to stack line st one = absurd one
 
   -- what a name means, without subscripts
-  value_reaches : (rec : Meaning) (path : List Naming) (m : Meant) (from to : ℕ) (stack : List Operand) (line : List ℕ) (st : State) → ValueAt image path st.kept.places m from to
+  value_reaches : (path : List Naming) (m : Meant) (from to : ℕ) (stack : List Operand) (line : List ℕ) (st : State) → ValueAt code h.set path st.kept.places m from to
       → ValuesAt to stack line (From from stack line st) st.left (plain_value rec h path m st)
-  value_reaches rec path (MeantData at shape) from to stack line st here =
+  value_reaches path (MeantData at shape) from to stack line st here =
       data_reaches (kind_of_first (chosen path shape.components)) (further (offset path shape.components) at) from to stack line st here.0 here.1
-  value_reaches rec path (MeantConstant v) from to stack line st here = constant_reaches v from to stack line st here
-  value_reaches rec path (MeantEvent e) from to stack line st here = event_reaches e from to stack line st here
-  value_reaches rec path (MeantBlock unit) from to stack line st here = absurd here
-  value_reaches rec path (MeantBuiltin b) from to stack line st here = alone_reaches b from to stack line st here
-  value_reaches rec path MeantNothing from to stack line st here = absurd here
+  value_reaches path (MeantConstant v) from to stack line st here = constant_reaches v from to stack line st here
+  value_reaches path (MeantEvent e) from to stack line st here = event_reaches e from to stack line st here
+  value_reaches path (MeantBlock unit) from to stack line st here = function_reaches code begin rec sound h n standing unit from to stack line st here
+  value_reaches path (MeantBuiltin b) from to stack line st here = alone_reaches b from to stack line st here
+  value_reaches path MeantNothing from to stack line st here = absurd here
 
   -- and nothing more is done with it
   kept_reaches : (to : ℕ) (stack : List Operand) (line : List ℕ) (step : Step) (left : List Answered) (r : Evaluated Value) → ValuesAt to stack line step left r → ValuesAt to stack line step left (bind r (λ v after. Gives v after))
   kept_reaches to stack line step left r is = then_reaches to to stack stack line step left r (λ v after. Gives v after) is (λ v after. gives to stack line v after)
 
-  meant_reaches : (rec : Meaning) (path : List Naming) (m : Meant) (from to : ℕ) (stack : List Operand) (line : List ℕ) (st : State) → ValueAt image path st.kept.places m from to
+  meant_reaches : (path : List Naming) (m : Meant) (from to : ℕ) (stack : List Operand) (line : List ℕ) (st : State) → ValueAt code h.set path st.kept.places m from to
       → ValuesAt to stack line (From from stack line st) st.left
       (subscripted rec h path (λ at shape before. data_chosen rec h path Unsubscripted at shape before) (λ arrayed v after. component rec h arrayed Unsubscripted v after) m st)
-  meant_reaches rec path (MeantData at shape) from to stack line st here =
-      kept_reaches to stack line (From from stack line st) st.left _ (value_reaches rec path (MeantData at shape) from to stack line st here)
-  meant_reaches rec path (MeantConstant v) from to stack line st here = constant_reaches v from to stack line st here
-  meant_reaches rec path (MeantEvent e) from to stack line st here = kept_reaches to stack line (From from stack line st) st.left _ (event_reaches e from to stack line st here)
-  meant_reaches rec path (MeantBlock unit) from to stack line st here = absurd here
-  meant_reaches rec path (MeantBuiltin b) from to stack line st here = kept_reaches to stack line (From from stack line st) st.left _ (alone_reaches b from to stack line st here)
-  meant_reaches rec path MeantNothing from to stack line st here = absurd here
+  meant_reaches path (MeantData at shape) from to stack line st here =
+      kept_reaches to stack line (From from stack line st) st.left _ (value_reaches path (MeantData at shape) from to stack line st here)
+  meant_reaches path (MeantConstant v) from to stack line st here = constant_reaches v from to stack line st here
+  meant_reaches path (MeantEvent e) from to stack line st here = kept_reaches to stack line (From from stack line st) st.left _ (event_reaches e from to stack line st here)
+  meant_reaches path (MeantBlock unit) from to stack line st here = kept_reaches to stack line (From from stack line st) st.left _ (function_reaches code begin rec sound h n standing unit from to stack line st here)
+  meant_reaches path (MeantBuiltin b) from to stack line st here = kept_reaches to stack line (From from stack line st) st.left _ (alone_reaches b from to stack line st here)
+  meant_reaches path MeantNothing from to stack line st here = absurd here
 
   -- a reference without subscripts
-  referred_reaches : (rec : Meaning) (reference : Reference) (from to : ℕ) (stack : List Operand) (line : List ℕ) (st : State) → ReferenceAt image (site_of h) reference from to
+  referred_reaches : (reference : Reference) (from to : ℕ) (stack : List Operand) (line : List ℕ) (st : State) → ReferenceAt code (site_of h) reference from to
       → ValuesAt to stack line (From from stack line st) st.left (referred rec h reference st)
-  referred_reaches rec (Refers place name path Unsubscripted) from to stack line st here =
-      meant_reaches rec path (name_meant h name st.kept.places) from to stack line st
-      (subst (λ m. ValueAt image path st.kept.places m from to) (name_same h name st.kept.places) (here st.kept.places))
-  referred_reaches rec (Refers place name path (ByName at other)) from to stack line st here = absurd here
-  referred_reaches rec (Refers place name path (ByInteger at mark number)) from to stack line st here = absurd here
-  referred_reaches rec (Refers place name path (ByParts at copies arrays components)) from to stack line st here = absurd here
+  referred_reaches (Refers place name path Unsubscripted) from to stack line st here =
+      meant_reaches path (name_meant h name st.kept.places) from to stack line st
+      (subst (λ m. ValueAt code h.set path st.kept.places m from to) (name_same h name st.kept.places) (here st.kept.places))
+  referred_reaches (Refers place name path (ByName at other)) from to stack line st here = absurd here
+  referred_reaches (Refers place name path (ByInteger at mark number)) from to stack line st here = absurd here
+  referred_reaches (Refers place name path (ByParts at copies arrays components)) from to stack line st here = absurd here
 
   -- a sign before the first term
-  sign_reaches : (opening : Option Sign) (from to : ℕ) (v : Value) (stack : List Operand) (line : List ℕ) (st : State) → SignAt image opening from to
+  sign_reaches : (opening : Option Sign) (from to : ℕ) (v : Value) (stack : List Operand) (line : List ℕ) (st : State) → SignAt code opening from to
       → ValuesAt to stack line (From from (Val v ∷ stack) line st) st.left (signed h opening v st)
   sign_reaches (Some Minus) from to v stack line st one = one_reaches op1.Minus from to v stack line st one
   sign_reaches (Some Plus) from to v stack line st same = subst (λ end. ValuesAt end stack line (From from (Val v ∷ stack) line st) st.left (Gives v st)) same (gives from stack line v st)
   sign_reaches None from to v stack line st same = subst (λ end. ValuesAt end stack line (From from (Val v ∷ stack) line st) st.left (Gives v st)) same (gives from stack line v st)
 
   -- a power of what is written in the code
-  powered : (w : Value) (at to : ℕ) (v : Value) (stack : List Operand) (line : List ℕ) (st : State) → One image (suc at) (two op2.Power) to
-      → ValuesAt to stack line (act (setting image begin h) (pushes w) (core_at at (Val v ∷ stack) line n st)) st.left (apply_two h op2.Power v w st)
+  powered : (w : Value) (at to : ℕ) (v : Value) (stack : List Operand) (line : List ℕ) (st : State) → One code (suc at) (two op2.Power) to
+      → ValuesAt to stack line (act (setting code begin h) (pushes w) (core_at at (Val v ∷ stack) line n st)) st.left (apply_two h op2.Power v w st)
   powered (value.Int a) at to v stack line st one = two_reaches op2.Power (suc at) to v (value.Int a) stack line st one
   powered (value.Bits len word) at to v stack line st one = two_reaches op2.Power (suc at) to v (value.Bits len word) stack line st one
   powered (value.Text text) at to v stack line st one = two_reaches op2.Power (suc at) to v (value.Text text) stack line st one
 
   -- a name with a list, whose operands are known
-  called_reaches : (rec : Meaning) (size : Value) (inputs : ℕ → State → Evaluated (List Passed)) (items : State → Evaluated (List Value)) (multiplied : Value → State → Evaluated Value) (folded : ℕ → ℕ → Type 0) (made : Operation → ℕ → ℕ → Type 0)
+  called_reaches : (size : Value) (inputs : ℕ → State → Evaluated (List Passed)) (items : State → Evaluated (List Value)) (multiplied : Value → State → Evaluated Value) (folded : ℕ → ℕ → Type 0) (made : Operation → ℕ → ℕ → Type 0)
       (m : Meant) (from to : ℕ) (stack : List Operand) (line : List ℕ) (st : State)
       → ((middle : ℕ) (v : Value) (after : State) → folded middle to → ValuesAt to stack line (From middle (Val v ∷ stack) line after) after.left (multiplied v after))
       → ((op : Operation) → made op from to → ValuesAt to stack line (From from stack line st) st.left (bind (items st) (λ vs after. built h op vs after)))
-      → CalledAt image st.kept.places folded made m from to → ValuesAt to stack line (From from stack line st) st.left (call_form rec h size inputs items multiplied m st)
-  called_reaches rec size inputs items multiplied folded made (MeantBlock unit) from to stack line st products functions here = absurd here
-  called_reaches rec size inputs items multiplied folded made (MeantBuiltin b) from to stack line st products functions here =
+      → CalledAt code h.set st.kept.places folded made m from to → ValuesAt to stack line (From from stack line st) st.left (call_form rec h size inputs items multiplied m st)
+  called_reaches size inputs items multiplied folded made (MeantBlock unit) from to stack line st products functions here = absurd here
+  called_reaches size inputs items multiplied folded made (MeantBuiltin b) from to stack line st products functions here =
       subst (λ is. ValuesAt to stack line (From from stack line st) st.left (if is then Gives size st else bind (items st) (λ vs after. built h (operation_of b) vs after))) (sym here.0) (functions (operation_of b) here.1)
-  called_reaches rec size inputs items multiplied folded made (MeantData at shape) from to stack line st products functions here =
-      then_reaches here.0 to stack stack line _ _ _ _ (value_reaches rec [] (MeantData at shape) from here.0 stack line st here.1) (λ v after. products here.0 v after here.2)
-  called_reaches rec size inputs items multiplied folded made (MeantConstant v) from to stack line st products functions here =
-      then_reaches here.0 to stack stack line _ _ _ _ (value_reaches rec [] (MeantConstant v) from here.0 stack line st here.1) (λ w after. products here.0 w after here.2)
-  called_reaches rec size inputs items multiplied folded made (MeantEvent e) from to stack line st products functions here = absurd here
-  called_reaches rec size inputs items multiplied folded made MeantNothing from to stack line st products functions here = absurd here
+  called_reaches size inputs items multiplied folded made (MeantData at shape) from to stack line st products functions here =
+      then_reaches here.0 to stack stack line _ _ _ _ (value_reaches [] (MeantData at shape) from here.0 stack line st here.1) (λ v after. products here.0 v after here.2)
+  called_reaches size inputs items multiplied folded made (MeantConstant v) from to stack line st products functions here =
+      then_reaches here.0 to stack stack line _ _ _ _ (value_reaches [] (MeantConstant v) from here.0 stack line st here.1) (λ w after. products here.0 w after here.2)
+  called_reaches size inputs items multiplied folded made (MeantEvent e) from to stack line st products functions here = absurd here
+  called_reaches size inputs items multiplied folded made MeantNothing from to stack line st products functions here = absurd here
 
-  module _ (rec : Meaning) where
-    -- a value that is done with
-    done : (from to : ℕ) (v : Value) (stack : List Operand) (line : List ℕ) (st : State) → from ≡ to → ValuesAt to stack line (From from (Val v ∷ stack) line st) st.left (Gives v st)
-    done from to v stack line st same = subst (λ end. ValuesAt end stack line (From from (Val v ∷ stack) line st) st.left (Gives v st)) same (gives from stack line v st)
+  -- a value that is done with
+  done : (from to : ℕ) (v : Value) (stack : List Operand) (line : List ℕ) (st : State) → from ≡ to → ValuesAt to stack line (From from (Val v ∷ stack) line st) st.left (Gives v st)
+  done from to v stack line st same = subst (λ end. ValuesAt end stack line (From from (Val v ∷ stack) line st) st.left (Gives v st)) same (gives from stack line v st)
 
-    mutual
-      pub expression_reaches : (e : Expression) (from to : ℕ) (stack : List Operand) (line : List ℕ) (st : State) → ExpressionAt image (site_of h) e from to
-          → ValuesAt to stack line (From from stack line st) st.left (expression rec h e st)
-      expression_reaches (Or place first others) from to stack line st here =
-          then_reaches here.1.0 to stack stack line _ _ _ _ (expression_reaches first from here.1.0 stack line st here.1.1)
-          (λ v after. subst (λ w. ValuesAt to stack line (From here.1.0 (Val v ∷ stack) line after) after.left (joined rec h op2.Or (is_condition first || are_conditions others) w others after))
-          (sym (as_it_is (becomes_condition (is_condition first || are_conditions others) first) v (both_left _ _ here.0)))
-          (joined_reaches op2.Or (is_condition first || are_conditions others) others here.1.0 to v stack line after (both_right _ _ here.0) here.1.2))
-      expression_reaches (And place first others) from to stack line st here =
-          then_reaches here.1.0 to stack stack line _ _ _ _ (expression_reaches first from here.1.0 stack line st here.1.1)
-          (λ v after. subst (λ w. ValuesAt to stack line (From here.1.0 (Val v ∷ stack) line after) after.left (joined rec h op2.And (is_condition first || are_conditions others) w others after))
-          (sym (as_it_is (becomes_condition (is_condition first || are_conditions others) first) v (both_left _ _ here.0)))
-          (joined_reaches op2.And (is_condition first || are_conditions others) others here.1.0 to v stack line after (both_right _ _ here.0) here.1.2))
-      expression_reaches (Compare place left relation right) from to stack line st here =
-          then_reaches here.0 to stack stack line _ _ _ _ (expression_reaches left from here.0 stack line st here.2)
-          (λ v after. then_reaches here.1 to (Val v ∷ stack) stack line _ _ _ _ (expression_reaches right here.0 here.1 (Val v ∷ stack) line after here.3)
-          (λ w later. two_reaches (operation_of_relation relation) here.1 to v w stack line later here.4))
-      expression_reaches (Cat place first others) from to stack line st here =
-          then_reaches here.0 to stack stack line _ _ _ _ (expression_reaches first from here.0 stack line st here.1) (λ v after. folded_reaches op2.Cat others here.0 to v stack line after here.2)
-      expression_reaches (Sum place opening first others) from to stack line st here =
-          then_reaches here.0 to stack stack line _ _ _ _ (expression_reaches first from here.0 stack line st here.2)
-          (λ v after. then_reaches here.1 to stack stack line _ _ _ _ (sign_reaches opening here.0 here.1 v stack line after here.3) (λ w later. summed_reaches others here.1 to w stack line later here.4))
-      expression_reaches (Product place first others) from to stack line st here =
-          then_reaches here.0 to stack stack line _ _ _ _ (expression_reaches first from here.0 stack line st here.1) (λ v after. folded_reaches op2.Product others here.0 to v stack line after here.2)
-      expression_reaches (Power place base exponent) from to stack line st here =
-          then_reaches here.0 to stack stack line _ _ _ _ (expression_reaches base from here.0 stack line st here.1)
-          (λ v after. acts (setting image begin h) n _ (core_at here.0 (Val v ∷ stack) line n after) after.left (pushes (exponent_of exponent)) _ here.2 (powered (exponent_of exponent) here.0 to v stack line after here.3))
-      expression_reaches (Not place operand) from to stack line st here =
-          then_reaches here.0 to stack stack line _ _ _ _ (expression_reaches operand from here.0 stack line st here.1) (λ v after. one_reaches op1.Not here.0 to v stack line after here.2)
-      expression_reaches (Literal place literal) from to stack line st here = constant_reaches (literal_value literal) from to stack line st here
-      expression_reaches (Decimal place number) from to stack line st here = absurd here
-      expression_reaches (Referred reference) from to stack line st here = referred_reaches rec reference from to stack line st here
-      expression_reaches (Called place name arguments) from to stack line st here =
-          called_reaches rec (size_argument h arguments st.kept.places) (λ unit before. passed rec h unit (inputs_at h.set unit) arguments before) (λ before. values rec h arguments before) (λ v after. folded rec h op2.Product v arguments after)
-          (λ middle end. FoldedAt image (site_of h) op2.Product arguments middle end) (λ op begins end. BuiltAt image (site_of h) op arguments begins end) (name_meant h name st.kept.places) from to stack line st
-          (λ middle v after at. folded_reaches op2.Product arguments middle to v stack line after at) (λ op at. built_reaches op arguments from to stack line st at)
-          (subst (λ m. CalledAt image st.kept.places (λ middle end. FoldedAt image (site_of h) op2.Product arguments middle end) (λ op begins end. BuiltAt image (site_of h) op arguments begins end) m from to) (name_same h name st.kept.places)
-          (here st.kept.places))
-      expression_reaches (Convert place conversion operand) from to stack line st here =
-          then_reaches here.0 to stack stack line _ _ _ _ (expression_reaches operand from here.0 stack line st here.1) (λ v after. one_reaches (operation_of_conversion conversion) here.0 to v stack line after here.2)
-      expression_reaches (Parenthesis place inner) from to stack line st here = expression_reaches inner from to stack line st here
+  mutual
+    pub expression_reaches : (e : Expression) (from to : ℕ) (stack : List Operand) (line : List ℕ) (st : State) → ExpressionAt code (site_of h) e from to
+        → ValuesAt to stack line (From from stack line st) st.left (expression rec h e st)
+    expression_reaches (Or place first others) from to stack line st here =
+        then_reaches here.1.0 to stack stack line _ _ _ _ (expression_reaches first from here.1.0 stack line st here.1.1)
+        (λ v after. subst (λ w. ValuesAt to stack line (From here.1.0 (Val v ∷ stack) line after) after.left (joined rec h op2.Or (is_condition first || are_conditions others) w others after))
+        (sym (as_it_is (becomes_condition (is_condition first || are_conditions others) first) v (both_left _ _ here.0)))
+        (joined_reaches op2.Or (is_condition first || are_conditions others) others here.1.0 to v stack line after (both_right _ _ here.0) here.1.2))
+    expression_reaches (And place first others) from to stack line st here =
+        then_reaches here.1.0 to stack stack line _ _ _ _ (expression_reaches first from here.1.0 stack line st here.1.1)
+        (λ v after. subst (λ w. ValuesAt to stack line (From here.1.0 (Val v ∷ stack) line after) after.left (joined rec h op2.And (is_condition first || are_conditions others) w others after))
+        (sym (as_it_is (becomes_condition (is_condition first || are_conditions others) first) v (both_left _ _ here.0)))
+        (joined_reaches op2.And (is_condition first || are_conditions others) others here.1.0 to v stack line after (both_right _ _ here.0) here.1.2))
+    expression_reaches (Compare place left relation right) from to stack line st here =
+        then_reaches here.0 to stack stack line _ _ _ _ (expression_reaches left from here.0 stack line st here.2)
+        (λ v after. then_reaches here.1 to (Val v ∷ stack) stack line _ _ _ _ (expression_reaches right here.0 here.1 (Val v ∷ stack) line after here.3)
+        (λ w later. two_reaches (operation_of_relation relation) here.1 to v w stack line later here.4))
+    expression_reaches (Cat place first others) from to stack line st here =
+        then_reaches here.0 to stack stack line _ _ _ _ (expression_reaches first from here.0 stack line st here.1) (λ v after. folded_reaches op2.Cat others here.0 to v stack line after here.2)
+    expression_reaches (Sum place opening first others) from to stack line st here =
+        then_reaches here.0 to stack stack line _ _ _ _ (expression_reaches first from here.0 stack line st here.2)
+        (λ v after. then_reaches here.1 to stack stack line _ _ _ _ (sign_reaches opening here.0 here.1 v stack line after here.3) (λ w later. summed_reaches others here.1 to w stack line later here.4))
+    expression_reaches (Product place first others) from to stack line st here =
+        then_reaches here.0 to stack stack line _ _ _ _ (expression_reaches first from here.0 stack line st here.1) (λ v after. folded_reaches op2.Product others here.0 to v stack line after here.2)
+    expression_reaches (Power place base exponent) from to stack line st here =
+        then_reaches here.0 to stack stack line _ _ _ _ (expression_reaches base from here.0 stack line st here.1)
+        (λ v after. acts (setting code begin h) n _ (core_at here.0 (Val v ∷ stack) line n after) after.left (pushes (exponent_of exponent)) _ here.2 (powered (exponent_of exponent) here.0 to v stack line after here.3))
+    expression_reaches (Not place operand) from to stack line st here =
+        then_reaches here.0 to stack stack line _ _ _ _ (expression_reaches operand from here.0 stack line st here.1) (λ v after. one_reaches op1.Not here.0 to v stack line after here.2)
+    expression_reaches (Literal place literal) from to stack line st here = constant_reaches (literal_value literal) from to stack line st here
+    expression_reaches (Decimal place number) from to stack line st here = absurd here
+    expression_reaches (Referred reference) from to stack line st here = referred_reaches reference from to stack line st here
+    expression_reaches (Called place name arguments) from to stack line st here =
+        called_reaches (size_argument h arguments st.kept.places) (λ unit before. passed rec h unit (inputs_at h.set unit) arguments before) (λ before. values rec h arguments before) (λ v after. folded rec h op2.Product v arguments after)
+        (λ middle end. FoldedAt code (site_of h) op2.Product arguments middle end) (λ op begins end. BuiltAt code (site_of h) op arguments begins end) (name_meant h name st.kept.places) from to stack line st
+        (λ middle v after at. folded_reaches op2.Product arguments middle to v stack line after at) (λ op at. built_reaches op arguments from to stack line st at)
+        (subst (λ m. CalledAt code h.set st.kept.places (λ middle end. FoldedAt code (site_of h) op2.Product arguments middle end) (λ op begins end. BuiltAt code (site_of h) op arguments begins end) m from to) (name_same h name st.kept.places)
+        (here st.kept.places))
+    expression_reaches (Convert place conversion operand) from to stack line st here =
+        then_reaches here.0 to stack stack line _ _ _ _ (expression_reaches operand from here.0 stack line st here.1) (λ v after. one_reaches (operation_of_conversion conversion) here.0 to v stack line after here.2)
+    expression_reaches (Parenthesis place inner) from to stack line st here = expression_reaches inner from to stack line st here
 
-      -- operands of AND or OR behind a value
-      joined_reaches : (op : Op2) (condition : Bool) (list : Expressions) (from to : ℕ) (v : Value) (stack : List Operand) (line : List ℕ) (st : State) → stay condition list ≡ true → FoldedAt image (site_of h) op list from to
-          → ValuesAt to stack line (From from (Val v ∷ stack) line st) st.left (joined rec h op condition v list st)
-      joined_reaches op condition NoExpressions from to v stack line st stays_so here = done from to v stack line st here
-      joined_reaches op condition (MoreExpressions first others) from to v stack line st stays_so here =
-          then_reaches here.0 to (Val v ∷ stack) stack line _ _ _ _ (expression_reaches first from here.0 (Val v ∷ stack) line st here.1)
-          (λ w after. subst (λ x. ValuesAt to stack line (From here.0 (Val w ∷ Val v ∷ stack) line after) after.left (bind (apply_two h op v x after) (λ y later. joined rec h op condition y others later)))
-          (sym (as_it_is (becomes_condition condition first) w (both_left _ _ stays_so)))
-          (then_reaches (suc here.0) to stack stack line _ _ _ _ (two_reaches op here.0 (suc here.0) v w stack line after (here.2, refl))
-          (λ y later. joined_reaches op condition others (suc here.0) to y stack line later (both_right _ _ stays_so) here.3)))
+    -- operands of AND or OR behind a value
+    joined_reaches : (op : Op2) (condition : Bool) (list : Expressions) (from to : ℕ) (v : Value) (stack : List Operand) (line : List ℕ) (st : State) → stay condition list ≡ true → FoldedAt code (site_of h) op list from to
+        → ValuesAt to stack line (From from (Val v ∷ stack) line st) st.left (joined rec h op condition v list st)
+    joined_reaches op condition NoExpressions from to v stack line st stays_so here = done from to v stack line st here
+    joined_reaches op condition (MoreExpressions first others) from to v stack line st stays_so here =
+        then_reaches here.0 to (Val v ∷ stack) stack line _ _ _ _ (expression_reaches first from here.0 (Val v ∷ stack) line st here.1)
+        (λ w after. subst (λ x. ValuesAt to stack line (From here.0 (Val w ∷ Val v ∷ stack) line after) after.left (bind (apply_two h op v x after) (λ y later. joined rec h op condition y others later)))
+        (sym (as_it_is (becomes_condition condition first) w (both_left _ _ stays_so)))
+        (then_reaches (suc here.0) to stack stack line _ _ _ _ (two_reaches op here.0 (suc here.0) v w stack line after (here.2, refl))
+        (λ y later. joined_reaches op condition others (suc here.0) to y stack line later (both_right _ _ stays_so) here.3)))
 
-      -- operands of an operation behind a value
-      folded_reaches : (op : Op2) (list : Expressions) (from to : ℕ) (v : Value) (stack : List Operand) (line : List ℕ) (st : State) → FoldedAt image (site_of h) op list from to
-          → ValuesAt to stack line (From from (Val v ∷ stack) line st) st.left (folded rec h op v list st)
-      folded_reaches op NoExpressions from to v stack line st here = done from to v stack line st here
-      folded_reaches op (MoreExpressions first others) from to v stack line st here =
-          then_reaches here.0 to (Val v ∷ stack) stack line _ _ _ _ (expression_reaches first from here.0 (Val v ∷ stack) line st here.1)
-          (λ w after. then_reaches (suc here.0) to stack stack line _ _ _ _ (two_reaches op here.0 (suc here.0) v w stack line after (here.2, refl))
-          (λ x later. folded_reaches op others (suc here.0) to x stack line later here.3))
+    -- operands of an operation behind a value
+    folded_reaches : (op : Op2) (list : Expressions) (from to : ℕ) (v : Value) (stack : List Operand) (line : List ℕ) (st : State) → FoldedAt code (site_of h) op list from to
+        → ValuesAt to stack line (From from (Val v ∷ stack) line st) st.left (folded rec h op v list st)
+    folded_reaches op NoExpressions from to v stack line st here = done from to v stack line st here
+    folded_reaches op (MoreExpressions first others) from to v stack line st here =
+        then_reaches here.0 to (Val v ∷ stack) stack line _ _ _ _ (expression_reaches first from here.0 (Val v ∷ stack) line st here.1)
+        (λ w after. then_reaches (suc here.0) to stack stack line _ _ _ _ (two_reaches op here.0 (suc here.0) v w stack line after (here.2, refl))
+        (λ x later. folded_reaches op others (suc here.0) to x stack line later here.3))
 
-      -- terms behind a value
-      summed_reaches : (list : Terms) (from to : ℕ) (v : Value) (stack : List Operand) (line : List ℕ) (st : State) → TermsAt image (site_of h) list from to
-          → ValuesAt to stack line (From from (Val v ∷ stack) line st) st.left (summed rec h v list st)
-      summed_reaches NoTerms from to v stack line st here = done from to v stack line st here
-      summed_reaches (MoreTerms place sign term others) from to v stack line st here =
-          then_reaches here.0 to (Val v ∷ stack) stack line _ _ _ _ (expression_reaches term from here.0 (Val v ∷ stack) line st here.1)
-          (λ w after. then_reaches (suc here.0) to stack stack line _ _ _ _ (two_reaches (operation_of_sign sign) here.0 (suc here.0) v w stack line after (here.2, refl))
-          (λ x later. summed_reaches others (suc here.0) to x stack line later here.3))
+    -- terms behind a value
+    summed_reaches : (list : Terms) (from to : ℕ) (v : Value) (stack : List Operand) (line : List ℕ) (st : State) → TermsAt code (site_of h) list from to
+        → ValuesAt to stack line (From from (Val v ∷ stack) line st) st.left (summed rec h v list st)
+    summed_reaches NoTerms from to v stack line st here = done from to v stack line st here
+    summed_reaches (MoreTerms place sign term others) from to v stack line st here =
+        then_reaches here.0 to (Val v ∷ stack) stack line _ _ _ _ (expression_reaches term from here.0 (Val v ∷ stack) line st here.1)
+        (λ w after. then_reaches (suc here.0) to stack stack line _ _ _ _ (two_reaches (operation_of_sign sign) here.0 (suc here.0) v w stack line after (here.2, refl))
+        (λ x later. summed_reaches others (suc here.0) to x stack line later here.3))
 
-      -- an operation of a built-in function
-      built_reaches : (op : Operation) (arguments : Expressions) (from to : ℕ) (stack : List Operand) (line : List ℕ) (st : State) → BuiltAt image (site_of h) op arguments from to
-          → ValuesAt to stack line (From from stack line st) st.left (bind (values rec h arguments st) (λ vs after. built h op vs after))
-      built_reaches (operation.One op) (MoreExpressions operand NoExpressions) from to stack line st here =
-          subst (λ r. ValuesAt to stack line (From from stack line st) st.left r) (sym (bind_bind (expression rec h operand st) (λ v after. Gives (v ∷ []) after) (λ vs after. built h (operation.One op) vs after)))
-          (then_reaches here.0 to stack stack line _ _ _ _ (expression_reaches operand from here.0 stack line st here.1) (λ v after. one_reaches op here.0 to v stack line after here.2))
-      built_reaches (operation.Two op) (MoreExpressions left (MoreExpressions right NoExpressions)) from to stack line st here =
-          subst (λ r. ValuesAt to stack line (From from stack line st) st.left r)
-          (sym (bind_bind (expression rec h left st) (λ v after. bind (values rec h (MoreExpressions right NoExpressions) after) (λ vs later. Gives (v ∷ vs) later)) (λ vs after. built h (operation.Two op) vs after)))
-          (then_reaches here.0 to stack stack line _ _ _ _ (expression_reaches left from here.0 stack line st here.2)
-          (λ v after. subst (λ r. ValuesAt to stack line (From here.0 (Val v ∷ stack) line after) after.left r)
-          (sym (bind_bind (values rec h (MoreExpressions right NoExpressions) after) (λ vs later. Gives (v ∷ vs) later) (λ vs later. built h (operation.Two op) vs later)))
-          (subst (λ r. ValuesAt to stack line (From here.0 (Val v ∷ stack) line after) after.left r)
-          (sym (bind_bind (expression rec h right after) (λ w later. Gives (w ∷ []) later) (λ vs later. built h (operation.Two op) (v ∷ vs) later)))
-          (then_reaches here.1 to (Val v ∷ stack) stack line _ _ _ _ (expression_reaches right here.0 here.1 (Val v ∷ stack) line after here.3) (λ w later. two_reaches op here.1 to v w stack line later here.4)))))
-      built_reaches (operation.One op) NoExpressions from to stack line st here = absurd here
-      built_reaches (operation.One op) (MoreExpressions operand (MoreExpressions other others)) from to stack line st here = absurd here
-      built_reaches (operation.Two op) NoExpressions from to stack line st here = absurd here
-      built_reaches (operation.Two op) (MoreExpressions left NoExpressions) from to stack line st here = absurd here
-      built_reaches (operation.Two op) (MoreExpressions left (MoreExpressions right (MoreExpressions other others))) from to stack line st here = absurd here
-      built_reaches operation.Size arguments from to stack line st here = absurd here
-      built_reaches operation.Nothing arguments from to stack line st here = absurd here
+    -- an operation of a built-in function
+    built_reaches : (op : Operation) (arguments : Expressions) (from to : ℕ) (stack : List Operand) (line : List ℕ) (st : State) → BuiltAt code (site_of h) op arguments from to
+        → ValuesAt to stack line (From from stack line st) st.left (bind (values rec h arguments st) (λ vs after. built h op vs after))
+    built_reaches (operation.One op) (MoreExpressions operand NoExpressions) from to stack line st here =
+        subst (λ r. ValuesAt to stack line (From from stack line st) st.left r) (sym (bind_bind (expression rec h operand st) (λ v after. Gives (v ∷ []) after) (λ vs after. built h (operation.One op) vs after)))
+        (then_reaches here.0 to stack stack line _ _ _ _ (expression_reaches operand from here.0 stack line st here.1) (λ v after. one_reaches op here.0 to v stack line after here.2))
+    built_reaches (operation.Two op) (MoreExpressions left (MoreExpressions right NoExpressions)) from to stack line st here =
+        subst (λ r. ValuesAt to stack line (From from stack line st) st.left r)
+        (sym (bind_bind (expression rec h left st) (λ v after. bind (values rec h (MoreExpressions right NoExpressions) after) (λ vs later. Gives (v ∷ vs) later)) (λ vs after. built h (operation.Two op) vs after)))
+        (then_reaches here.0 to stack stack line _ _ _ _ (expression_reaches left from here.0 stack line st here.2)
+        (λ v after. subst (λ r. ValuesAt to stack line (From here.0 (Val v ∷ stack) line after) after.left r)
+        (sym (bind_bind (values rec h (MoreExpressions right NoExpressions) after) (λ vs later. Gives (v ∷ vs) later) (λ vs later. built h (operation.Two op) vs later)))
+        (subst (λ r. ValuesAt to stack line (From here.0 (Val v ∷ stack) line after) after.left r)
+        (sym (bind_bind (expression rec h right after) (λ w later. Gives (w ∷ []) later) (λ vs later. built h (operation.Two op) (v ∷ vs) later)))
+        (then_reaches here.1 to (Val v ∷ stack) stack line _ _ _ _ (expression_reaches right here.0 here.1 (Val v ∷ stack) line after here.3) (λ w later. two_reaches op here.1 to v w stack line later here.4)))))
+    built_reaches (operation.One op) NoExpressions from to stack line st here = absurd here
+    built_reaches (operation.One op) (MoreExpressions operand (MoreExpressions other others)) from to stack line st here = absurd here
+    built_reaches (operation.Two op) NoExpressions from to stack line st here = absurd here
+    built_reaches (operation.Two op) (MoreExpressions left NoExpressions) from to stack line st here = absurd here
+    built_reaches (operation.Two op) (MoreExpressions left (MoreExpressions right (MoreExpressions other others))) from to stack line st here = absurd here
+    built_reaches operation.Size arguments from to stack line st here = absurd here
+    built_reaches operation.Nothing arguments from to stack line st here = absurd here

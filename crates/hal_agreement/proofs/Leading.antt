@@ -1,10 +1,12 @@
 -- Where steps of the machine lead.
-use Rattle.std.specs.Prelude.{◌≡◌, ℕ, zero, suc, List, [], ◌∷◌, Some}
-use Rattle.std.proofs.Common.{refl}
+use Rattle.std.specs.Prelude.{◌≡◌, ℕ, zero, suc, List, [], ◌∷◌, Some, None, slice_get}
+use Rattle.std.proofs.Common.{refl, ap, subst, ◌∙◌}
 use Rattle.hal_values.specs.declared.request.Request.{Request}
 use Rattle.hal_values.specs.Answers.{Answered}
+use Rattle.hal_code.specs.declared.instr.Instr.{Instr}
 use Rattle.hal_code.specs.Cores.{Setting, Core, Wait, Step, Waits, Moves, Counts}
-use Rattle.hal_code.specs.Machine.{stepped, after_answer}
+use Rattle.hal_code.specs.Raising.{stuck}
+use Rattle.hal_code.specs.Machine.{act, stepped, after_answer}
 use Rattle.hal_code.specs.Courses.{Asked}
 use Rattle.hal_code.specs.Executions.{execution, Comes}
 
@@ -33,3 +35,8 @@ counts_as s c left one (suc moves) e = record { moves = suc moves; is = e }
 -- a turn that is counted is a move
 pub counted : (s : Setting) (c : Core) (left : List Answered) → Leads s (Counts c) left (Moves c) left
 counted s c left = record { go = λ one is. counts_as s c left one is.moves is.is }
+
+-- an instruction that leads there
+pub acts_to : (s : Setting) (i : Instr) (c : Core) (left : List Answered) (to : Step) → slice_get s.image.code c.at ≡ Some i → act s i c ≡ to → Leads s (Moves c) left to left
+acts_to s i c left to has is =
+    subst (λ step. Leads s (Moves c) left step left) (ap (λ o. elim o [ None ↦ stuck c | Some found ↦ act s found c ]) has ∙ is) (moved s c left)

@@ -3,6 +3,8 @@ pub mod Reaching
 pub mod Searching
 pub mod Handling
 pub mod Raising
+pub mod Knowing
+pub mod Calling
 pub mod Expressing
 pub mod Stating
 pub mod Entering

@@ -1,5 +1,5 @@
 -- What is said of the machine where a phrase comes to something, and how it is said of what phrases are made of.
-use Rattle.std.specs.Prelude.{◌≡◌, ℕ, zero, suc, ◌≤◌, length, false, List, [], ◌∷◌, map, Option, Some, None}
+use Rattle.std.specs.Prelude.{◌≡◌, ℕ, zero, suc, ◌≤◌, length, false, List, [], ◌∷◌, map, slice_get, Option, Some, None}
 use Rattle.std.proofs.Common.{refl, sym, subst}
 use Rattle.hal_values.specs.declared.environment.Act.{Act}
 use Rattle.hal_values.specs.declared.environment.Act.TheVariants as act
@@ -12,14 +12,13 @@ use Rattle.hal_states.specs.Modes.{Mode, closed, are_spent}
 use Rattle.hal_meaning.specs.States.{State, state, Evaluated, Gives, Asks, Caught, Restarts, Lost, bind, asks_from}
 use Rattle.hal_meaning.specs.Access.{Here}
 use Rattle.hal_meaning.specs.Runs.{held_first}
-use Rattle.hal_code.specs.declared.image.ImageParts.{ImageParts}
 use Rattle.hal_code.specs.declared.instr.Instr.{Instr}
 use Rattle.hal_code.specs.Cores.{Operand, Return, Frame, Core, core, Setting, Wait, Step, Waits, Moves, Counts}
 use Rattle.hal_code.specs.Raising.{stuck, cut, entered_at}
 use Rattle.hal_code.specs.Machine.{act, stepped, begun, given, after_answer}
 use Rattle.hal_code.specs.Courses.{Asked, asked}
 use Rattle.hal_code.specs.Executions.{Comes}
-use Rattle.hal_agreement.specs.PlacedExpressions.{Has}
+use Rattle.hal_agreement.specs.Codes.{Code}
 use Rattle.hal_agreement.proofs.Leading.{Leads, stays, through, moved, heard}
 
 -- the frames of the blocks that are entered below the running one; where the statements of ON ERROR stand: of the block that has so many later ones,
@@ -50,9 +49,9 @@ coded_entries spot [] = []
 coded_entries spot (e ∷ es) = coded spot e ∷ coded_entries spot es
 
 -- the machine's setting for phrases that stand here
-abbrev pub setting : ImageParts → ℕ → Here → Setting
-setting image begin h =
-    record { image = image; tables = h.set.tables; process = h.process; firsts = map held_first h.places; begin = begin; turns = h.set.turns }
+abbrev pub setting : Code → ℕ → Here → Setting
+setting code begin h =
+    record { image = code.image; tables = h.set.tables; process = h.process; firsts = map held_first h.places; begin = begin; turns = h.set.turns }
 
 -- the machine's core where phrases are evaluated in this state
 abbrev pub core_at : ℕ → List Operand → List ℕ → Nest → State → Core
@@ -177,5 +176,5 @@ module _ (s : Setting) (n : Nest) where
   at_reaches fine c left i r o e is = subst (λ one. Reaches s n fine (elim one [ None ↦ stuck c | Some found ↦ act s found c ]) left r) (sym e) is
 
   -- the instruction that stands there
-  pub acts : {A : Type 0} (fine : A → State → Option Step) (c : Core) (left : List Answered) (i : Instr) (r : Evaluated A) → Has s.image c.at i → Reaches s n fine (act s i c) left r → Reaches s n fine (Moves c) left r
+  pub acts : {A : Type 0} (fine : A → State → Option Step) (c : Core) (left : List Answered) (i : Instr) (r : Evaluated A) → slice_get s.image.code c.at ≡ Some i → Reaches s n fine (act s i c) left r → Reaches s n fine (Moves c) left r
   acts fine c left i r has is = before fine (Moves c) left (stepped s c) left r (moved s c left) (at_reaches fine c left i r _ has is)

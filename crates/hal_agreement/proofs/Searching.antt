@@ -31,6 +31,15 @@ abbrev pub coded_blocks : (ℕ → ℕ → ℕ) → ℕ → List Entered → Lis
 coded_blocks spot n [] = []
 coded_blocks spot n (b ∷ bs) = entered (coded_entries (spot n) b.entries) b.update ∷ coded_blocks spot (suc n) bs
 
+-- the statements of ON ERROR of a block that is entered above others
+abbrev pub above : (ℕ → ℕ) → (ℕ → ℕ → ℕ) → ℕ → ℕ → ℕ
+above handler spot zero place = handler place
+above handler spot (suc level) place = spot level place
+
+pub coded_above : (handler : ℕ → ℕ) (spot : ℕ → ℕ → ℕ) (k : ℕ) (bs : List Entered) → coded_blocks (above handler spot) (suc k) bs ≡ coded_blocks spot k bs
+coded_above handler spot k [] = refl
+coded_above handler spot k (b ∷ bs) = ap (λ rest. entered (coded_entries (spot k) b.entries) b.update ∷ rest) (coded_above handler spot (suc k) bs)
+
 entry_or : (spot : ℕ → ℕ) (e : Entry) (b : Bool) (one other : Option Entry) → one ≡ coded_option spot other → (if b then Some (coded spot e) else one) ≡ coded_option spot (if b then Some e else other)
 entry_or spot e true one other is = refl
 entry_or spot e false one other is = is

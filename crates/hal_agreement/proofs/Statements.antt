@@ -2,6 +2,7 @@
 use Rattle.std.specs.Prelude.{◌≡◌, ℕ, suc, List, [], ◌∷◌, Some, None}
 use Rattle.std.proofs.Common.{refl, subst}
 use Rattle.hal_grammar.specs.Leaves.{Naming}
+use Rattle.hal_grammar.specs.Expressions.{NoExpressions}
 use Rattle.hal_grammar.specs.Statements.{Statement, Labelled, Basic, Null, Assignment, If, Do, DoCase, DoLoop, DoFor, Exit, Repeat, Return, Call, Read, Write, Update, Scheduled, Cancel, Terminate, Wait, WaitUntil, WaitForDependent, WaitFor, Event, UpdatePriority, OnErrorStatement, OnErrorResponse, OffError, SendError, Alternative, NoAlternative, Otherwise, Group, Groups, Statements, NoStatements, MoreStatements}
 use Rattle.hal_values.specs.declared.request.Request.TheVariants as request
 use Rattle.hal_values.specs.Answers.{error}
@@ -10,89 +11,99 @@ use Rattle.hal_meaning.specs.Marks.{after_statement}
 use Rattle.hal_meaning.specs.States.{State, state, Gives, Normal, Leaves, Repeats}
 use Rattle.hal_meaning.specs.Access.{Here, updating}
 use Rattle.hal_meaning.specs.Expressions.{expression}
+use Rattle.hal_meaning.specs.Variables.{name_meant}
 use Rattle.hal_meaning.specs.Statements.{all_received, written, group_left, turn_if, label_name, looping, goes_on, goes_behind, one_of, statement, basic_statement, otherwise, grouped, settled, update_left, update_groups, entered_update, statements}
 use Rattle.hal_meaning.specs.Tasks.{Meaning, Tested}
-use Rattle.hal_code.specs.declared.image.ImageParts.{ImageParts}
 use Rattle.hal_code.specs.declared.instr.Instr.TheVariants as instr
 use Rattle.hal_code.specs.Cores.{core, Goes, Opens, Moves}
+use Rattle.hal_agreement.specs.Codes.{Code}
 use Rattle.hal_agreement.specs.Sites.{site_of}
-use Rattle.hal_agreement.specs.PlacedStatements.{opened, exit_of, again_of, NoReturn, Exits, within_group, of_block, StatementAt, BasicAt, AlternativeAt, GroupAt, StatementsAt}
+use Rattle.hal_agreement.specs.PlacedStatements.{opened, exit_of, again_of, NoReturn, Exits, within_group, of_block, CalledAt, StatementAt, BasicAt, AlternativeAt, GroupAt, StatementsAt}
+use Rattle.hal_agreement.proofs.Expressing.{name_same}
+use Rattle.hal_agreement.proofs.Knowing.{Out, flow_to, Marks, Leads_out, Sound}
 use Rattle.hal_agreement.proofs.Handling.{each_handled}
 use Rattle.hal_agreement.proofs.Entering.{handler_leads, response_leads, off_leads}
 use Rattle.hal_agreement.proofs.Reaching.{Nest, setting, core_at, bind_on, acts}
 use Rattle.hal_agreement.proofs.Raising.{Standing, asks_then, raised_reaches}
-use Rattle.hal_agreement.proofs.Settling.{around, updated, stands_above, update_plain, settled_holds, updated_holds}
-use Rattle.hal_agreement.proofs.Stating.{flow_to, Marks, Sound, FlowsAt, Begins, still, normal, goes_on_reaches, final, valued, all_received_reaches, written_reaches, condition_reaches, first_test_reaches, turn_reaches, group_reaches, behind_reaches, exit_reaches, return_holds, either_reaches, over_reaches}
+use Rattle.hal_agreement.proofs.Settling.{around, updated, stands_above, update_plain, settled_holds, updated_holds, update_ends}
+use Rattle.hal_agreement.proofs.Stating.{FlowsAt, Begins, still, normal, goes_on_reaches, final, valued, all_received_reaches, written_reaches, condition_reaches, first_test_reaches, turn_reaches, group_reaches, behind_reaches, exit_reaches, returned_reaches, call_meant, either_reaches, over_reaches}
 
-module _ (image : ImageParts) (begin : ℕ) (rec : Meaning) (sound : Sound image begin rec) where
+module _ (code : Code) (begin : ℕ) (rec : Meaning) (sound : Sound code begin rec) where
   mutual
-    pub statement_reaches : (h : Here) (n : Nest) (standing : Standing h n) (exits : Exits) (marks : Marks n exits) (m : ℕ) (one : Statement) (from to : ℕ) (st : State) → StatementAt image (site_of h) exits m one from to
-        → FlowsAt image begin rec h n standing exits to (Begins image begin rec h n standing from st) st.left (statement rec h m one st)
-    statement_reaches h n standing exits marks m (Labelled labels basic) from to st here = basic_reaches h n standing exits marks m labels basic from to st here
+    pub statement_reaches : (h : Here) (n : Nest) (standing : Standing code h n) (exits : Exits) (out : Out) (marks : Marks n exits) (leads : Leads_out code begin h n exits.leaving out) (m : ℕ) (one : Statement) (from to : ℕ) (st : State) → StatementAt code (site_of h) exits m one from to
+        → FlowsAt code begin rec sound h n standing out exits to (Begins code begin rec sound h n standing out from st) st.left (statement rec h m one st)
+    statement_reaches h n standing exits out marks leads m (Labelled labels basic) from to st here = basic_reaches h n standing exits out marks leads m labels basic from to st here
 
-    basic_reaches : (h : Here) (n : Nest) (standing : Standing h n) (exits : Exits) (marks : Marks n exits) (m : ℕ) (labels : List Naming) (one : Basic) (from to : ℕ) (st : State) → BasicAt image (site_of h) exits m labels one from to
-        → FlowsAt image begin rec h n standing exits to (Begins image begin rec h n standing from st) st.left (basic_statement rec h m labels one st)
-    basic_reaches h n standing exits marks m labels (Null place) from to st here = still image begin rec h n standing exits from to st here
-    basic_reaches h n standing exits marks m labels (Assignment place receivers tree) from to st here =
-        valued image begin rec h n standing (flow_to exits n to) tree from here.0 _ st (λ v after. goes_on (all_received rec h v receivers after)) here.1
-        (λ v after. goes_on_reaches image begin rec h n standing exits to _ after.left _ (all_received_reaches image begin rec h n standing receivers v here.0 to after here.2))
-    basic_reaches h n standing exits marks m labels (If place condition consequence alternative) from to st here =
-        condition_reaches image begin rec h n standing (flow_to exits n to) condition from here.0 here.1 st
+    basic_reaches : (h : Here) (n : Nest) (standing : Standing code h n) (exits : Exits) (out : Out) (marks : Marks n exits) (leads : Leads_out code begin h n exits.leaving out) (m : ℕ) (labels : List Naming) (one : Basic) (from to : ℕ) (st : State) → BasicAt code (site_of h) exits m labels one from to
+        → FlowsAt code begin rec sound h n standing out exits to (Begins code begin rec sound h n standing out from st) st.left (basic_statement rec h m labels one st)
+    basic_reaches h n standing exits out marks leads m labels (Null place) from to st here = still code begin rec sound h n standing out exits from to st here
+    basic_reaches h n standing exits out marks leads m labels (Assignment place receivers tree) from to st here =
+        valued code begin rec sound h n standing out (flow_to exits out n to) tree from here.0 _ st (λ v after. goes_on (all_received rec h v receivers after)) here.1
+        (λ v after. goes_on_reaches code begin rec sound h n standing out exits to _ after.left _ (all_received_reaches code begin rec sound h n standing out receivers v here.0 to after here.2))
+    basic_reaches h n standing exits out marks leads m labels (If place condition consequence alternative) from to st here =
+        condition_reaches code begin rec sound h n standing out (flow_to exits out n to) condition from here.0 here.1 st
         (λ v after. one_of (holds v) (λ begun. statement rec h m consequence begun) (λ begun. otherwise rec h (after_statement m consequence) alternative begun) after) here.3
-        (λ v after. either_reaches image begin rec h n standing exits to here.1 here.0 (holds v) _ _ after
-        (over_reaches image begin rec h n standing exits (after_statement m consequence) alternative here.2 here.0 to _ after.left _ here.5 (statement_reaches h n standing exits marks m consequence here.1 here.2 after here.4))
-        (alternative_reaches h n standing exits marks (after_statement m consequence) alternative here.2 here.0 to after here.5))
-    basic_reaches h n standing exits marks m labels (Do place group) from to st here =
-        bind_on (setting image begin h) n (flow_to (within_group (opened labels to None) exits) n to) (flow_to exits n to) _ st.left (grouped rec h (suc m) group st) (λ flow after. Gives (group_left labels flow) after)
-        (grouped_reaches h n standing (within_group (opened labels to None) exits) marks (suc m) group from to st here) (λ flow after. group_reaches image begin rec h n standing exits labels to flow after)
-    basic_reaches h n standing exits marks m labels (DoLoop place g group) from to st here =
-        first_test_reaches image begin rec h n standing (flow_to exits n to) g from to here.0 st
+        (λ v after. either_reaches code begin rec sound h n standing out exits to here.1 here.0 (holds v) _ _ after
+        (over_reaches code begin rec sound h n standing out exits (after_statement m consequence) alternative here.2 here.0 to _ after.left _ here.5 (statement_reaches h n standing exits out marks leads m consequence here.1 here.2 after here.4))
+        (alternative_reaches h n standing exits out marks leads (after_statement m consequence) alternative here.2 here.0 to after here.5))
+    basic_reaches h n standing exits out marks leads m labels (Do place group) from to st here =
+        bind_on (setting code begin h) n (flow_to (within_group (opened labels to None) exits) out n to) (flow_to exits out n to) _ st.left (grouped rec h (suc m) group st) (λ flow after. Gives (group_left labels flow) after)
+        (grouped_reaches h n standing (within_group (opened labels to None) exits) out marks leads (suc m) group from to st here) (λ flow after. group_reaches code begin rec sound h n standing out exits labels to flow after)
+    basic_reaches h n standing exits out marks leads m labels (DoLoop place g group) from to st here =
+        first_test_reaches code begin rec sound h n standing out (flow_to exits out n to) g from to here.0 st
         (λ held after. turn_if h labels (λ begun. grouped rec h (suc m) group begun) (rec (Tested h (looping labels m group) g)) held after) here.2
-        (λ b after. turn_reaches image begin rec h n standing exits labels (λ begun. grouped rec h (suc m) group begun) (rec (Tested h (looping labels m group) g)) here.0 here.1 to here.3
-        (λ begun. grouped_reaches h n standing (within_group (opened labels to (Some here.1)) exits) marks (suc m) group (suc here.0) here.1 begun here.4)
-        (λ begun. sound.loops h n exits (looping labels m group) g here.0 here.1 to standing marks here.3 here.4 here.5 begun) b after)
-    basic_reaches h n standing exits marks m labels (Exit place label) from to st here =
-        exit_reaches image begin rec h n standing exits from to here.0 (Leaves (label_name label)) (exit_of exits.groups (label_name label)) st refl here.1 here.2.0
-    basic_reaches h n standing exits marks m labels (Repeat place label) from to st here =
-        exit_reaches image begin rec h n standing exits from to here.0 (Repeats (label_name label)) (again_of exits.groups (label_name label)) st refl here.1 here.2.0
-    basic_reaches h n standing exits marks m labels (Return place None) from to st here = record { holds = return_holds image begin rec h n standing exits.leaving from to st here }
-    basic_reaches h n standing exits marks m labels (Return place (Some tree)) from to st here = absurd here
-    basic_reaches h n standing exits marks m labels (Write place channel items) from to st here =
-        goes_on_reaches image begin rec h n standing exits to _ st.left _ (written_reaches image begin rec h n standing channel items here.0 from here.1 to st here.2 here.3 here.4)
-    basic_reaches h n standing exits marks m labels (SendError place group_at group number_at number) from to st here =
-        final image begin rec h n standing (λ end. flow_to exits n end) (instr.Raise group number) from to _ _ st _ here
-        (raised_reaches image begin h n standing (flow_to exits n (suc from)) (error group number) Goes (suc from) _ _ st (λ nothing after. Gives Normal after) (λ after. normal image begin rec h n standing exits (suc from) after))
-    basic_reaches h n standing exits marks m labels (Update place body close) from to st here =
-        acts (setting image begin h) n (flow_to exits n to) (core_at from [] [] n st) st.left (instr.Open (update_groups h m)) _ here.2
-        (asks_then image begin h n (flow_to exits n to) (request.Update (update_groups h m)) (Opens (update_groups h m)) (core (suc from) [] [] [] (around n st ∷ n.frames) st.kept st.mode) st.entries st.left (λ a after. Gives a after)
+        (λ b after. turn_reaches code begin rec sound h n standing out exits labels (λ begun. grouped rec h (suc m) group begun) (rec (Tested h (looping labels m group) g)) here.0 here.1 to here.3
+        (λ begun. grouped_reaches h n standing (within_group (opened labels to (Some here.1)) exits) out marks leads (suc m) group (suc here.0) here.1 begun here.4)
+        (λ begun. sound.loops h n exits out (looping labels m group) g here.0 here.1 to standing marks leads here.3 here.4 here.5 begun) b after)
+    basic_reaches h n standing exits out marks leads m labels (Exit place label) from to st here =
+        exit_reaches code begin rec sound h n standing out exits from to here.0 (Leaves (label_name label)) (exit_of exits.groups (label_name label)) st refl here.1 here.2.0
+    basic_reaches h n standing exits out marks leads m labels (Repeat place label) from to st here =
+        exit_reaches code begin rec sound h n standing out exits from to here.0 (Repeats (label_name label)) (again_of exits.groups (label_name label)) st refl here.1 here.2.0
+    basic_reaches h n standing exits out marks leads m labels (Return place None) from to st here = record { holds = leads.without from to st here }
+    basic_reaches h n standing exits out marks leads m labels (Return place (Some tree)) from to st here =
+        subst (λ end. FlowsAt code begin rec sound h n standing out exits end (Begins code begin rec sound h n standing out from st) st.left (basic_statement rec h m labels (Return place (Some tree)) st)) here.5.1
+        (returned_reaches code begin rec sound h n standing out exits tree from here.0 here.1 (suc here.1) st leads here.2 here.3 here.4 here.5.0)
+    basic_reaches h n standing exits out marks leads m labels (Call place name NoExpressions []) from to st here =
+        goes_on_reaches code begin rec sound h n standing out exits to _ st.left _
+        (call_meant code begin rec sound h n standing out (name_meant h name.name st.kept.places) from to st (subst (λ m. CalledAt code h.set m from to) (name_same h name.name st.kept.places) (here st.kept.places)))
+    basic_reaches h n standing exits out marks leads m labels (Write place channel items) from to st here =
+        goes_on_reaches code begin rec sound h n standing out exits to _ st.left _ (written_reaches code begin rec sound h n standing out channel items here.0 from here.1 to st here.2 here.3 here.4)
+    basic_reaches h n standing exits out marks leads m labels (SendError place group_at group number_at number) from to st here =
+        final code begin rec sound h n standing out (λ end. flow_to exits out n end) (instr.Raise group number) from to _ _ st _ here
+        (raised_reaches code begin h n standing (flow_to exits out n (suc from)) (error group number) Goes (suc from) _ _ st (λ nothing after. Gives Normal after) (λ after. normal code begin rec sound h n standing out exits (suc from) after))
+    basic_reaches h n standing exits out marks leads m labels (Update place body close) from to st here =
+        acts (setting code begin h) n (flow_to exits out n to) (core_at from [] [] n st) st.left (instr.Open (update_groups h m)) _ here.2
+        (asks_then code begin h n (flow_to exits out n to) (request.Update (update_groups h m)) (Opens (update_groups h m)) (core (suc from) [] [] [] (around n st ∷ n.frames) st.kept st.mode) st.entries st.left (λ a after. Gives a after)
         (λ answer after. update_left after.entries (settled rec (updating body (suc m) after.entries h) (statements rec (updating body (suc m) after.entries h) (suc m) body (entered_update h m answer after))))
         (λ a rest. record {
-          holds = updated_holds image begin rec h n standing exits st here.0 here.1 to here.5 body (suc m) _ rest _
-              (settled_holds image begin rec sound (updating body (suc m) st.entries h) (updated n st here.0) (stands_above h n body (suc m) st here.0 standing) NoReturn here.1 (update_plain h body (suc m) st.entries)
-              (each_handled image (site_of h) (of_block NoReturn here.0) here.1 (suc m) body (suc from) here.3 here.4) _ rest _
-              (statements_reaches (updating body (suc m) st.entries h) (updated n st here.0) (stands_above h n body (suc m) st here.0 standing) (of_block NoReturn here.0) (λ k. refl) (suc m) body (suc from) here.1
-              (entered_update h m a (state st.kept st.entries st.mode rest)) here.3).holds);
+          holds = updated_holds code begin rec sound h n standing exits out st here.0 here.1 to here.5 body (suc m) _ rest _
+              (settled_holds code begin rec sound (updating body (suc m) st.entries h) (updated n st here.0) (stands_above code h n body (suc m) st here.0 standing) NoReturn (λ v after. None) here.1
+              (flow_to (of_block NoReturn here.0) (λ v after. None) (updated n st here.0) here.1)
+              (update_ends code begin rec sound h n standing exits out st here.0 here.1 to here.5 body (suc m) (each_handled code (site_of h) (of_block NoReturn here.0) here.1 (suc m) body (suc from) here.3 here.4)) _ rest _
+              (statements_reaches (updating body (suc m) st.entries h) (updated n st here.0) (stands_above code h n body (suc m) st here.0 standing) (of_block NoReturn here.0) (λ v after. None) (λ k. refl)
+              (update_ends code begin rec sound h n standing exits out st here.0 here.1 to here.5 body (suc m) (each_handled code (site_of h) (of_block NoReturn here.0) here.1 (suc m) body (suc from) here.3 here.4)).returns
+              (suc m) body (suc from) here.1 (entered_update h m a (state st.kept st.entries st.mode rest)) here.3).holds);
         }))
-    basic_reaches h n standing exits marks m labels (OnErrorStatement place s handler) from to st here =
-        record { holds = handler_leads image begin rec h n standing s m here.0 here.1 from to (exits.handler m) st here.2 (marks m) here.5 here.3 here.4 }
-    basic_reaches h n standing exits marks m labels (OnErrorResponse place s r e) from to st here = record { holds = response_leads image begin rec h n standing s r e here.0 here.1 here.2 here.3 from to st here.4 here.5 here.6 }
-    basic_reaches h n standing exits marks m labels (OffError place s) from to st here = record { holds = off_leads image begin rec h n standing s here.0 here.1 from to st here.2 here.3 }
-    basic_reaches h n standing exits marks m labels other from to st here = absurd here
+    basic_reaches h n standing exits out marks leads m labels (OnErrorStatement place s handler) from to st here =
+        record { holds = handler_leads code begin rec sound h n standing out s m here.0 here.1 from to (exits.handler m) st here.2 (marks m) here.5 here.3 here.4 }
+    basic_reaches h n standing exits out marks leads m labels (OnErrorResponse place s r e) from to st here = record { holds = response_leads code begin rec sound h n standing out s r e here.0 here.1 here.2 here.3 from to st here.4 here.5 here.6 }
+    basic_reaches h n standing exits out marks leads m labels (OffError place s) from to st here = record { holds = off_leads code begin rec sound h n standing out s here.0 here.1 from to st here.2 here.3 }
+    basic_reaches h n standing exits out marks leads m labels other from to st here = absurd here
 
-    alternative_reaches : (h : Here) (n : Nest) (standing : Standing h n) (exits : Exits) (marks : Marks n exits) (m : ℕ) (alternative : Alternative) (end other to : ℕ) (st : State) → AlternativeAt image (site_of h) exits m alternative end other to
-        → FlowsAt image begin rec h n standing exits to (Begins image begin rec h n standing other st) st.left (otherwise rec h m alternative st)
-    alternative_reaches h n standing exits marks m NoAlternative end other to st here = still image begin rec h n standing exits other to st here.1
-    alternative_reaches h n standing exits marks m (Otherwise one) end other to st here = statement_reaches h n standing exits marks m one other to st here.1
+    alternative_reaches : (h : Here) (n : Nest) (standing : Standing code h n) (exits : Exits) (out : Out) (marks : Marks n exits) (leads : Leads_out code begin h n exits.leaving out) (m : ℕ) (alternative : Alternative) (end other to : ℕ) (st : State) → AlternativeAt code (site_of h) exits m alternative end other to
+        → FlowsAt code begin rec sound h n standing out exits to (Begins code begin rec sound h n standing out other st) st.left (otherwise rec h m alternative st)
+    alternative_reaches h n standing exits out marks leads m NoAlternative end other to st here = still code begin rec sound h n standing out exits other to st here.1
+    alternative_reaches h n standing exits out marks leads m (Otherwise one) end other to st here = statement_reaches h n standing exits out marks leads m one other to st here.1
 
-    pub grouped_reaches : (h : Here) (n : Nest) (standing : Standing h n) (exits : Exits) (marks : Marks n exits) (m : ℕ) (group : Group) (from to : ℕ) (st : State) → GroupAt image (site_of h) exits m group from to
-        → FlowsAt image begin rec h n standing exits to (Begins image begin rec h n standing from st) st.left (grouped rec h m group st)
-    grouped_reaches h n standing exits marks m (Groups list close) from to st here = statements_reaches h n standing exits marks m list from to st here
+    pub grouped_reaches : (h : Here) (n : Nest) (standing : Standing code h n) (exits : Exits) (out : Out) (marks : Marks n exits) (leads : Leads_out code begin h n exits.leaving out) (m : ℕ) (group : Group) (from to : ℕ) (st : State) → GroupAt code (site_of h) exits m group from to
+        → FlowsAt code begin rec sound h n standing out exits to (Begins code begin rec sound h n standing out from st) st.left (grouped rec h m group st)
+    grouped_reaches h n standing exits out marks leads m (Groups list close) from to st here = statements_reaches h n standing exits out marks leads m list from to st here
 
-    pub statements_reaches : (h : Here) (n : Nest) (standing : Standing h n) (exits : Exits) (marks : Marks n exits) (m : ℕ) (list : Statements) (from to : ℕ) (st : State) → StatementsAt image (site_of h) exits m list from to
-        → FlowsAt image begin rec h n standing exits to (Begins image begin rec h n standing from st) st.left (statements rec h m list st)
-    statements_reaches h n standing exits marks m NoStatements from to st here = still image begin rec h n standing exits from to st here
-    statements_reaches h n standing exits marks m (MoreStatements first others) from to st here =
-        bind_on (setting image begin h) n (flow_to exits n here.0) (flow_to exits n to) _ st.left (statement rec h m first st)
-        (λ flow after. goes_behind flow (λ begun. statements rec h (after_statement m first) others begun) after) (statement_reaches h n standing exits marks m first from here.0 st here.1)
-        (λ flow after. behind_reaches image begin rec h n standing exits here.0 to (λ begun. statements rec h (after_statement m first) others begun) flow after
-        (statements_reaches h n standing exits marks (after_statement m first) others here.0 to after here.2))
+    pub statements_reaches : (h : Here) (n : Nest) (standing : Standing code h n) (exits : Exits) (out : Out) (marks : Marks n exits) (leads : Leads_out code begin h n exits.leaving out) (m : ℕ) (list : Statements) (from to : ℕ) (st : State) → StatementsAt code (site_of h) exits m list from to
+        → FlowsAt code begin rec sound h n standing out exits to (Begins code begin rec sound h n standing out from st) st.left (statements rec h m list st)
+    statements_reaches h n standing exits out marks leads m NoStatements from to st here = still code begin rec sound h n standing out exits from to st here
+    statements_reaches h n standing exits out marks leads m (MoreStatements first others) from to st here =
+        bind_on (setting code begin h) n (flow_to exits out n here.0) (flow_to exits out n to) _ st.left (statement rec h m first st)
+        (λ flow after. goes_behind flow (λ begun. statements rec h (after_statement m first) others begun) after) (statement_reaches h n standing exits out marks leads m first from here.0 st here.1)
+        (λ flow after. behind_reaches code begin rec sound h n standing out exits here.0 to (λ begun. statements rec h (after_statement m first) others begun) flow after
+        (statements_reaches h n standing exits out marks leads (after_statement m first) others here.0 to after here.2))

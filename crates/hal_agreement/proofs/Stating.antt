@@ -5,6 +5,10 @@ use Rattle.hal_base.specs.declared.limits.TheConstants.{LINE_LIMIT}
 use Rattle.hal_grammar.specs.Leaves.{Naming, LiteralValue, Integer}
 use Rattle.hal_grammar.specs.Expressions.{Expression, Expressions, NoExpressions, MoreExpressions, Literal, Reference, Refers, Subscript, Unsubscripted, ByName, ByInteger, ByParts}
 use Rattle.hal_grammar.specs.Statements.{Guard, While, Until, Statement, Labelled, Basic, Null, Assignment, If, Do, DoCase, DoLoop, DoFor, Exit, Repeat, Return, Call, Read, Write, Update, Scheduled, Cancel, Terminate, Wait, WaitUntil, WaitForDependent, WaitFor, Event, UpdatePriority, OnErrorStatement, OnErrorResponse, OffError, SendError, Alternative, NoAlternative, Otherwise, Group, Groups, Statements, NoStatements, MoreStatements}
+use Rattle.hal_grammar.specs.Declarations.{IntegerKind, BooleanKind, EventKind, BitKind, CharacterKind, StructureKind}
+use Rattle.hal_grammar.specs.Units.{Head, Program, Compool, Task, Procedure, Function, NoKind, HasKind}
+use Rattle.hal_operations.specs.declared.operation.Op1.TheVariants as op1
+use Rattle.hal_operations.specs.Mended.{mended_of_one}
 use Rattle.hal_values.specs.declared.request.Request.TheVariants as request
 use Rattle.hal_values.specs.declared.value.Value.{Value}
 use Rattle.hal_values.specs.declared.value.Value.TheVariants as value
@@ -17,62 +21,39 @@ use Rattle.hal_states.specs.Numbers.{holds}
 use Rattle.hal_meaning.specs.Elements.{chosen, offset}
 use Rattle.hal_meaning.specs.Marks.{after_statement, handling_in}
 use Rattle.hal_meaning.specs.States.{State, Evaluated, Gives, Asks, Caught, Restarts, Lost, bind, Flow, Normal, Leaves, Repeats, Returned}
+use Rattle.hal_meaning.specs.Bodies.{Body}
+use Rattle.hal_meaning.specs.Calls.{returned_by, call}
+use Rattle.hal_meaning.specs.Sets.{body_at}
 use Rattle.hal_meaning.specs.Access.{Here, raise, turn, store, request_made}
 use Rattle.hal_meaning.specs.Variables.{Meant, MeantData, MeantConstant, MeantEvent, MeantBlock, MeantBuiltin, MeantNothing, name_meant, kind_of_first}
 use Rattle.hal_meaning.specs.Expressions.{Located, expression, values, chosen_data, data_chosen, meant_chosen, literal_value}
-use Rattle.hal_meaning.specs.Statements.{goes_on, received_by, is_array_named, received, all_received, channel_of, line_fitting, written, is_meant, group_left, After, NextTurn, Ended, after_turn, goes_round, turn_made, turn_if, guard_holds, first_holds, label_name, looping, goes_behind, one_of, statement, basic_statement, otherwise, grouped, statements}
+use Rattle.hal_meaning.specs.Statements.{goes_on, returned_in, called, received_by, is_array_named, received, all_received, channel_of, line_fitting, written, is_meant, group_left, After, NextTurn, Ended, after_turn, goes_round, turn_made, turn_if, guard_holds, first_holds, label_name, looping, goes_behind, one_of, statement, basic_statement, otherwise, grouped, statements}
 use Rattle.hal_meaning.specs.Tasks.{Looping, Meaning, Tested, Resuming, Cycling}
-use Rattle.hal_code.specs.declared.image.ImageParts.{ImageParts}
+use Rattle.hal_code.specs.declared.choice.Choice.TheVariants as choice
 use Rattle.hal_code.specs.declared.instr.Instr.{Instr}
 use Rattle.hal_code.specs.declared.instr.Instr.TheVariants as instr
 use Rattle.hal_code.specs.Cores.{Operand, Val, At, Goes, Asks, Then, Setting, Step, Waits, Moves}
-use Rattle.hal_code.specs.Raising.{stuck, raised_before}
+use Rattle.hal_code.specs.Raising.{raised_before}
 use Rattle.hal_code.specs.Addressing.{stored_at}
 use Rattle.hal_code.specs.Machine.{act}
+use Rattle.hal_agreement.specs.Codes.{Code}
 use Rattle.hal_agreement.specs.Sites.{Site, site_of}
 use Rattle.hal_agreement.specs.PlacedExpressions.{Has, One, AddressAt, ExpressionAt}
-use Rattle.hal_agreement.specs.PlacedStatements.{Opened, opened, exit_of, again_of, Leaving, ToFinish, NoReturn, Exits, within_group, of_block, KeptAt, ReceiverAt, ReceiversAt, ChannelAt, ItemsAt, ConditionAt, FirstTestAt, TestAt, ReturnAt, StatementAt, BasicAt, AlternativeAt, GroupAt, StatementsAt}
-use Rattle.hal_meaning.specs.Runs.{in_function}
-use Rattle.hal_agreement.proofs.Handling.{HandledAt}
-use Rattle.hal_agreement.proofs.Leading.{Leads, stays, through, moved}
+use Rattle.hal_agreement.specs.PlacedStatements.{Opened, opened, exit_of, again_of, Leaving, ToFinish, ByResult, NoReturn, Exits, within_group, of_block, KeptAt, ReceiverAt, ReceiversAt, ChannelAt, ItemsAt, ConditionAt, FirstTestAt, TestAt, ReturnAt, ResultBy, ResultAt, CalledAt, StatementAt, BasicAt, AlternativeAt, GroupAt, StatementsAt}
+use Rattle.hal_agreement.proofs.Leading.{Leads, stays, through, acts_to}
 use Rattle.hal_agreement.proofs.Reaching.{Nest, behind, setting, core_at, Arrives, Holds, Reaches, OnStep, before, bind_reaches, bind_on, asks_reaches, acts}
+use Rattle.hal_agreement.proofs.Calling.{procedure_reaches}
+use Rattle.hal_agreement.proofs.Knowing.{going_to, Out, flow_to, Marks, Leads_out, Sound}
 use Rattle.hal_agreement.proofs.Raising.{Standing, bind_bind, asks_then, raised_reaches, store_reaches, turned_reaches}
 use Rattle.hal_agreement.proofs.Expressing.{name_same, address_reaches, expression_reaches}
 
--- control goes on there, if somewhere
-abbrev pub going_to : Nest → State → Option ℕ → Option Step
-going_to n st None = None
-going_to n st (Some at) = Some (Moves (core_at at [] [] n st))
+-- what a unit returns, as its type has it
+abbrev result_in : Option Body → Value → Value
+result_in o v = elim o [ None ↦ v | Some b ↦ returned_by b.head v ]
 
--- RETURN
-abbrev pub left_by : Nest → State → Leaving → Option Step
-left_by n st (ToFinish at) = Some (Moves (core_at at [] [] n st))
-left_by n st NoReturn = None
-
--- where the machine goes on once a statement is done
-abbrev pub flow_to : Exits → Nest → ℕ → Flow → State → Option Step
-flow_to exits n to Normal st = Some (Moves (core_at to [] [] n st))
-flow_to exits n to (Leaves label) st = going_to n st (exit_of exits.groups label)
-flow_to exits n to (Repeats label) st = going_to n st (again_of exits.groups label)
-flow_to exits n to (Returned v) st = left_by n st exits.leaving
-
--- where statements of ON ERROR stand, as the machine's entries have it and as the exits do
-abbrev pub Marks : Nest → Exits → Type 0
-Marks n exits = (m : ℕ) → n.spot 0 m ≡ exits.handler m
-
--- what is known of the tasks that are begun in statements
-pub record Sound (image : ImageParts) (begin : ℕ) (rec : Meaning) : Type 0 where
-  pub loops : (h : Here) (n : Nest) (exits : Exits) (loop : Looping) (g : Guard) (turn again to : ℕ) → Standing h n → Marks n exits → Has image turn (instr.Turn to)
-      → GroupAt image (site_of h) (within_group (opened loop.labels to (Some again)) exits) (suc loop.mark) loop.group (suc turn) again
-      → TestAt image (site_of h) g again turn to → (st : State)
-      → Reaches (setting image begin h) n (flow_to exits n to) (Moves (core_at again [] [] n st)) st.left (rec (Tested h loop g) st)
-  pub resumes : (h : Here) (n : Nest) (leaving : Leaving) (finish : ℕ) → Standing h n → in_function h ≡ false
-      → ((place : ℕ) → HandledAt image (site_of h) (of_block leaving (n.spot 0)) (handling_in place h.first h.body) (n.spot 0 place) finish) → (place : ℕ) (st : State)
-      → Reaches (setting image begin h) (behind n) (flow_to (of_block leaving (n.spot 0)) n finish) (Moves (core_at (n.spot 0 place) [] [] n st)) st.left (rec (Resuming h place) st)
-
-module _ (image : ImageParts) (begin : ℕ) (rec : Meaning) (h : Here) (n : Nest) (standing : Standing h n) where
+module _ (code : Code) (begin : ℕ) (rec : Meaning) (sound : Sound code begin rec) (h : Here) (n : Nest) (standing : Standing code h n) (out : Out) where
   abbrev pub FlowsAt : Exits → ℕ → Step → List Answered → Evaluated Flow → Type 0
-  FlowsAt exits to step left r = Reaches (setting image begin h) n (flow_to exits n to) step left r
+  FlowsAt exits to step left r = Reaches (setting code begin h) n (flow_to exits out n to) step left r
 
   -- a statement's step
   abbrev pub Begins : ℕ → State → Step
@@ -80,51 +61,49 @@ module _ (image : ImageParts) (begin : ℕ) (rec : Meaning) (h : Here) (n : Nest
 
   -- something without a value is done, and control goes on there
   abbrev pub DoneAt : ℕ → List Operand → List ℕ → Step → List Answered → Evaluated (Unit {0}) → Type 0
-  DoneAt to stack line step left r = Reaches (setting image begin h) n (λ (done : Unit {0}) st. Some (Moves (core_at to stack line n st))) step left r
+  DoneAt to stack line step left r = Reaches (setting code begin h) n (λ (done : Unit {0}) st. Some (Moves (core_at to stack line n st))) step left r
 
   pub normal : (exits : Exits) (to : ℕ) (st : State) → FlowsAt exits to (Begins to st) st.left (Gives Normal st)
-  normal exits to st = record { holds = stays (setting image begin h) _ st.left }
+  normal exits to st = record { holds = stays (setting code begin h) _ st.left }
 
   pub still : (exits : Exits) (from to : ℕ) (st : State) → from ≡ to → FlowsAt exits to (Begins from st) st.left (Gives Normal st)
   still exits from to st same = subst (λ end. FlowsAt exits end (Begins from st) st.left (Gives Normal st)) same (normal exits from st)
 
   -- a flow that leads to the same step
-  pub passes : (fine : Flow → State → Option Step) (flow : Flow) (st : State) (o : Option Step) → fine flow st ≡ o → OnStep o (λ to. Reaches (setting image begin h) n fine to st.left (Gives flow st))
+  pub passes : (fine : Flow → State → Option Step) (flow : Flow) (st : State) (o : Option Step) → fine flow st ≡ o → OnStep o (λ to. Reaches (setting code begin h) n fine to st.left (Gives flow st))
   passes fine flow st None e = tt
-  passes fine flow st (Some to) e = record { holds = subst (λ one. Arrives (setting image begin h) to st.left one st.left) (sym e) (stays (setting image begin h) to st.left) }
+  passes fine flow st (Some to) e = record { holds = subst (λ one. Arrives (setting code begin h) to st.left one st.left) (sym e) (stays (setting code begin h) to st.left) }
 
   pub goes_on_reaches : (exits : Exits) (to : ℕ) (step : Step) (left : List Answered) (r : Evaluated (Unit {0})) → DoneAt to [] [] step left r → FlowsAt exits to step left (goes_on r)
-  goes_on_reaches exits to step left r is = bind_reaches (setting image begin h) n (λ done st. Begins to st) (flow_to exits n to) step left r (λ nothing after. Gives Normal after) is (λ done st. normal exits to st)
+  goes_on_reaches exits to step left r is = bind_reaches (setting code begin h) n (λ done st. Begins to st) (flow_to exits out n to) step left r (λ nothing after. Gives Normal after) is (λ done st. normal exits to st)
 
   -- an instruction that is the last one
-  pub final : {A : Type 0} (F : ℕ → A → State → Option Step) (i : Instr) (at to : ℕ) (stack : List Operand) (line : List ℕ) (st : State) (r : Evaluated A) → One image at i to
-      → Reaches (setting image begin h) n (F (suc at)) (act (setting image begin h) i (core_at at stack line n st)) st.left r → Reaches (setting image begin h) n (F to) (Moves (core_at at stack line n st)) st.left r
+  pub final : {A : Type 0} (F : ℕ → A → State → Option Step) (i : Instr) (at to : ℕ) (stack : List Operand) (line : List ℕ) (st : State) (r : Evaluated A) → One code at i to
+      → Reaches (setting code begin h) n (F (suc at)) (act (setting code begin h) i (core_at at stack line n st)) st.left r → Reaches (setting code begin h) n (F to) (Moves (core_at at stack line n st)) st.left r
   final F i at to stack line st r one is =
-      subst (λ end. Reaches (setting image begin h) n (F end) (Moves (core_at at stack line n st)) st.left r) one.1 (acts (setting image begin h) n (F (suc at)) (core_at at stack line n st) st.left i r one.0 is)
+      subst (λ end. Reaches (setting code begin h) n (F end) (Moves (core_at at stack line n st)) st.left r) one.1 (acts (setting code begin h) n (F (suc at)) (core_at at stack line n st) st.left i r one.0 is)
 
   -- JUMP, behind which nothing is reached
-  jumps : (fine : Flow → State → Option Step) (from target : ℕ) (st : State) (r : Evaluated Flow) → Has image from (instr.Jump target) → Reaches (setting image begin h) n fine (Begins target st) st.left r → Reaches (setting image begin h) n fine (Begins from st) st.left r
-  jumps fine from target st r has is = acts (setting image begin h) n fine (core_at from [] [] n st) st.left (instr.Jump target) r has is
+  jumps : (fine : Flow → State → Option Step) (from target : ℕ) (st : State) (r : Evaluated Flow) → Has code from (instr.Jump target) → Reaches (setting code begin h) n fine (Begins target st) st.left r → Reaches (setting code begin h) n fine (Begins from st) st.left r
+  jumps fine from target st r has is = acts (setting code begin h) n fine (core_at from [] [] n st) st.left (instr.Jump target) r has is
 
   -- an expression, and then something
-  pub valued : {A : Type 0} (fine : A → State → Option Step) (e : Expression) (from middle : ℕ) (line : List ℕ) (st : State) (go : Value → State → Evaluated A) → ExpressionAt image (site_of h) e from middle
-      → ((v : Value) (after : State) → Reaches (setting image begin h) n fine (Moves (core_at middle (Val v ∷ []) line n after)) after.left (go v after))
-      → Reaches (setting image begin h) n fine (Moves (core_at from [] line n st)) st.left (bind (expression rec h e st) go)
+  pub valued : {A : Type 0} (fine : A → State → Option Step) (e : Expression) (from middle : ℕ) (line : List ℕ) (st : State) (go : Value → State → Evaluated A) → ExpressionAt code (site_of h) e from middle
+      → ((v : Value) (after : State) → Reaches (setting code begin h) n fine (Moves (core_at middle (Val v ∷ []) line n after)) after.left (go v after))
+      → Reaches (setting code begin h) n fine (Moves (core_at from [] line n st)) st.left (bind (expression rec h e st) go)
   valued fine e from middle line st go at each =
-      bind_reaches (setting image begin h) n (λ v after. Moves (core_at middle (Val v ∷ []) line n after)) fine _ st.left _ go (expression_reaches image begin h n standing rec e from middle [] line st at) each
+      bind_reaches (setting code begin h) n (λ v after. Moves (core_at middle (Val v ∷ []) line n after)) fine _ st.left _ go (expression_reaches code begin rec sound h n standing e from middle [] line st at) each
 
   -- an instruction that leads there
-  pub instr_leads : (i : Instr) (from : ℕ) (st : State) (left : List Answered) (to : Step) → Has image from i → act (setting image begin h) i (core_at from [] [] n st) ≡ to → Leads (setting image begin h) (Begins from st) left to left
-  instr_leads i from st left to has is =
-      subst (λ step. Leads (setting image begin h) (Begins from st) left step left) (ap (λ o. elim o [ None ↦ stuck (core_at from [] [] n st) | Some found ↦ act (setting image begin h) found (core_at from [] [] n st) ]) has ∙ is)
-      (moved (setting image begin h) (core_at from [] [] n st) left)
+  pub instr_leads : (i : Instr) (from : ℕ) (st : State) (left : List Answered) (to : Step) → Has code from i → act (setting code begin h) i (core_at from [] [] n st) ≡ to → Leads (setting code begin h) (Begins from st) left to left
+  instr_leads i from st left to has is = acts_to (setting code begin h) i (core_at from [] [] n st) left to has is
 
-  pub jump_leads : (from target : ℕ) (st : State) (left : List Answered) → Has image from (instr.Jump target) → Leads (setting image begin h) (Begins from st) left (Begins target st) left
+  pub jump_leads : (from target : ℕ) (st : State) (left : List Answered) → Has code from (instr.Jump target) → Leads (setting code begin h) (Begins from st) left (Begins target st) left
   jump_leads from target st left has = instr_leads (instr.Jump target) from st left (Begins target st) has refl
 
-  led_holds : (exits : Exits) (end to : ℕ) (step : Step) (left : List Answered) (r : Evaluated Flow) → ((st : State) → Leads (setting image begin h) (Begins end st) st.left (Begins to st) st.left)
-      → Holds (setting image begin h) n (flow_to exits n end) step left r → Holds (setting image begin h) n (flow_to exits n to) step left r
-  led_holds exits end to step left (Gives Normal st) leads is = through (setting image begin h) step (Begins end st) (Begins to st) left st.left st.left is (leads st)
+  led_holds : (exits : Exits) (end to : ℕ) (step : Step) (left : List Answered) (r : Evaluated Flow) → ((st : State) → Leads (setting code begin h) (Begins end st) st.left (Begins to st) st.left)
+      → Holds (setting code begin h) n (flow_to exits out n end) step left r → Holds (setting code begin h) n (flow_to exits out n to) step left r
+  led_holds exits end to step left (Gives Normal st) leads is = through (setting code begin h) step (Begins end st) (Begins to st) left st.left st.left is (leads st)
   led_holds exits end to step left (Gives (Leaves label) st) leads is = is
   led_holds exits end to step left (Gives (Repeats label) st) leads is = is
   led_holds exits end to step left (Gives (Returned v) st) leads is = is
@@ -134,20 +113,20 @@ module _ (image : ImageParts) (begin : ℕ) (rec : Meaning) (h : Here) (n : Nest
   led_holds exits end to step left Lost leads is = tt
 
   -- a statement whose end leads on
-  pub led : (exits : Exits) (end to : ℕ) (step : Step) (left : List Answered) (r : Evaluated Flow) → ((st : State) → Leads (setting image begin h) (Begins end st) st.left (Begins to st) st.left) → FlowsAt exits end step left r → FlowsAt exits to step left r
+  pub led : (exits : Exits) (end to : ℕ) (step : Step) (left : List Answered) (r : Evaluated Flow) → ((st : State) → Leads (setting code begin h) (Begins end st) st.left (Begins to st) st.left) → FlowsAt exits end step left r → FlowsAt exits to step left r
   led exits end to step left r leads is = record { holds = led_holds exits end to step left r leads is.holds }
 
   -- a receiver
   received_flag : (arrayed : Bool) (l : Located) (v : Value) (at : ℕ) (under : List Operand) (st : State)
-      → DoneAt at under [] (stored_at (setting image begin h) l.kind v l.at (stored l.kind v) (core_at at under [] n st)) st.left (received_by rec h l arrayed Unsubscripted v st)
-  received_flag true l v at under st = store_reaches image begin h n standing at under [] l.kind l.at v st
-  received_flag false l v at under st = store_reaches image begin h n standing at under [] l.kind l.at v st
+      → DoneAt at under [] (stored_at (setting code begin h) l.kind v l.at (stored l.kind v) (core_at at under [] n st)) st.left (received_by rec h l arrayed Unsubscripted v st)
+  received_flag true l v at under st = store_reaches code begin h n standing at under [] l.kind l.at v st
+  received_flag false l v at under st = store_reaches code begin h n standing at under [] l.kind l.at v st
 
-  received_as : (path : List Naming) (m : Meant) (v : Value) (from to : ℕ) (under : List Operand) (st : State) → KeptAt image path st.kept.places m from to
+  received_as : (path : List Naming) (m : Meant) (v : Value) (from to : ℕ) (under : List Operand) (st : State) → KeptAt code path st.kept.places m from to
       → DoneAt to under [] (Moves (core_at from (Val v ∷ under) [] n st)) st.left
       (bind (meant_chosen (λ at shape before. data_chosen rec h path Unsubscripted at shape before) m st) (λ l after. received_by rec h l (is_array_named path m) Unsubscripted v after))
   received_as path (MeantData at shape) v from to under st here =
-      address_reaches image begin h n standing _ (kind_of_first (chosen path shape.components)) (further (offset path shape.components) at) from (Val v ∷ under) [] st _ here.0
+      address_reaches code begin rec sound h n standing _ (kind_of_first (chosen path shape.components)) (further (offset path shape.components) at) from (Val v ∷ under) [] st _ here.0
       (final (λ end done after. Some (Moves (core_at end under [] n after))) instr.Keep (suc from) to (At (further (offset path shape.components) at) (kind_of_first (chosen path shape.components)) ∷ Val v ∷ under) [] st _ here.1
       (received_flag (is_array_named path (MeantData at shape)) (record { at = further (offset path shape.components) at; kind = kind_of_first (chosen path shape.components) }) v (suc (suc from)) under st))
   received_as path (MeantConstant w) v from to under st here = absurd here
@@ -156,120 +135,120 @@ module _ (image : ImageParts) (begin : ℕ) (rec : Meaning) (h : Here) (n : Nest
   received_as path (MeantBuiltin b) v from to under st here = absurd here
   received_as path MeantNothing v from to under st here = absurd here
 
-  received_reaches : (reference : Reference) (v : Value) (from to : ℕ) (under : List Operand) (st : State) → ReceiverAt image (site_of h) reference from to
+  received_reaches : (reference : Reference) (v : Value) (from to : ℕ) (under : List Operand) (st : State) → ReceiverAt code (site_of h) reference from to
       → DoneAt to under [] (Moves (core_at from (Val v ∷ under) [] n st)) st.left (received rec h v reference st)
   received_reaches (Refers place name path Unsubscripted) v from to under st here =
-      received_as path (name_meant h name st.kept.places) v from to under st (subst (λ m. KeptAt image path st.kept.places m from to) (name_same h name st.kept.places) (here st.kept.places))
+      received_as path (name_meant h name st.kept.places) v from to under st (subst (λ m. KeptAt code path st.kept.places m from to) (name_same h name st.kept.places) (here st.kept.places))
   received_reaches (Refers place name path (ByName at other)) v from to under st here = absurd here
   received_reaches (Refers place name path (ByInteger at mark number)) v from to under st here = absurd here
   received_reaches (Refers place name path (ByParts at copies arrays components)) v from to under st here = absurd here
 
   -- receivers, the last of which takes the value itself
-  pub all_received_reaches : (receivers : List Reference) (v : Value) (from to : ℕ) (st : State) → ReceiversAt image (site_of h) receivers from to
+  pub all_received_reaches : (receivers : List Reference) (v : Value) (from to : ℕ) (st : State) → ReceiversAt code (site_of h) receivers from to
       → DoneAt to [] [] (Moves (core_at from (Val v ∷ []) [] n st)) st.left (all_received rec h v receivers st)
   all_received_reaches [] v from to st here = absurd here
   all_received_reaches (receiver ∷ []) v from to st here =
-      bind_reaches (setting image begin h) n (λ done after. Moves (core_at to [] [] n after)) _ _ st.left _ (λ done after. Gives tt after) (received_reaches receiver v from to [] st here) (λ done after. record { holds = stays (setting image begin h) _ after.left })
+      bind_reaches (setting code begin h) n (λ done after. Moves (core_at to [] [] n after)) _ _ st.left _ (λ done after. Gives tt after) (received_reaches receiver v from to [] st here) (λ done after. record { holds = stays (setting code begin h) _ after.left })
   all_received_reaches (receiver ∷ next ∷ others) v from to st here =
-      acts (setting image begin h) n _ (core_at from (Val v ∷ []) [] n st) st.left instr.Dup _ here.1
-      (bind_reaches (setting image begin h) n (λ done after. Moves (core_at here.0 (Val v ∷ []) [] n after)) _ _ st.left _ (λ done after. all_received rec h v (next ∷ others) after)
+      acts (setting code begin h) n _ (core_at from (Val v ∷ []) [] n st) st.left instr.Dup _ here.1
+      (bind_reaches (setting code begin h) n (λ done after. Moves (core_at here.0 (Val v ∷ []) [] n after)) _ _ st.left _ (λ done after. all_received rec h v (next ∷ others) after)
       (received_reaches receiver v (suc from) here.0 (Val v ∷ []) st here.2) (λ done after. all_received_reaches (next ∷ others) v here.0 to after here.3))
 
   -- items are added to the line
-  items_reaches : (items : Expressions) (from to : ℕ) (line : List ℕ) (st : State) → ItemsAt image (site_of h) items from to
-      → Reaches (setting image begin h) n (λ vs after. Some (Moves (core_at to [] (line ++ line_of vs) n after))) (Moves (core_at from [] line n st)) st.left (values rec h items st)
+  items_reaches : (items : Expressions) (from to : ℕ) (line : List ℕ) (st : State) → ItemsAt code (site_of h) items from to
+      → Reaches (setting code begin h) n (λ vs after. Some (Moves (core_at to [] (line ++ line_of vs) n after))) (Moves (core_at from [] line n st)) st.left (values rec h items st)
   items_reaches NoExpressions from to line st here =
-      subst (λ end. Reaches (setting image begin h) n (λ vs after. Some (Moves (core_at end [] (line ++ line_of vs) n after))) (Moves (core_at from [] line n st)) st.left (Gives [] st)) here
-      (record { holds = subst (λ one. Leads (setting image begin h) (Moves (core_at from [] line n st)) st.left (Moves (core_at from [] one n st)) st.left) (sym (append-nil line)) (stays (setting image begin h) _ st.left) })
+      subst (λ end. Reaches (setting code begin h) n (λ vs after. Some (Moves (core_at end [] (line ++ line_of vs) n after))) (Moves (core_at from [] line n st)) st.left (Gives [] st)) here
+      (record { holds = subst (λ one. Leads (setting code begin h) (Moves (core_at from [] line n st)) st.left (Moves (core_at from [] one n st)) st.left) (sym (append-nil line)) (stays (setting code begin h) _ st.left) })
   items_reaches (MoreExpressions first others) from to line st here =
       valued _ first from here.0 line st (λ v after. bind (values rec h others after) (λ vs later. Gives (v ∷ vs) later)) here.1
-      (λ v after. acts (setting image begin h) n _ (core_at here.0 (Val v ∷ []) line n after) after.left instr.Item _ here.2
-      (bind_reaches (setting image begin h) n (λ vs later. Moves (core_at to [] ((line ++ item_of v) ++ line_of vs) n later)) _ _ after.left (values rec h others after) (λ vs later. Gives (v ∷ vs) later)
+      (λ v after. acts (setting code begin h) n _ (core_at here.0 (Val v ∷ []) line n after) after.left instr.Item _ here.2
+      (bind_reaches (setting code begin h) n (λ vs later. Moves (core_at to [] ((line ++ item_of v) ++ line_of vs) n later)) _ _ after.left (values rec h others after) (λ vs later. Gives (v ∷ vs) later)
       (items_reaches others (suc here.0) to (line ++ item_of v) after here.3)
-      (λ vs later. record { holds = subst (λ one. Leads (setting image begin h) (Moves (core_at to [] ((line ++ item_of v) ++ line_of vs) n later)) later.left (Moves (core_at to [] one n later)) later.left) (append_assoc line (item_of v) (line_of vs)) (stays (setting image begin h) _ later.left) })))
+      (λ vs later. record { holds = subst (λ one. Leads (setting code begin h) (Moves (core_at to [] ((line ++ item_of v) ++ line_of vs) n later)) later.left (Moves (core_at to [] one n later)) later.left) (append_assoc line (item_of v) (line_of vs)) (stays (setting code begin h) _ later.left) })))
 
   printed_by : (long : Bool) (channel to : ℕ) (line : List ℕ) (st : State)
-      → DoneAt to [] [] (if long then raised_before (setting image begin h) (error 3 3) (Asks (request.Print channel (take LINE_LIMIT line))) (core_at to [] [] n st) else Waits (request.Print channel line) (Then Goes) (core_at to [] [] n st)) st.left
+      → DoneAt to [] [] (if long then raised_before (setting code begin h) (error 3 3) (Asks (request.Print channel (take LINE_LIMIT line))) (core_at to [] [] n st) else Waits (request.Print channel line) (Then Goes) (core_at to [] [] n st)) st.left
       (bind (if long then bind (raise h (error 3 3) st) (λ ignored after. Gives (take LINE_LIMIT line) after) else Gives line st) (λ fitting after. request_made (request.Print channel fitting) after))
   printed_by true channel to line st =
-      subst (λ r. DoneAt to [] [] (raised_before (setting image begin h) (error 3 3) (Asks (request.Print channel (take LINE_LIMIT line))) (core_at to [] [] n st)) st.left r)
+      subst (λ r. DoneAt to [] [] (raised_before (setting code begin h) (error 3 3) (Asks (request.Print channel (take LINE_LIMIT line))) (core_at to [] [] n st)) st.left r)
       (sym (bind_bind (raise h (error 3 3) st) (λ ignored after. Gives (take LINE_LIMIT line) after) (λ fitting after. request_made (request.Print channel fitting) after)))
-      (raised_reaches image begin h n standing _ (error 3 3) (Asks (request.Print channel (take LINE_LIMIT line))) to [] [] st (λ ignored after. request_made (request.Print channel (take LINE_LIMIT line)) after)
-      (λ after. asks_reaches (setting image begin h) n _ (request.Print channel (take LINE_LIMIT line)) (Then Goes) (core_at to [] [] n after) after.entries after.left (λ a later. Gives tt later) (λ a rest. record { holds = stays (setting image begin h) _ rest })))
+      (raised_reaches code begin h n standing _ (error 3 3) (Asks (request.Print channel (take LINE_LIMIT line))) to [] [] st (λ ignored after. request_made (request.Print channel (take LINE_LIMIT line)) after)
+      (λ after. asks_reaches (setting code begin h) n _ (request.Print channel (take LINE_LIMIT line)) (Then Goes) (core_at to [] [] n after) after.entries after.left (λ a later. Gives tt later) (λ a rest. record { holds = stays (setting code begin h) _ rest })))
   printed_by false channel to line st =
-      asks_reaches (setting image begin h) n _ (request.Print channel line) (Then Goes) (core_at to [] [] n st) st.entries st.left (λ a later. Gives tt later) (λ a rest. record { holds = stays (setting image begin h) _ rest })
+      asks_reaches (setting code begin h) n _ (request.Print channel line) (Then Goes) (core_at to [] [] n st) st.entries st.left (λ a later. Gives tt later) (λ a rest. record { holds = stays (setting code begin h) _ rest })
 
-  printed_reaches : (channel from to : ℕ) (line : List ℕ) (st : State) → One image from (instr.Print channel) to
+  printed_reaches : (channel from to : ℕ) (line : List ℕ) (st : State) → One code from (instr.Print channel) to
       → DoneAt to [] [] (Moves (core_at from [] line n st)) st.left (bind (line_fitting h line st) (λ fitting after. request_made (request.Print channel fitting) after))
   printed_reaches channel from to line st one =
       final (λ end done after. Some (Moves (core_at end [] [] n after))) (instr.Print channel) from to [] line st _ one (printed_by (nat_lt LINE_LIMIT (length line)) channel (suc from) line st)
 
   -- WRITE
-  pub written_reaches : (channel : Expression) (items : Expressions) (number from last to : ℕ) (st : State) → ChannelAt channel number → ItemsAt image (site_of h) items from last → One image last (instr.Print number) to
+  pub written_reaches : (channel : Expression) (items : Expressions) (number from last to : ℕ) (st : State) → ChannelAt channel number → ItemsAt code (site_of h) items from last → One code last (instr.Print number) to
       → DoneAt to [] [] (Begins from st) st.left (written rec h channel items st)
   written_reaches (Literal place (Integer n0)) items number from last to st same here one =
-      bind_reaches (setting image begin h) n (λ vs after. Moves (core_at last [] (line_of vs) n after)) _ _ st.left (values rec h items st) _ (items_reaches items from last [] st here)
+      bind_reaches (setting code begin h) n (λ vs after. Moves (core_at last [] (line_of vs) n after)) _ _ st.left (values rec h items st) _ (items_reaches items from last [] st here)
       (λ vs after. subst (λ channel. DoneAt to [] [] (Moves (core_at last [] (line_of vs) n after)) after.left (bind (line_fitting h (line_of vs) after) (λ fitting later. request_made (request.Print channel fitting) later))) (sym same)
       (printed_reaches number last to (line_of vs) after one))
   written_reaches other items number from last to st same here one = absurd same
 
   -- a condition
-  pub condition_reaches : {A : Type 0} (fine : A → State → Option Step) (condition : Expression) (from target to : ℕ) (st : State) (go : Value → State → Evaluated A) → ConditionAt image (site_of h) condition from target to
-      → ((v : Value) (after : State) → Reaches (setting image begin h) n fine (Begins (if holds v then to else target) after) after.left (go v after))
-      → Reaches (setting image begin h) n fine (Begins from st) st.left (bind (expression rec h condition st) go)
+  pub condition_reaches : {A : Type 0} (fine : A → State → Option Step) (condition : Expression) (from target to : ℕ) (st : State) (go : Value → State → Evaluated A) → ConditionAt code (site_of h) condition from target to
+      → ((v : Value) (after : State) → Reaches (setting code begin h) n fine (Begins (if holds v then to else target) after) after.left (go v after))
+      → Reaches (setting code begin h) n fine (Begins from st) st.left (bind (expression rec h condition st) go)
   condition_reaches fine condition from target to st go here each =
       valued fine condition from here.0 [] st go here.1
-      (λ v after. acts (setting image begin h) n fine (core_at here.0 (Val v ∷ []) [] n after) after.left (instr.JumpNot target) (go v after) here.2.0
-      (subst (λ end. Reaches (setting image begin h) n fine (Begins (if holds v then end else target) after) after.left (go v after)) (sym here.2.1) (each v after)))
+      (λ v after. acts (setting code begin h) n fine (core_at here.0 (Val v ∷ []) [] n after) after.left (instr.JumpNot target) (go v after) here.2.0
+      (subst (λ end. Reaches (setting code begin h) n fine (Begins (if holds v then end else target) after) after.left (go v after)) (sym here.2.1) (each v after)))
 
-  pub first_test_reaches : {A : Type 0} (fine : A → State → Option Step) (g : Guard) (from exit to : ℕ) (st : State) (go : Bool → State → Evaluated A) → FirstTestAt image (site_of h) g from exit to
-      → ((b : Bool) (after : State) → Reaches (setting image begin h) n fine (Begins (if b then to else exit) after) after.left (go b after))
-      → Reaches (setting image begin h) n fine (Begins from st) st.left (bind (first_holds rec h g st) go)
+  pub first_test_reaches : {A : Type 0} (fine : A → State → Option Step) (g : Guard) (from exit to : ℕ) (st : State) (go : Bool → State → Evaluated A) → FirstTestAt code (site_of h) g from exit to
+      → ((b : Bool) (after : State) → Reaches (setting code begin h) n fine (Begins (if b then to else exit) after) after.left (go b after))
+      → Reaches (setting code begin h) n fine (Begins from st) st.left (bind (first_holds rec h g st) go)
   first_test_reaches fine (While place condition) from exit to st go here each =
-      subst (λ r. Reaches (setting image begin h) n fine (Begins from st) st.left r) (sym (bind_bind (expression rec h condition st) (λ v after. Gives (holds v) after) go))
+      subst (λ r. Reaches (setting code begin h) n fine (Begins from st) st.left r) (sym (bind_bind (expression rec h condition st) (λ v after. Gives (holds v) after) go))
       (condition_reaches fine condition from exit to st (λ v after. go (holds v) after) here (λ v after. each (holds v) after))
-  first_test_reaches fine (Until place condition) from exit to st go here each = subst (λ at. Reaches (setting image begin h) n fine (Begins at st) st.left (go true st)) (sym here) (each true st)
+  first_test_reaches fine (Until place condition) from exit to st go here each = subst (λ at. Reaches (setting code begin h) n fine (Begins at st) st.left (go true st)) (sym here) (each true st)
 
-  while_again : {A : Type 0} (fine : A → State → Option Step) (b : Bool) (middle turn to : ℕ) (st : State) (go : Bool → State → Evaluated A) → One image (suc middle) (instr.Jump turn) to
-      → Reaches (setting image begin h) n fine (Begins (if b then turn else to) st) st.left (go b st)
-      → Reaches (setting image begin h) n fine (Begins (if b then suc middle else to) st) st.left (go b st)
-  while_again fine true middle turn to st go one is = before (setting image begin h) n fine (Begins (suc middle) st) st.left (Begins turn st) st.left (go true st) (jump_leads (suc middle) turn st st.left one.0) is
+  while_again : {A : Type 0} (fine : A → State → Option Step) (b : Bool) (middle turn to : ℕ) (st : State) (go : Bool → State → Evaluated A) → One code (suc middle) (instr.Jump turn) to
+      → Reaches (setting code begin h) n fine (Begins (if b then turn else to) st) st.left (go b st)
+      → Reaches (setting code begin h) n fine (Begins (if b then suc middle else to) st) st.left (go b st)
+  while_again fine true middle turn to st go one is = before (setting code begin h) n fine (Begins (suc middle) st) st.left (Begins turn st) st.left (go true st) (jump_leads (suc middle) turn st st.left one.0) is
   while_again fine false middle turn to st go one is = is
 
   until_again : {A : Type 0} (fine : A → State → Option Step) (b : Bool) (turn to : ℕ) (st : State) (go : Bool → State → Evaluated A)
-      → ((c : Bool) → Reaches (setting image begin h) n fine (Begins (if c then turn else to) st) st.left (go c st))
-      → Reaches (setting image begin h) n fine (Begins (if b then to else turn) st) st.left (go (not b) st)
+      → ((c : Bool) → Reaches (setting code begin h) n fine (Begins (if c then turn else to) st) st.left (go c st))
+      → Reaches (setting code begin h) n fine (Begins (if b then to else turn) st) st.left (go (not b) st)
   until_again fine true turn to st go each = each false
   until_again fine false turn to st go each = each true
 
   -- a later test of a loop
-  pub test_reaches : {A : Type 0} (fine : A → State → Option Step) (g : Guard) (from turn to : ℕ) (st : State) (go : Bool → State → Evaluated A) → TestAt image (site_of h) g from turn to
-      → ((b : Bool) (after : State) → Reaches (setting image begin h) n fine (Begins (if b then turn else to) after) after.left (go b after))
-      → Reaches (setting image begin h) n fine (Begins from st) st.left (bind (guard_holds rec h g st) go)
+  pub test_reaches : {A : Type 0} (fine : A → State → Option Step) (g : Guard) (from turn to : ℕ) (st : State) (go : Bool → State → Evaluated A) → TestAt code (site_of h) g from turn to
+      → ((b : Bool) (after : State) → Reaches (setting code begin h) n fine (Begins (if b then turn else to) after) after.left (go b after))
+      → Reaches (setting code begin h) n fine (Begins from st) st.left (bind (guard_holds rec h g st) go)
   test_reaches fine (While place condition) from turn to st go here each =
-      subst (λ r. Reaches (setting image begin h) n fine (Begins from st) st.left r) (sym (bind_bind (expression rec h condition st) (λ v after. Gives (holds v) after) go))
+      subst (λ r. Reaches (setting code begin h) n fine (Begins from st) st.left r) (sym (bind_bind (expression rec h condition st) (λ v after. Gives (holds v) after) go))
       (condition_reaches fine condition from to (suc here.0) st (λ v after. go (holds v) after) (here.0, here.1, (here.2, refl)) (λ v after. while_again fine (holds v) here.0 turn to after go here.3 (each (holds v) after)))
   test_reaches fine (Until place condition) from turn to st go here each =
-      subst (λ r. Reaches (setting image begin h) n fine (Begins from st) st.left r) (sym (bind_bind (expression rec h condition st) (λ v after. Gives (not (holds v)) after) go))
+      subst (λ r. Reaches (setting code begin h) n fine (Begins from st) st.left r) (sym (bind_bind (expression rec h condition st) (λ v after. Gives (not (holds v)) after) go))
       (condition_reaches fine condition from turn to st (λ v after. go (not (holds v)) after) here (λ v after. until_again fine (holds v) turn to after go (λ c. each c after)))
 
   -- EXIT of a group leads to its end, or further out
   leaves_by : (exits : Exits) (b : Bool) (label : Option (List ℕ)) (to : ℕ) (st : State)
       → OnStep (going_to n st (if b then Some to else exit_of exits.groups label)) (λ x. FlowsAt exits to x st.left (Gives (if b then Normal else Leaves label) st))
   leaves_by exits true label to st = normal exits to st
-  leaves_by exits false label to st = passes (flow_to exits n to) (Leaves label) st (going_to n st (exit_of exits.groups label)) refl
+  leaves_by exits false label to st = passes (flow_to exits out n to) (Leaves label) st (going_to n st (exit_of exits.groups label)) refl
 
   repeats_by : (exits : Exits) (b : Bool) (label : Option (List ℕ)) (again to : ℕ) (next : State → Evaluated Flow) (st : State) → FlowsAt exits to (Begins again st) st.left (next st)
       → OnStep (going_to n st (if b then Some again else again_of exits.groups label)) (λ x. FlowsAt exits to x st.left (goes_round next (if b then NextTurn else Ended (Repeats label)) st))
   repeats_by exits true label again to next st is = is
-  repeats_by exits false label again to next st is = passes (flow_to exits n to) (Repeats label) st (going_to n st (again_of exits.groups label)) refl
+  repeats_by exits false label again to next st is = passes (flow_to exits out n to) (Repeats label) st (going_to n st (again_of exits.groups label)) refl
 
   after_turn_reaches : (exits : Exits) (labels : List Naming) (again to : ℕ) (next : State → Evaluated Flow) (flow : Flow) (st : State) → FlowsAt exits to (Begins again st) st.left (next st)
-      → OnStep (flow_to (within_group (opened labels to (Some again)) exits) n again flow st) (λ x. FlowsAt exits to x st.left (goes_round next (after_turn labels flow) st))
+      → OnStep (flow_to (within_group (opened labels to (Some again)) exits) out n again flow st) (λ x. FlowsAt exits to x st.left (goes_round next (after_turn labels flow) st))
   after_turn_reaches exits labels again to next Normal st is = is
   after_turn_reaches exits labels again to next (Leaves label) st is = leaves_by exits (is_meant labels label) label to st
   after_turn_reaches exits labels again to next (Repeats label) st is = repeats_by exits (is_meant labels label) label again to next st is
-  after_turn_reaches exits labels again to next (Returned v) st is = passes (flow_to exits n to) (Returned v) st (left_by n st exits.leaving) refl
+  after_turn_reaches exits labels again to next (Returned v) st is = passes (flow_to exits out n to) (Returned v) st (out v st) refl
 
   unmade : (exits : Exits) (labels : List Naming) (body next : State → Evaluated Flow) (to : ℕ) (made : Bool) (st : State)
       → OnStep (if made then None else Some (Begins to st)) (λ x. FlowsAt exits to x st.left (turn_made labels body next made st))
@@ -277,43 +256,39 @@ module _ (image : ImageParts) (begin : ℕ) (rec : Meaning) (h : Here) (n : Nest
   unmade exits labels body next to false st = normal exits to st
 
   -- a turn of a loop, where its condition lets it begin
-  pub turn_reaches : (exits : Exits) (labels : List Naming) (body next : State → Evaluated Flow) (turn again to : ℕ) → Has image turn (instr.Turn to)
+  pub turn_reaches : (exits : Exits) (labels : List Naming) (body next : State → Evaluated Flow) (turn again to : ℕ) → Has code turn (instr.Turn to)
       → ((st : State) → FlowsAt (within_group (opened labels to (Some again)) exits) again (Begins (suc turn) st) st.left (body st)) → ((st : State) → FlowsAt exits to (Begins again st) st.left (next st))
       → (b : Bool) (st : State) → FlowsAt exits to (Begins (if b then turn else to) st) st.left (turn_if h labels body next b st)
   turn_reaches exits labels body next turn again to has bodies nexts false st = normal exits to st
   turn_reaches exits labels body next turn again to has bodies nexts true st =
-      acts (setting image begin h) n (flow_to exits n to) (core_at turn [] [] n st) st.left (instr.Turn to) _ has
-      (turned_reaches image begin h n (flow_to exits n to) _ (suc turn) [] [] st (λ made after. turn_made labels body next made after)
-      (λ after. bind_on (setting image begin h) n (flow_to (within_group (opened labels to (Some again)) exits) n again) (flow_to exits n to) _ after.left (body after) (λ flow later. goes_round next (after_turn labels flow) later)
+      acts (setting code begin h) n (flow_to exits out n to) (core_at turn [] [] n st) st.left (instr.Turn to) _ has
+      (turned_reaches code begin h n (flow_to exits out n to) _ (suc turn) [] [] st (λ made after. turn_made labels body next made after)
+      (λ after. bind_on (setting code begin h) n (flow_to (within_group (opened labels to (Some again)) exits) out n again) (flow_to exits out n to) _ after.left (body after) (λ flow later. goes_round next (after_turn labels flow) later)
       (bodies after) (λ flow later. after_turn_reaches exits labels again to next flow later (nexts later)))
-      (λ spent. bind_on (setting image begin h) n (λ made after. if made then None else Some (Begins to after)) (flow_to exits n to) _ st.left (bind (raise h (error 1 8) st) (λ ignored after. Gives false after)) (λ made after. turn_made labels body next made after)
-      (raised_reaches image begin h n standing (λ made after. if made then None else Some (Begins to after)) (error 1 8) Goes to [] [] st (λ ignored after. Gives false after) (λ after. record { holds = stays (setting image begin h) _ after.left }))
+      (λ spent. bind_on (setting code begin h) n (λ made after. if made then None else Some (Begins to after)) (flow_to exits out n to) _ st.left (bind (raise h (error 1 8) st) (λ ignored after. Gives false after)) (λ made after. turn_made labels body next made after)
+      (raised_reaches code begin h n standing (λ made after. if made then None else Some (Begins to after)) (error 1 8) Goes to [] [] st (λ ignored after. Gives false after) (λ after. record { holds = stays (setting code begin h) _ after.left }))
       (λ made after. unmade exits labels body next to made after)))
 
   pub group_reaches : (exits : Exits) (labels : List Naming) (to : ℕ) (flow : Flow) (st : State)
-      → OnStep (flow_to (within_group (opened labels to None) exits) n to flow st) (λ x. FlowsAt exits to x st.left (Gives (group_left labels flow) st))
+      → OnStep (flow_to (within_group (opened labels to None) exits) out n to flow st) (λ x. FlowsAt exits to x st.left (Gives (group_left labels flow) st))
   group_reaches exits labels to Normal st = normal exits to st
   group_reaches exits labels to (Leaves label) st = leaves_by exits (is_meant labels label) label to st
-  group_reaches exits labels to (Repeats label) st = passes (flow_to exits n to) (Repeats label) st (going_to n st (again_of exits.groups label)) refl
-  group_reaches exits labels to (Returned v) st = passes (flow_to exits n to) (Returned v) st (left_by n st exits.leaving) refl
+  group_reaches exits labels to (Repeats label) st = passes (flow_to exits out n to) (Repeats label) st (going_to n st (again_of exits.groups label)) refl
+  group_reaches exits labels to (Returned v) st = passes (flow_to exits out n to) (Returned v) st (out v st) refl
 
   pub behind_reaches : (exits : Exits) (middle to : ℕ) (next : State → Evaluated Flow) (flow : Flow) (st : State) → FlowsAt exits to (Begins middle st) st.left (next st)
-      → OnStep (flow_to exits n middle flow st) (λ x. FlowsAt exits to x st.left (goes_behind flow next st))
+      → OnStep (flow_to exits out n middle flow st) (λ x. FlowsAt exits to x st.left (goes_behind flow next st))
   behind_reaches exits middle to next Normal st is = is
-  behind_reaches exits middle to next (Leaves label) st is = passes (flow_to exits n to) (Leaves label) st (going_to n st (exit_of exits.groups label)) refl
-  behind_reaches exits middle to next (Repeats label) st is = passes (flow_to exits n to) (Repeats label) st (going_to n st (again_of exits.groups label)) refl
-  behind_reaches exits middle to next (Returned v) st is = passes (flow_to exits n to) (Returned v) st (left_by n st exits.leaving) refl
+  behind_reaches exits middle to next (Leaves label) st is = passes (flow_to exits out n to) (Leaves label) st (going_to n st (exit_of exits.groups label)) refl
+  behind_reaches exits middle to next (Repeats label) st is = passes (flow_to exits out n to) (Repeats label) st (going_to n st (again_of exits.groups label)) refl
+  behind_reaches exits middle to next (Returned v) st is = passes (flow_to exits out n to) (Returned v) st (out v st) refl
 
-  -- EXIT, REPEAT and RETURN
-  pub exit_reaches : (exits : Exits) (from to target : ℕ) (flow : Flow) (o : Option ℕ) (st : State) → flow_to exits n to flow st ≡ going_to n st o → o ≡ Some target → Has image from (instr.Jump target)
+  -- EXIT and REPEAT
+  pub exit_reaches : (exits : Exits) (from to target : ℕ) (flow : Flow) (o : Option ℕ) (st : State) → flow_to exits out n to flow st ≡ going_to n st o → o ≡ Some target → Has code from (instr.Jump target)
       → FlowsAt exits to (Begins from st) st.left (Gives flow st)
   exit_reaches exits from to target flow o st leads is has = record {
-    holds = subst (λ one. Arrives (setting image begin h) (Begins from st) st.left one st.left) (sym (leads ∙ ap (going_to n st) is)) (jump_leads from target st st.left has);
+    holds = subst (λ one. Arrives (setting code begin h) (Begins from st) st.left one st.left) (sym (leads ∙ ap (going_to n st) is)) (jump_leads from target st st.left has);
   }
-
-  pub return_holds : (leaving : Leaving) (from to : ℕ) (st : State) → ReturnAt image leaving from to → Arrives (setting image begin h) (Begins from st) st.left (left_by n st leaving) st.left
-  return_holds (ToFinish at) from to st one = jump_leads from at st st.left one.0
-  return_holds NoReturn from to st one = absurd one
 
   pub either_reaches : (exits : Exits) (to one other : ℕ) (b : Bool) (held failed : State → Evaluated Flow) (st : State) → FlowsAt exits to (Begins one st) st.left (held st) → FlowsAt exits to (Begins other st) st.left (failed st)
       → FlowsAt exits to (Begins (if b then one else other) st) st.left (one_of b held failed st)
@@ -321,7 +296,63 @@ module _ (image : ImageParts) (begin : ℕ) (rec : Meaning) (h : Here) (n : Nest
   either_reaches exits to one other false held failed st is are = are
 
   -- a consequence, behind which control goes over the alternative
-  pub over_reaches : (exits : Exits) (m : ℕ) (alternative : Alternative) (end other to : ℕ) (step : Step) (left : List Answered) (r : Evaluated Flow) → AlternativeAt image (site_of h) exits m alternative end other to
+  pub over_reaches : (exits : Exits) (m : ℕ) (alternative : Alternative) (end other to : ℕ) (step : Step) (left : List Answered) (r : Evaluated Flow) → AlternativeAt code (site_of h) exits m alternative end other to
       → FlowsAt exits end step left r → FlowsAt exits to step left r
   over_reaches exits m NoAlternative end other to step left r beside is = subst (λ last. FlowsAt exits last step left r) beside.0 is
   over_reaches exits m (Otherwise two) end other to step left r beside is = led exits end to step left r (λ after. jump_leads end to after after.left beside.0) is
+
+  unchanged : (from to : ℕ) (v : Value) (st : State) → from ≡ to
+      → Reaches (setting code begin h) n (λ w after. Some (Moves (core_at to (Val w ∷ []) [] n after))) (Moves (core_at from (Val v ∷ []) [] n st)) st.left (Gives v st)
+  unchanged from to v st same =
+      subst (λ end. Reaches (setting code begin h) n (λ w after. Some (Moves (core_at end (Val w ∷ []) [] n after))) (Moves (core_at from (Val v ∷ []) [] n st)) st.left (Gives v st)) same
+      (record { holds = stays (setting code begin h) _ st.left })
+
+  -- RETURN with a value, as the FUNCTION's type has it
+  result_by : (head : Head) (from to : ℕ) (v : Value) (st : State) → ResultBy code head from to
+      → Reaches (setting code begin h) n (λ w after. Some (Moves (core_at to (Val w ∷ []) [] n after))) (Moves (core_at from (Val v ∷ []) [] n st)) st.left (Gives (returned_by head v) st)
+  result_by (Function place inputs (HasKind (CharacterKind at size) precision) mode) from to v st one =
+      final (λ end w after. Some (Moves (core_at end (Val w ∷ []) [] n after))) (instr.Op1 (choice.Known op1.Character)) from to (Val v ∷ []) [] st _ one (record { holds = character v })
+    where
+      character : (w : Value) → Leads (setting code begin h) (act (setting code begin h) (instr.Op1 (choice.Known op1.Character)) (core_at from (Val w ∷ []) [] n st)) st.left
+          (Moves (core_at (suc from) (Val (mended_of_one op1.Character w) ∷ []) [] n st)) st.left
+      character (value.Int a) = stays (setting code begin h) _ st.left
+      character (value.Bits len word) = stays (setting code begin h) _ st.left
+      character (value.Text text) = stays (setting code begin h) _ st.left
+  result_by (Function place inputs (HasKind (IntegerKind at) precision) mode) from to v st same = unchanged from to v st same
+  result_by (Function place inputs (HasKind (BooleanKind at) precision) mode) from to v st same = unchanged from to v st same
+  result_by (Function place inputs (HasKind (EventKind at) precision) mode) from to v st same = unchanged from to v st same
+  result_by (Function place inputs (HasKind (BitKind at size) precision) mode) from to v st same = unchanged from to v st same
+  result_by (Function place inputs (HasKind (StructureKind at template copies) precision) mode) from to v st same = unchanged from to v st same
+  result_by (Function place inputs NoKind mode) from to v st same = unchanged from to v st same
+  result_by (Program place) from to v st same = unchanged from to v st same
+  result_by (Compool place) from to v st same = unchanged from to v st same
+  result_by (Task place) from to v st same = unchanged from to v st same
+  result_by (Procedure place inputs outputs mode) from to v st same = unchanged from to v st same
+
+  result_at : (o : Option Body) (from to : ℕ) (v : Value) (st : State) → ResultAt code o from to
+      → Reaches (setting code begin h) n (λ w after. Some (Moves (core_at to (Val w ∷ []) [] n after))) (Moves (core_at from (Val v ∷ []) [] n st)) st.left (Gives (result_in o v) st)
+  result_at None from to v st same = unchanged from to v st same
+  result_at (Some b) from to v st here = result_by b.head from to v st here
+
+  returned_holds : (late : ℕ) (v : Value) (st : State) (exits : Exits) (to : ℕ) (o : Option Step) → out (Some v) st ≡ o → Arrives (setting code begin h) (Moves (core_at late (Val v ∷ []) [] n st)) st.left o st.left
+      → Reaches (setting code begin h) n (flow_to exits out n to) (Moves (core_at late (Val v ∷ []) [] n st)) st.left (Gives (Returned (Some v)) st)
+  returned_holds late v st exits to o e is = record { holds = subst (λ one. Arrives (setting code begin h) (Moves (core_at late (Val v ∷ []) [] n st)) st.left one st.left) (sym e) is }
+
+  pub returned_reaches : (exits : Exits) (tree : Expression) (from middle late to : ℕ) (st : State) → Leads_out code begin h n exits.leaving out → ExpressionAt code (site_of h) tree from middle → ResultAt code (body_at h.set h.unit) middle late
+      → exits.leaving ≡ ByResult → Has code late instr.Return → FlowsAt exits to (Begins from st) st.left (bind (expression rec h tree st) (λ v after. Gives (Returned (Some (returned_in h v))) after))
+  returned_reaches exits tree from middle late to st leads here results same has =
+      valued (flow_to exits out n to) tree from middle [] st (λ v after. Gives (Returned (Some (returned_in h v))) after) here
+      (λ v after. bind_reaches (setting code begin h) n (λ w later. Moves (core_at late (Val w ∷ []) [] n later)) (flow_to exits out n to) _ after.left (Gives (returned_in h v) after) (λ w later. Gives (Returned (Some w)) later)
+      (result_at (body_at h.set h.unit) middle late v after results)
+      (λ w later. returned_holds late w later exits to (out (Some w) later) refl (leads.with_value w late later same has)))
+
+  -- CALL of what a name means
+  pub call_meant : (m : Meant) (from to : ℕ) (st : State) → CalledAt code h.set m from to → DoneAt to [] [] (Begins from st) st.left (called rec h m NoExpressions [] st)
+  call_meant (MeantBlock unit) from to st here =
+      bind_reaches (setting code begin h) n (λ (v : Value) after. Begins to after) _ _ st.left (call rec h unit [] [] st) (λ result after. Gives tt after) (procedure_reaches code begin rec sound h n standing unit from to st here)
+      (λ v after. record { holds = stays (setting code begin h) _ after.left })
+  call_meant (MeantData at shape) from to st here = absurd here
+  call_meant (MeantConstant w) from to st here = absurd here
+  call_meant (MeantEvent e) from to st here = absurd here
+  call_meant (MeantBuiltin b) from to st here = absurd here
+  call_meant MeantNothing from to st here = absurd here

@@ -1,3 +1,4 @@
+pub mod Codes
 pub mod Sites
 pub mod PlacedExpressions
 pub mod PlacedStatements

@@ -3,16 +3,20 @@ use Rattle.std.specs.Prelude.{◌≡◌, ℕ, zero, suc, Bool, true, false, List
 use Rattle.hal_grammar.specs.Leaves.{Naming, Integer}
 use Rattle.hal_grammar.specs.Expressions.{Expression, Literal, Expressions, NoExpressions, MoreExpressions, Reference, Refers, Unsubscripted}
 use Rattle.hal_grammar.specs.Statements as statements
-use Rattle.hal_grammar.specs.Statements.{Guard, While, Until, Selector, System, Ignore, Statement, Labelled, Basic, Null, Assignment, If, Do, DoLoop, Exit, Repeat, Return, Write, Update, OnErrorStatement, OnErrorResponse, OffError, SendError, Alternative, NoAlternative, Otherwise, Group, Groups, Statements, NoStatements, MoreStatements}
+use Rattle.hal_grammar.specs.Statements.{Guard, While, Until, Selector, System, Ignore, Statement, Labelled, Basic, Null, Assignment, If, Do, DoLoop, Exit, Repeat, Return, Call, Write, Update, OnErrorStatement, OnErrorResponse, OffError, SendError, Alternative, NoAlternative, Otherwise, Group, Groups, Statements, NoStatements, MoreStatements}
+use Rattle.hal_grammar.specs.Declarations.{CharacterKind}
+use Rattle.hal_grammar.specs.Units.{Head, Function, HasKind}
+use Rattle.hal_operations.specs.declared.operation.Op1.TheVariants as op1
 use Rattle.hal_states.specs.Spots.{Held, further}
+use Rattle.hal_meaning.specs.Bodies.{Body}
+use Rattle.hal_meaning.specs.Sets.{Set, body_at}
 use Rattle.hal_meaning.specs.Elements.{chosen, offset}
 use Rattle.hal_meaning.specs.Marks.{after_statement, handling_in}
 use Rattle.hal_meaning.specs.RealTime.{side_of}
 use Rattle.hal_meaning.specs.Statements as tree
 use Rattle.hal_meaning.specs.Statements.{is_meant, label_name, update_groups}
-use Rattle.hal_meaning.specs.Variables.{Meant, MeantData, name_meant, kind_of_first}
+use Rattle.hal_meaning.specs.Variables.{Meant, MeantData, MeantBlock, name_meant, kind_of_first}
 use Rattle.hal_code.specs.declared.choice.Choice.TheVariants as choice
-use Rattle.hal_code.specs.declared.image.ImageParts.{ImageParts}
 use Rattle.hal_code.specs.declared.instr.Instr.{Instr}
 use Rattle.hal_code.specs.declared.operand.EventChange.{EventChange}
 use Rattle.hal_code.specs.declared.operand.EventChange.TheVariants as change
@@ -20,8 +24,9 @@ use Rattle.hal_code.specs.declared.operand.Response.{Response}
 use Rattle.hal_code.specs.declared.operand.Response.TheVariants as response
 use Rattle.hal_code.specs.Controlling as machine
 use Rattle.hal_code.specs.declared.instr.Instr.TheVariants as instr
+use Rattle.hal_agreement.specs.Codes.{Code}
 use Rattle.hal_agreement.specs.Sites.{Site, here_at}
-use Rattle.hal_agreement.specs.PlacedExpressions.{Has, One, AddressAt, ExpressionAt}
+use Rattle.hal_agreement.specs.PlacedExpressions.{Has, One, AddressAt, CallAt, ExpressionAt}
 
 -- a group that is open where a statement stands: its labels, where EXIT leads, and where REPEAT does, of a loop
 pub record Opened : Type 0 where
@@ -42,10 +47,11 @@ abbrev pub again_of : List Opened → Option (List ℕ) → Option ℕ
 again_of [] label = None
 again_of (g ∷ gs) label = elim g.again [ None ↦ again_of gs label | Some at ↦ if is_meant g.labels label then Some at else again_of gs label ]
 
--- how RETURN leaves the block in which a statement stands: a process goes on to its FINISH; an UPDATE block has none
+-- how RETURN leaves the block in which a statement stands: a process goes on to its FINISH, a PROCEDURE goes back, a FUNCTION goes back with a value; an UPDATE
+-- block has none
 pub data Leaving : Type 0 where
   ToFinish : (at : ℕ) → Leaving
-  NoReturn : Leaving
+  ByReturn ByResult NoReturn : Leaving
 
 -- the groups that are open around a statement; how RETURN leaves the block; and where the statement of the ON ERROR of the block with this mark stands
 pub record Exits : Type 0 where
@@ -65,21 +71,21 @@ abbrev pub LeadsOut : (ℕ → ℕ) → ℕ → Statements → ℕ → Type 0
 LeadsOut handler first body finish = (place : ℕ) → handling_in place first body ≡ None → handler place ≡ finish
 
 -- a receiver gets the value on the stack: CELL and KEEP
-abbrev pub KeptAt : ImageParts → List Naming → List Held → Meant → ℕ → ℕ → Type 0
-KeptAt image path held (MeantData at shape) from to =
-    AddressAt image held (kind_of_first (chosen path shape.components)) (further (offset path shape.components) at) from × One image (suc from) instr.Keep to
-KeptAt image path held other from to = ⊥
+abbrev pub KeptAt : Code → List Naming → List Held → Meant → ℕ → ℕ → Type 0
+KeptAt code path held (MeantData at shape) from to =
+    AddressAt code held (kind_of_first (chosen path shape.components)) (further (offset path shape.components) at) from × One code (suc from) instr.Keep to
+KeptAt code path held other from to = ⊥
 
-abbrev pub ReceiverAt : ImageParts → Site → Reference → ℕ → ℕ → Type 0
-ReceiverAt image site (Refers place name path Unsubscripted) from to = (held : List Held) → KeptAt image path held (name_meant (here_at site) name held) from to
-ReceiverAt image site other from to = ⊥
+abbrev pub ReceiverAt : Code → Site → Reference → ℕ → ℕ → Type 0
+ReceiverAt code site (Refers place name path Unsubscripted) from to = (held : List Held) → KeptAt code path held (name_meant (here_at site) name held) from to
+ReceiverAt code site other from to = ⊥
 
 -- receivers get it from left to right, each but the last one from a copy
-abbrev pub ReceiversAt : ImageParts → Site → List Reference → ℕ → ℕ → Type 0
-ReceiversAt image site [] from to = ⊥
-ReceiversAt image site (receiver ∷ []) from to = ReceiverAt image site receiver from to
-ReceiversAt image site (receiver ∷ next ∷ others) from to =
-    (middle : ℕ) × Has image from instr.Dup × ReceiverAt image site receiver (suc from) middle × ReceiversAt image site (next ∷ others) middle to
+abbrev pub ReceiversAt : Code → Site → List Reference → ℕ → ℕ → Type 0
+ReceiversAt code site [] from to = ⊥
+ReceiversAt code site (receiver ∷ []) from to = ReceiverAt code site receiver from to
+ReceiversAt code site (receiver ∷ next ∷ others) from to =
+    (middle : ℕ) × Has code from instr.Dup × ReceiverAt code site receiver (suc from) middle × ReceiversAt code site (next ∷ others) middle to
 
 -- a channel that is written as an integer
 abbrev pub ChannelAt : Expression → ℕ → Type 0
@@ -87,30 +93,45 @@ ChannelAt (Literal place (Integer number)) channel = number ≡ channel
 ChannelAt other channel = ⊥
 
 -- items, each added to the line
-abbrev pub ItemsAt : ImageParts → Site → Expressions → ℕ → ℕ → Type 0
-ItemsAt image site NoExpressions from to = from ≡ to
-ItemsAt image site (MoreExpressions first others) from to =
-    (middle : ℕ) × ExpressionAt image site first from middle × Has image middle instr.Item × ItemsAt image site others (suc middle) to
+abbrev pub ItemsAt : Code → Site → Expressions → ℕ → ℕ → Type 0
+ItemsAt code site NoExpressions from to = from ≡ to
+ItemsAt code site (MoreExpressions first others) from to =
+    (middle : ℕ) × ExpressionAt code site first from middle × Has code middle instr.Item × ItemsAt code site others (suc middle) to
 
 -- a condition, behind which control goes on where it holds, and else to a target
-abbrev pub ConditionAt : ImageParts → Site → Expression → ℕ → ℕ → ℕ → Type 0
-ConditionAt image site condition from target to = (middle : ℕ) × ExpressionAt image site condition from middle × One image middle (instr.JumpNot target) to
+abbrev pub ConditionAt : Code → Site → Expression → ℕ → ℕ → ℕ → Type 0
+ConditionAt code site condition from target to = (middle : ℕ) × ExpressionAt code site condition from middle × One code middle (instr.JumpNot target) to
 
 -- the first test of a loop: UNTIL isn't tested
-abbrev pub FirstTestAt : ImageParts → Site → Guard → ℕ → ℕ → ℕ → Type 0
-FirstTestAt image site (While place condition) from exit to = ConditionAt image site condition from exit to
-FirstTestAt image site (Until place condition) from exit to = from ≡ to
+abbrev pub FirstTestAt : Code → Site → Guard → ℕ → ℕ → ℕ → Type 0
+FirstTestAt code site (While place condition) from exit to = ConditionAt code site condition from exit to
+FirstTestAt code site (Until place condition) from exit to = from ≡ to
 
 -- each later test of a loop whose turns begin at a TURN: control goes there, or on
-abbrev pub TestAt : ImageParts → Site → Guard → ℕ → ℕ → ℕ → Type 0
-TestAt image site (While place condition) from turn to =
-    (middle : ℕ) × ExpressionAt image site condition from middle × Has image middle (instr.JumpNot to) × One image (suc middle) (instr.Jump turn) to
-TestAt image site (Until place condition) from turn to = ConditionAt image site condition from turn to
+abbrev pub TestAt : Code → Site → Guard → ℕ → ℕ → ℕ → Type 0
+TestAt code site (While place condition) from turn to =
+    (middle : ℕ) × ExpressionAt code site condition from middle × Has code middle (instr.JumpNot to) × One code (suc middle) (instr.Jump turn) to
+TestAt code site (Until place condition) from turn to = ConditionAt code site condition from turn to
 
 -- RETURN without a value
-abbrev pub ReturnAt : ImageParts → Leaving → ℕ → ℕ → Type 0
-ReturnAt image (ToFinish at) from to = One image from (instr.Jump at) to
-ReturnAt image NoReturn from to = ⊥
+abbrev pub ReturnAt : Code → Leaving → ℕ → ℕ → Type 0
+ReturnAt code (ToFinish at) from to = One code from (instr.Jump at) to
+ReturnAt code ByReturn from to = One code from instr.Return to
+ReturnAt code other from to = ⊥
+
+-- the value that RETURN gives becomes what the FUNCTION's type has it
+abbrev pub ResultBy : Code → Head → ℕ → ℕ → Type 0
+ResultBy code (Function place inputs (HasKind (CharacterKind at size) precision) mode) from to = One code from (instr.Op1 (choice.Known op1.Character)) to
+ResultBy code other from to = from ≡ to
+
+abbrev pub ResultAt : Code → Option Body → ℕ → ℕ → Type 0
+ResultAt code None from to = from ≡ to
+ResultAt code (Some b) from to = ResultBy code b.head from to
+
+-- CALL of a PROCEDURE without parameters
+abbrev pub CalledAt : Code → Set → Meant → ℕ → ℕ → Type 0
+CalledAt code s (MeantBlock unit) from to = CallAt code s unit false from to
+CalledAt code s other from to = ⊥
 
 -- the instruction that sets an entry for errors
 abbrev pub sets : ℕ → ℕ → Response → EventChange → ℕ → ℕ → Instr
@@ -126,47 +147,50 @@ response_of System = response.System
 response_of Ignore = response.Ignore
 
 abbrev mutual
-  pub StatementAt : ImageParts → Site → Exits → ℕ → Statement → ℕ → ℕ → Type 0
-  StatementAt image site exits m (Labelled labels basic) from to = BasicAt image site exits m labels basic from to
+  pub StatementAt : Code → Site → Exits → ℕ → Statement → ℕ → ℕ → Type 0
+  StatementAt code site exits m (Labelled labels basic) from to = BasicAt code site exits m labels basic from to
 
   -- a statement with these labels, before which the next mark has this number
-  pub BasicAt : ImageParts → Site → Exits → ℕ → List Naming → Basic → ℕ → ℕ → Type 0
-  BasicAt image site exits m labels (Null place) from to = from ≡ to
-  BasicAt image site exits m labels (Assignment place receivers tree) from to = (middle : ℕ) × ExpressionAt image site tree from middle × ReceiversAt image site receivers middle to
-  BasicAt image site exits m labels (If place condition consequence alternative) from to =
-      (other : ℕ) × (begin : ℕ) × (end : ℕ) × ConditionAt image site condition from other begin × StatementAt image site exits m consequence begin end
-      × AlternativeAt image site exits (after_statement m consequence) alternative end other to
-  BasicAt image site exits m labels (Do place group) from to = GroupAt image site (within_group (opened labels to None) exits) (suc m) group from to
-  BasicAt image site exits m labels (DoLoop place g group) from to =
-      (turn : ℕ) × (again : ℕ) × FirstTestAt image site g from to turn × Has image turn (instr.Turn to)
-      × GroupAt image site (within_group (opened labels to (Some again)) exits) (suc m) group (suc turn) again × TestAt image site g again turn to
-  BasicAt image site exits m labels (Exit place label) from to = (target : ℕ) × (exit_of exits.groups (label_name label) ≡ Some target) × One image from (instr.Jump target) to
-  BasicAt image site exits m labels (Repeat place label) from to = (target : ℕ) × (again_of exits.groups (label_name label) ≡ Some target) × One image from (instr.Jump target) to
-  BasicAt image site exits m labels (Return place None) from to = ReturnAt image exits.leaving from to
-  BasicAt image site exits m labels (Write place channel items) from to =
-      (number : ℕ) × (last : ℕ) × ChannelAt channel number × ItemsAt image site items from last × One image last (instr.Print number) to
-  BasicAt image site exits m labels (SendError place group_at group number_at number) from to = One image from (instr.Raise group number) to
-  BasicAt image site exits m labels (Update place body close) from to =
-      (handler : ℕ → ℕ) × (last : ℕ) × Has image from (instr.Open (update_groups (here_at site) m)) × StatementsAt image site (of_block NoReturn handler) (suc m) body (suc from) last
-      × LeadsOut handler (suc m) body last × One image last instr.Close to
-  BasicAt image site exits m labels (OnErrorStatement place s handler) from to =
-      (group : ℕ) × (number : ℕ) × Selects s group number × Has image from (sets group number response.Statement change.Nothing 0 (suc (suc from))) × Has image (suc from) (instr.Jump to)
-      × (exits.handler m ≡ suc (suc from)) × StatementAt image site exits (suc m) handler (suc (suc from)) to
-  BasicAt image site exits m labels (OnErrorResponse place s r e) from to =
-      (group : ℕ) × (number : ℕ) × (changes : EventChange) × (event : ℕ) × Selects s group number × (machine.side_of changes event ≡ side_of (here_at site) e) × One image from (sets group number (response_of r) changes event 0) to
-  BasicAt image site exits m labels (OffError place s) from to = (group : ℕ) × (number : ℕ) × Selects s group number × One image from (instr.Off group number) to
-  BasicAt image site exits m labels other from to = ⊥
+  pub BasicAt : Code → Site → Exits → ℕ → List Naming → Basic → ℕ → ℕ → Type 0
+  BasicAt code site exits m labels (Null place) from to = from ≡ to
+  BasicAt code site exits m labels (Assignment place receivers tree) from to = (middle : ℕ) × ExpressionAt code site tree from middle × ReceiversAt code site receivers middle to
+  BasicAt code site exits m labels (If place condition consequence alternative) from to =
+      (other : ℕ) × (begin : ℕ) × (end : ℕ) × ConditionAt code site condition from other begin × StatementAt code site exits m consequence begin end
+      × AlternativeAt code site exits (after_statement m consequence) alternative end other to
+  BasicAt code site exits m labels (Do place group) from to = GroupAt code site (within_group (opened labels to None) exits) (suc m) group from to
+  BasicAt code site exits m labels (DoLoop place g group) from to =
+      (turn : ℕ) × (again : ℕ) × FirstTestAt code site g from to turn × Has code turn (instr.Turn to)
+      × GroupAt code site (within_group (opened labels to (Some again)) exits) (suc m) group (suc turn) again × TestAt code site g again turn to
+  BasicAt code site exits m labels (Exit place label) from to = (target : ℕ) × (exit_of exits.groups (label_name label) ≡ Some target) × One code from (instr.Jump target) to
+  BasicAt code site exits m labels (Repeat place label) from to = (target : ℕ) × (again_of exits.groups (label_name label) ≡ Some target) × One code from (instr.Jump target) to
+  BasicAt code site exits m labels (Return place None) from to = ReturnAt code exits.leaving from to
+  BasicAt code site exits m labels (Return place (Some tree)) from to =
+      (middle : ℕ) × (late : ℕ) × ExpressionAt code site tree from middle × ResultAt code (body_at site.set site.unit) middle late × (exits.leaving ≡ ByResult) × One code late instr.Return to
+  BasicAt code site exits m labels (Call place name NoExpressions []) from to = (held : List Held) → CalledAt code site.set (name_meant (here_at site) name.name held) from to
+  BasicAt code site exits m labels (Write place channel items) from to =
+      (number : ℕ) × (last : ℕ) × ChannelAt channel number × ItemsAt code site items from last × One code last (instr.Print number) to
+  BasicAt code site exits m labels (SendError place group_at group number_at number) from to = One code from (instr.Raise group number) to
+  BasicAt code site exits m labels (Update place body close) from to =
+      (handler : ℕ → ℕ) × (last : ℕ) × Has code from (instr.Open (update_groups (here_at site) m)) × StatementsAt code site (of_block NoReturn handler) (suc m) body (suc from) last
+      × LeadsOut handler (suc m) body last × One code last instr.Close to
+  BasicAt code site exits m labels (OnErrorStatement place s handler) from to =
+      (group : ℕ) × (number : ℕ) × Selects s group number × Has code from (sets group number response.Statement change.Nothing 0 (suc (suc from))) × Has code (suc from) (instr.Jump to)
+      × (exits.handler m ≡ suc (suc from)) × StatementAt code site exits (suc m) handler (suc (suc from)) to
+  BasicAt code site exits m labels (OnErrorResponse place s r e) from to =
+      (group : ℕ) × (number : ℕ) × (changes : EventChange) × (event : ℕ) × Selects s group number × (machine.side_of changes event ≡ side_of (here_at site) e) × One code from (sets group number (response_of r) changes event 0) to
+  BasicAt code site exits m labels (OffError place s) from to = (group : ℕ) × (number : ℕ) × Selects s group number × One code from (instr.Off group number) to
+  BasicAt code site exits m labels other from to = ⊥
 
   -- what stands after ELSE; the consequence before it ends at the first address, and the condition leads to the second one where it fails
-  pub AlternativeAt : ImageParts → Site → Exits → ℕ → Alternative → ℕ → ℕ → ℕ → Type 0
-  AlternativeAt image site exits m NoAlternative end other to = (end ≡ to) × (other ≡ to)
-  AlternativeAt image site exits m (Otherwise one) end other to = Has image end (instr.Jump to) × StatementAt image site exits m one other to
+  pub AlternativeAt : Code → Site → Exits → ℕ → Alternative → ℕ → ℕ → ℕ → Type 0
+  AlternativeAt code site exits m NoAlternative end other to = (end ≡ to) × (other ≡ to)
+  AlternativeAt code site exits m (Otherwise one) end other to = Has code end (instr.Jump to) × StatementAt code site exits m one other to
 
-  pub GroupAt : ImageParts → Site → Exits → ℕ → Group → ℕ → ℕ → Type 0
-  GroupAt image site exits m (Groups list close) from to = StatementsAt image site exits m list from to
+  pub GroupAt : Code → Site → Exits → ℕ → Group → ℕ → ℕ → Type 0
+  GroupAt code site exits m (Groups list close) from to = StatementsAt code site exits m list from to
 
   -- statements one after another
-  pub StatementsAt : ImageParts → Site → Exits → ℕ → Statements → ℕ → ℕ → Type 0
-  StatementsAt image site exits m NoStatements from to = from ≡ to
-  StatementsAt image site exits m (MoreStatements first others) from to =
-      (middle : ℕ) × StatementAt image site exits m first from middle × StatementsAt image site exits (after_statement m first) others middle to
+  pub StatementsAt : Code → Site → Exits → ℕ → Statements → ℕ → ℕ → Type 0
+  StatementsAt code site exits m NoStatements from to = from ≡ to
+  StatementsAt code site exits m (MoreStatements first others) from to =
+      (middle : ℕ) × StatementAt code site exits m first from middle × StatementsAt code site exits (after_statement m first) others middle to

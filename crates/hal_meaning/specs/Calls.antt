@@ -106,9 +106,9 @@ abbrev pub result_of : Head → Flow → Value
 result_of head (Returned (Some v)) = v
 result_of head other = zero_of head
 
--- an integer that a CHARACTER FUNCTION returns becomes its decimal text
+-- what a CHARACTER FUNCTION returns is a text: of an integer its decimal text
 abbrev pub returned_as : declarations.Kind → Value → Value
-returned_as (CharacterKind place size) (value.Int a) = mended_of_one op1.Character (value.Int a)
+returned_as (CharacterKind place size) v = mended_of_one op1.Character v
 returned_as kind v = v
 
 abbrev pub returned_by : Head → Value → Value
