@@ -1,0 +1,4 @@
+pub mod Lying
+pub mod Standing
+pub mod Typed
+pub mod Room
