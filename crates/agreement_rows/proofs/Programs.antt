@@ -10,7 +10,7 @@ use Rattle.hal_grammar.specs.Units.{Reentrant, Exclusive, SinglePrecision, Doubl
 use Rattle.std.specs.Prelude.{◌<◌, pos, negsuc}
 use Rattle.std.proofs.Common.{arith}
 use Rattle.hal_values.specs.Tables.{process_count}
-use Rattle.hal_meaning.specs.Sets.{Set, set_of}
+use Rattle.hal_meaning.specs.Sets.{set_of}
 use Rattle.hal_code.proofs.Forwards.{right_is_forward}
 use Rattle.hal_agreement.specs.Placed.{IsPlacedProcess, IsPlaced}
 use Rattle.meaning_rows.specs.Trees.{o, nm, es, ts, ss, is, st, el}
@@ -68,7 +68,7 @@ abbrev row1 : List File
 row1 = ((file_of ([]) (BlockOf (nm (codes "P")) (Program o) ((Declare o ([]) ((declared_of (nm (codes "I")) ((Typed (IntegerKind o)) ∷ (InitialValues o (is ((Value (Literal o (Integer 1))) ∷ []))) ∷ [])) ∷ [])) ∷ []) (el ((inr (Labelled ([]) (DoLoop o (While o (Compare o (Referred (Refers o (codes "I") ([]) Unsubscripted)) Less (Literal o (Integer 6)))) (Groups (st ((Labelled ([]) (Write o (Literal o (Integer 6)) (es ((Referred (Refers o (codes "I") ([]) Unsubscripted)) ∷ [])))) ∷ (Labelled ([]) (Assignment o ((Refers o (codes "I") ([]) Unsubscripted) ∷ []) (Sum o None (Referred (Refers o (codes "I") ([]) Unsubscripted)) (ts ((Plus, (Literal o (Integer 2))) ∷ []))))) ∷ [])) None)))) ∷ [])) (Some (nm (codes "P"))))) ∷ [])
 
 abbrev image1 : ImageParts
-image1 = record { cells = []; events = []; common = []; processes = ((record { name = codes "P"; block = 0; places = ((record { repeat = 1; row = (place.Data kind.Single (value.Int (pos 1))) }) ∷ []) }) ∷ []); shapes = []; views = ((record { base = (base.Own 0); dimensions = []; target = (target.Cell kind.Single) }) ∷ []); expressions = []; blocks = ((record { process = 0; first = 0; end = 24; result = (choice.Known result.Nothing) }) ∷ []); names = ((record { name = codes "P.I"; base = named.Own 0; first = 0; copies = 0; stride = 0; dimensions = [] }) ∷ []); code = ((instr.Begin) ∷ (instr.Cell 0) ∷ (instr.Fetch) ∷ (instr.Int (pos 6)) ∷ (instr.Op2 (choice.Known op2.Less)) ∷ (instr.JumpNot 23) ∷ (instr.Turn 23) ∷ (instr.Cell 0) ∷ (instr.Fetch) ∷ (instr.Item) ∷ (instr.Print 6) ∷ (instr.Cell 0) ∷ (instr.Fetch) ∷ (instr.Int (pos 2)) ∷ (instr.Op2 (choice.Known op2.Plus)) ∷ (instr.Cell 0) ∷ (instr.Keep) ∷ (instr.Cell 0) ∷ (instr.Fetch) ∷ (instr.Int (pos 6)) ∷ (instr.Op2 (choice.Known op2.Less)) ∷ (instr.JumpNot 23) ∷ (instr.Jump 6) ∷ (instr.Finish) ∷ []); first = 0 }
+image1 = record { cells = []; events = []; common = []; processes = ((record { name = codes "P"; block = 0; places = ((record { repeat = 1; row = (place.Data kind.Single (value.Int (pos 1))) }) ∷ []) }) ∷ []); shapes = []; views = ((record { base = (base.Own 0); dimensions = []; target = (target.Cell kind.Single) }) ∷ []); expressions = []; blocks = ((record { process = 0; first = 0; end = 24; result = (choice.Known result.Nothing) }) ∷ []); names = ((record { name = codes "P.I"; base = named.Own 0; first = 0; copies = 0; stride = 1; dimensions = [] }) ∷ []); code = ((instr.Begin) ∷ (instr.Cell 0) ∷ (instr.Fetch) ∷ (instr.Int (pos 6)) ∷ (instr.Op2 (choice.Known op2.Less)) ∷ (instr.JumpNot 23) ∷ (instr.Turn 23) ∷ (instr.Cell 0) ∷ (instr.Fetch) ∷ (instr.Item) ∷ (instr.Print 6) ∷ (instr.Cell 0) ∷ (instr.Fetch) ∷ (instr.Int (pos 2)) ∷ (instr.Op2 (choice.Known op2.Plus)) ∷ (instr.Cell 0) ∷ (instr.Keep) ∷ (instr.Cell 0) ∷ (instr.Fetch) ∷ (instr.Int (pos 6)) ∷ (instr.Op2 (choice.Known op2.Less)) ∷ (instr.JumpNot 23) ∷ (instr.Jump 6) ∷ (instr.Finish) ∷ []); first = 0 }
 
 abbrev Says1 : Type 0
 Says1 = IsPlaced (set_of 400 row1) image1
@@ -86,7 +86,7 @@ process1 zero exists = record {
   block = λ unit. None;
   units = λ unit number b one named found block. absurd (cc);
   spot = λ place. 23;
-  code = record { finish = 23; statements = (23, (6, 17, (5, (3, 4, (λ held. (record { number = 0; view = _; cell = refl; row = refl; plain = record { dimensions = refl; target = refl; base = refl } }, refl, refl)), (refl, refl), refl, refl), refl, refl), refl, (11, (6, 10, refl, (9, (λ held. (record { number = 0; view = _; cell = refl; row = refl; plain = record { dimensions = refl; target = refl; base = refl } }, refl, refl)), refl, refl), refl, refl), (17, (15, (13, 13, (λ held. (record { number = 0; view = _; cell = refl; row = refl; plain = record { dimensions = refl; target = refl; base = refl } }, refl, refl)), refl, (14, (refl, refl), refl, refl)), (λ held. (record { number = 0; view = _; cell = refl; row = refl; plain = record { dimensions = refl; target = refl; base = refl } }, refl, refl))), refl)), (21, (19, 20, (λ held. (record { number = 0; view = _; cell = refl; row = refl; plain = record { dimensions = refl; target = refl; base = refl } }, refl, refl)), (refl, refl), refl, refl), refl, refl, refl)), refl); leads_out = λ place none. refl; last = refl };
+  code = record { finish = 23; statements = (23, (6, 17, (5, (3, 4, (λ held. (record { number = 0; view = _; cell = refl; row = refl; plain = record { dimensions = refl; target = refl; base = refl } }, (refl, refl))), (refl, refl), (refl, refl)), (refl, refl)), refl, (11, (6, 10, refl, (9, (λ held. (record { number = 0; view = _; cell = refl; row = refl; plain = record { dimensions = refl; target = refl; base = refl } }, (refl, refl))), refl, refl), (refl, refl)), (17, (15, (13, 13, (λ held. (record { number = 0; view = _; cell = refl; row = refl; plain = record { dimensions = refl; target = refl; base = refl } }, (refl, refl))), refl, (14, (refl, refl), refl, refl)), (λ held. (record { number = 0; view = _; cell = refl; row = refl; plain = record { dimensions = refl; target = refl; base = refl } }, (refl, refl)))), refl)), (21, (19, 20, (λ held. (record { number = 0; view = _; cell = refl; row = refl; plain = record { dimensions = refl; target = refl; base = refl } }, (refl, refl))), (refl, refl), (refl, refl)), refl, (refl, refl))), refl); leads_out = λ place none. refl; last = refl };
 }
 process1 (suc p) exists = absurd (none_more1 p exists)
 
@@ -95,7 +95,7 @@ abbrev row2 : List File
 row2 = ((file_of ([]) (BlockOf (nm (codes "P")) (Program o) ((Declare o ([]) ((declared_of (nm (codes "N")) ((Typed (IntegerKind o)) ∷ [])) ∷ (declared_of (nm (codes "M")) ((Typed (IntegerKind o)) ∷ (Marked o Double) ∷ [])) ∷ [])) ∷ []) (el ((inr (Labelled ([]) (DoLoop o (Until o (And o (Compare o (Referred (Refers o (codes "N") ([]) Unsubscripted)) Greater (Literal o (Integer 3))) (es ((Compare o (Referred (Refers o (codes "M") ([]) Unsubscripted)) Greater (Literal o (Integer 2))) ∷ [])))) (Groups (st ((Labelled ([]) (Assignment o ((Refers o (codes "N") ([]) Unsubscripted) ∷ []) (Sum o None (Referred (Refers o (codes "N") ([]) Unsubscripted)) (ts ((Plus, (Literal o (Integer 1))) ∷ []))))) ∷ (Labelled ([]) (If o (Compare o (Referred (Refers o (codes "N") ([]) Unsubscripted)) Equal (Literal o (Integer 2))) (Labelled ([]) (Assignment o ((Refers o (codes "M") ([]) Unsubscripted) ∷ []) (Referred (Refers o (codes "N") ([]) Unsubscripted)))) (Otherwise (Labelled ([]) (Do o (Groups (st ((Labelled ([]) (Assignment o ((Refers o (codes "M") ([]) Unsubscripted) ∷ []) (Sum o None (Referred (Refers o (codes "M") ([]) Unsubscripted)) (ts ((Plus, (Parenthesis o (Sum o None (Referred (Refers o (codes "N") ([]) Unsubscripted)) (ts ((Minus, (Literal o (Integer 1))) ∷ []))))) ∷ []))))) ∷ (Labelled ([]) (Exit o None)) ∷ [])) None)))))) ∷ [])) None)))) ∷ (inr (Labelled ([]) (Write o (Literal o (Integer 6)) (es ((Referred (Refers o (codes "N") ([]) Unsubscripted)) ∷ (Referred (Refers o (codes "M") ([]) Unsubscripted)) ∷ []))))) ∷ [])) (Some (nm (codes "P"))))) ∷ [])
 
 abbrev image2 : ImageParts
-image2 = record { cells = []; events = []; common = []; processes = ((record { name = codes "P"; block = 0; places = ((record { repeat = 1; row = (place.Data kind.Single (value.Int (pos 0))) }) ∷ (record { repeat = 1; row = (place.Data kind.Double (value.Int (pos 0))) }) ∷ []) }) ∷ []); shapes = []; views = ((record { base = (base.Own 0); dimensions = []; target = (target.Cell kind.Single) }) ∷ (record { base = (base.Own 1); dimensions = []; target = (target.Cell kind.Double) }) ∷ []); expressions = []; blocks = ((record { process = 0; first = 0; end = 46; result = (choice.Known result.Nothing) }) ∷ []); names = ((record { name = codes "P.N"; base = named.Own 0; first = 0; copies = 0; stride = 0; dimensions = [] }) ∷ (record { name = codes "P.M"; base = named.Own 0; first = 1; copies = 0; stride = 0; dimensions = [] }) ∷ []); code = ((instr.Begin) ∷ (instr.Turn 38) ∷ (instr.Cell 0) ∷ (instr.Fetch) ∷ (instr.Int (pos 1)) ∷ (instr.Op2 (choice.Known op2.Plus)) ∷ (instr.Cell 0) ∷ (instr.Keep) ∷ (instr.Cell 0) ∷ (instr.Fetch) ∷ (instr.Int (pos 2)) ∷ (instr.Op2 (choice.Known op2.Equal)) ∷ (instr.JumpNot 18) ∷ (instr.Cell 0) ∷ (instr.Fetch) ∷ (instr.Cell 1) ∷ (instr.Keep) ∷ (instr.Jump 28) ∷ (instr.Cell 1) ∷ (instr.Fetch) ∷ (instr.Cell 0) ∷ (instr.Fetch) ∷ (instr.Int (pos 1)) ∷ (instr.Op2 (choice.Known op2.Minus)) ∷ (instr.Op2 (choice.Known op2.Plus)) ∷ (instr.Cell 1) ∷ (instr.Keep) ∷ (instr.Jump 28) ∷ (instr.Cell 0) ∷ (instr.Fetch) ∷ (instr.Int (pos 3)) ∷ (instr.Op2 (choice.Known op2.Greater)) ∷ (instr.Cell 1) ∷ (instr.Fetch) ∷ (instr.Int (pos 2)) ∷ (instr.Op2 (choice.Known op2.Greater)) ∷ (instr.Op2 (choice.Known op2.And)) ∷ (instr.JumpNot 1) ∷ (instr.Cell 0) ∷ (instr.Fetch) ∷ (instr.Item) ∷ (instr.Cell 1) ∷ (instr.Fetch) ∷ (instr.Item) ∷ (instr.Print 6) ∷ (instr.Finish) ∷ []); first = 0 }
+image2 = record { cells = []; events = []; common = []; processes = ((record { name = codes "P"; block = 0; places = ((record { repeat = 1; row = (place.Data kind.Single (value.Int (pos 0))) }) ∷ (record { repeat = 1; row = (place.Data kind.Double (value.Int (pos 0))) }) ∷ []) }) ∷ []); shapes = []; views = ((record { base = (base.Own 0); dimensions = []; target = (target.Cell kind.Single) }) ∷ (record { base = (base.Own 1); dimensions = []; target = (target.Cell kind.Double) }) ∷ []); expressions = []; blocks = ((record { process = 0; first = 0; end = 46; result = (choice.Known result.Nothing) }) ∷ []); names = ((record { name = codes "P.N"; base = named.Own 0; first = 0; copies = 0; stride = 1; dimensions = [] }) ∷ (record { name = codes "P.M"; base = named.Own 0; first = 1; copies = 0; stride = 1; dimensions = [] }) ∷ []); code = ((instr.Begin) ∷ (instr.Turn 38) ∷ (instr.Cell 0) ∷ (instr.Fetch) ∷ (instr.Int (pos 1)) ∷ (instr.Op2 (choice.Known op2.Plus)) ∷ (instr.Cell 0) ∷ (instr.Keep) ∷ (instr.Cell 0) ∷ (instr.Fetch) ∷ (instr.Int (pos 2)) ∷ (instr.Op2 (choice.Known op2.Equal)) ∷ (instr.JumpNot 18) ∷ (instr.Cell 0) ∷ (instr.Fetch) ∷ (instr.Cell 1) ∷ (instr.Keep) ∷ (instr.Jump 28) ∷ (instr.Cell 1) ∷ (instr.Fetch) ∷ (instr.Cell 0) ∷ (instr.Fetch) ∷ (instr.Int (pos 1)) ∷ (instr.Op2 (choice.Known op2.Minus)) ∷ (instr.Op2 (choice.Known op2.Plus)) ∷ (instr.Cell 1) ∷ (instr.Keep) ∷ (instr.Jump 28) ∷ (instr.Cell 0) ∷ (instr.Fetch) ∷ (instr.Int (pos 3)) ∷ (instr.Op2 (choice.Known op2.Greater)) ∷ (instr.Cell 1) ∷ (instr.Fetch) ∷ (instr.Int (pos 2)) ∷ (instr.Op2 (choice.Known op2.Greater)) ∷ (instr.Op2 (choice.Known op2.And)) ∷ (instr.JumpNot 1) ∷ (instr.Cell 0) ∷ (instr.Fetch) ∷ (instr.Item) ∷ (instr.Cell 1) ∷ (instr.Fetch) ∷ (instr.Item) ∷ (instr.Print 6) ∷ (instr.Finish) ∷ []); first = 0 }
 
 abbrev Says2 : Type 0
 Says2 = IsPlaced (set_of 400 row2) image2
@@ -113,7 +113,7 @@ process2 zero exists = record {
   block = λ unit. None;
   units = λ unit number b one named found block. absurd (cc);
   spot = λ place. 45;
-  code = record { finish = 45; statements = (38, (1, 28, refl, refl, (8, (6, (4, 4, (λ held. (record { number = 0; view = _; cell = refl; row = refl; plain = record { dimensions = refl; target = refl; base = refl } }, refl, refl)), refl, (5, (refl, refl), refl, refl)), (λ held. (record { number = 0; view = _; cell = refl; row = refl; plain = record { dimensions = refl; target = refl; base = refl } }, refl, refl))), (28, (18, 13, 17, (12, (10, 11, (λ held. (record { number = 0; view = _; cell = refl; row = refl; plain = record { dimensions = refl; target = refl; base = refl } }, refl, refl)), (refl, refl), refl, refl), refl, refl), (15, (λ held. (record { number = 0; view = _; cell = refl; row = refl; plain = record { dimensions = refl; target = refl; base = refl } }, refl, refl)), (λ held. (record { number = 1; view = _; cell = refl; row = refl; plain = record { dimensions = refl; target = refl; base = refl } }, refl, refl))), (refl, (27, (25, (20, 20, (λ held. (record { number = 1; view = _; cell = refl; row = refl; plain = record { dimensions = refl; target = refl; base = refl } }, refl, refl)), refl, (24, (22, 22, (λ held. (record { number = 0; view = _; cell = refl; row = refl; plain = record { dimensions = refl; target = refl; base = refl } }, refl, refl)), refl, (23, (refl, refl), refl, refl)), refl, refl)), (λ held. (record { number = 1; view = _; cell = refl; row = refl; plain = record { dimensions = refl; target = refl; base = refl } }, refl, refl))), (28, (28, refl, refl, refl), refl)))), refl)), (37, (refl, (32, (30, 31, (λ held. (record { number = 0; view = _; cell = refl; row = refl; plain = record { dimensions = refl; target = refl; base = refl } }, refl, refl)), (refl, refl), refl, refl), (36, (34, 35, (λ held. (record { number = 1; view = _; cell = refl; row = refl; plain = record { dimensions = refl; target = refl; base = refl } }, refl, refl)), (refl, refl), refl, refl), refl, refl))), refl, refl)), (45, (6, 44, refl, (40, (λ held. (record { number = 0; view = _; cell = refl; row = refl; plain = record { dimensions = refl; target = refl; base = refl } }, refl, refl)), refl, (43, (λ held. (record { number = 1; view = _; cell = refl; row = refl; plain = record { dimensions = refl; target = refl; base = refl } }, refl, refl)), refl, refl)), refl, refl), refl)); leads_out = λ place none. refl; last = refl };
+  code = record { finish = 45; statements = (38, (1, 28, refl, refl, (8, (6, (4, 4, (λ held. (record { number = 0; view = _; cell = refl; row = refl; plain = record { dimensions = refl; target = refl; base = refl } }, (refl, refl))), refl, (5, (refl, refl), refl, refl)), (λ held. (record { number = 0; view = _; cell = refl; row = refl; plain = record { dimensions = refl; target = refl; base = refl } }, (refl, refl)))), (28, (18, 13, 17, (12, (10, 11, (λ held. (record { number = 0; view = _; cell = refl; row = refl; plain = record { dimensions = refl; target = refl; base = refl } }, (refl, refl))), (refl, refl), (refl, refl)), (refl, refl)), (15, (λ held. (record { number = 0; view = _; cell = refl; row = refl; plain = record { dimensions = refl; target = refl; base = refl } }, (refl, refl))), (λ held. (record { number = 1; view = _; cell = refl; row = refl; plain = record { dimensions = refl; target = refl; base = refl } }, (refl, refl)))), (refl, (27, (25, (20, 20, (λ held. (record { number = 1; view = _; cell = refl; row = refl; plain = record { dimensions = refl; target = refl; base = refl } }, (refl, refl))), refl, (24, (22, 22, (λ held. (record { number = 0; view = _; cell = refl; row = refl; plain = record { dimensions = refl; target = refl; base = refl } }, (refl, refl))), refl, (23, (refl, refl), refl, refl)), refl, refl)), (λ held. (record { number = 1; view = _; cell = refl; row = refl; plain = record { dimensions = refl; target = refl; base = refl } }, (refl, refl)))), (28, (28, refl, (refl, refl)), refl)))), refl)), (37, (refl, (32, (30, 31, (λ held. (record { number = 0; view = _; cell = refl; row = refl; plain = record { dimensions = refl; target = refl; base = refl } }, (refl, refl))), (refl, refl), (refl, refl)), (36, (34, 35, (λ held. (record { number = 1; view = _; cell = refl; row = refl; plain = record { dimensions = refl; target = refl; base = refl } }, (refl, refl))), (refl, refl), (refl, refl)), refl, refl))), (refl, refl))), (45, (6, 44, refl, (40, (λ held. (record { number = 0; view = _; cell = refl; row = refl; plain = record { dimensions = refl; target = refl; base = refl } }, (refl, refl))), refl, (43, (λ held. (record { number = 1; view = _; cell = refl; row = refl; plain = record { dimensions = refl; target = refl; base = refl } }, (refl, refl))), refl, refl)), (refl, refl)), refl)); leads_out = λ place none. refl; last = refl };
 }
 process2 (suc p) exists = absurd (none_more2 p exists)
 

@@ -1,5 +1,2 @@
-//! Units and images that stand for them, which the checker finds by the definitions. `rows/` holds them, and `tools/agreement_rows` writes their laws.
+//! Units and images that stand for them, which the checker finds by the definitions: rows/ holds them, and tools/agreement_rows writes their laws.
 #![tactic(auto)]
-
-/// Nothing runs here.
-pub fn no_code() {}

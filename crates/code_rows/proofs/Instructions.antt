@@ -192,7 +192,7 @@ Says23 = (reported 400 row23 ((line.Run 20) ∷ (line.Tick 5) ∷ (line.Run 20) 
 
 -- a unit of one loop: WHILE is tested before each turn
 abbrev row24 : ImageParts
-row24 = record { cells = []; events = []; common = []; processes = ((record { name = codes "P"; block = 0; places = ((record { repeat = 1; row = (place.Data kind.Single (value.Int (pos 1))) }) ∷ []) }) ∷ []); shapes = []; views = ((record { base = (base.Own 0); dimensions = []; target = (target.Cell kind.Single) }) ∷ []); expressions = []; blocks = ((record { process = 0; first = 0; end = 24; result = (choice.Known result.Nothing) }) ∷ []); names = ((record { name = codes "P.I"; base = named.Own 0; first = 0; copies = 0; stride = 0; dimensions = [] }) ∷ []); code = ((instr.Begin) ∷ (instr.Cell 0) ∷ (instr.Fetch) ∷ (instr.Int (pos 6)) ∷ (instr.Op2 (choice.Known op2.Less)) ∷ (instr.JumpNot 23) ∷ (instr.Turn 23) ∷ (instr.Cell 0) ∷ (instr.Fetch) ∷ (instr.Item) ∷ (instr.Print 6) ∷ (instr.Cell 0) ∷ (instr.Fetch) ∷ (instr.Int (pos 2)) ∷ (instr.Op2 (choice.Known op2.Plus)) ∷ (instr.Cell 0) ∷ (instr.Keep) ∷ (instr.Cell 0) ∷ (instr.Fetch) ∷ (instr.Int (pos 6)) ∷ (instr.Op2 (choice.Known op2.Less)) ∷ (instr.JumpNot 23) ∷ (instr.Jump 6) ∷ (instr.Finish) ∷ []); first = 0 }
+row24 = record { cells = []; events = []; common = []; processes = ((record { name = codes "P"; block = 0; places = ((record { repeat = 1; row = (place.Data kind.Single (value.Int (pos 1))) }) ∷ []) }) ∷ []); shapes = []; views = ((record { base = (base.Own 0); dimensions = []; target = (target.Cell kind.Single) }) ∷ []); expressions = []; blocks = ((record { process = 0; first = 0; end = 24; result = (choice.Known result.Nothing) }) ∷ []); names = ((record { name = codes "P.I"; base = named.Own 0; first = 0; copies = 0; stride = 1; dimensions = [] }) ∷ []); code = ((instr.Begin) ∷ (instr.Cell 0) ∷ (instr.Fetch) ∷ (instr.Int (pos 6)) ∷ (instr.Op2 (choice.Known op2.Less)) ∷ (instr.JumpNot 23) ∷ (instr.Turn 23) ∷ (instr.Cell 0) ∷ (instr.Fetch) ∷ (instr.Item) ∷ (instr.Print 6) ∷ (instr.Cell 0) ∷ (instr.Fetch) ∷ (instr.Int (pos 2)) ∷ (instr.Op2 (choice.Known op2.Plus)) ∷ (instr.Cell 0) ∷ (instr.Keep) ∷ (instr.Cell 0) ∷ (instr.Fetch) ∷ (instr.Int (pos 6)) ∷ (instr.Op2 (choice.Known op2.Less)) ∷ (instr.JumpNot 23) ∷ (instr.Jump 6) ∷ (instr.Finish) ∷ []); first = 0 }
 
 abbrev Says24 : Type 0
 Says24 = (reported 400 row24 ((line.Run 20) ∷ []) ≡ codes "6: 1\n6: 3\n6: 5\nend P 0 closed 1\nP.I = 7\n") × (first_failure row24 ≡ None)
