@@ -1,11 +1,11 @@
 -- Operands behind others, and the event expressions of phrases.
-use Rattle.std.proofs.Common.{◌≡◌, ◌∙◌, ℕ, ◌&&◌, Bool, true, false, List, [], ◌∷◌, ◌++◌, Option, Some, None, filter_map, if◌then◌else◌, refl, sym, ap, ap₂}
+use Rattle.std.proofs.Common.{◌≡◌, ◌∙◌, ℕ, ◌&&◌, Bool, true, false, List, [], ◌∷◌, ◌++◌, Some, None, filter_map, if◌then◌else◌, refl, sym, ap, ap₂}
 use Rattle.std.specs.Option.{option_map}
 use Rattle.std.specs.List.{cons_option}
 use Rattle.hal_grammar.specs.Expressions.{Expression, Expressions, NoExpressions, MoreExpressions}
 use Rattle.hal_phrases.specs.Phrases.{Node, Phrase, OfFile, OfInclude, OfTemplate, OfUnit, OfParameter, OfClose, OfDeclare, OfItem, OfStructure, OfPart, OfStructureType, OfInitial, OfInitialName, OfLabel, OfExpression, OfDecimal, OfCallForm, OfReference, OfSubscriptName, OfAssignment, OfGroup, OfTemporaryGroup, OfVariable, OfExit, OfRepeat, OfReturn, OfCall, OfRead, OfWrite, OfUpdate, OfRealTime, OfProcess, OfEvent, OfHandler, OfResponse, OfOffError, OfSendError}
 use Rattle.hal_values.specs.declared.tables.Item.{Item}
-use Rattle.hal_meaning.specs.Events.{postfix, postfix_joined, stated_at, stated, Stated, is_for_event}
+use Rattle.hal_meaning.specs.Events.{postfix, postfix_joined, stated_at, stated, is_for_event}
 use Rattle.hal_elements.proofs.Repeated.{behind}
 use Rattle.hal_event_expressions.specs.Numbered.{stated_with, stated_by, expression_at, all_stated, is_real_time_at}
 

@@ -1,5 +1,5 @@
 -- A place that is found lies in the list.
-use Rattle.std.proofs.Common.{rules, ◌≡◌, ◌<◌, ◌==◌, ℕ, nat_lt, Bool, true, false, List, length, Option, Some, None, position, cond, refl}
+use Rattle.std.proofs.Common.{rules, ◌≡◌, ◌<◌, ◌==◌, ℕ, nat_lt, Bool, true, false, List, length, Some, None, position, cond, refl}
 use Rattle.std.specs.List.{position_or_len}
 
 tested : (b : Bool) (n len i : ℕ) → nat_lt n len ≡ b → cond b (Some n) None ≡ Some i → i < len

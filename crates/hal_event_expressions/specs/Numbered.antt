@@ -1,5 +1,5 @@
 -- The numbers of events among processes and declared events, and the phrases that are event expressions.
-use Rattle.std.specs.Prelude.{ℕ, ◌+◌, Bool, true, false, ◌&&◌, List, length, filter_map, Option, Some, None, slice_get, unwrap_or, if◌then◌else◌}
+use Rattle.std.specs.Prelude.{ℕ, ◌+◌, Bool, false, ◌&&◌, List, length, filter_map, Option, Some, None, slice_get, unwrap_or, if◌then◌else◌}
 use Rattle.std.specs.Option.{option_and_then, option_map, option_or}
 use Rattle.hal_grammar.specs.Expressions.{Expression}
 use Rattle.hal_phrases.specs.Phrases.{Node, Phrase, OfExpression}

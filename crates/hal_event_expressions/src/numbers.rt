@@ -2,7 +2,7 @@
 
 ghost use Rattle.std.specs.Prelude.{◌≡◌, ◌≤◌, ◌<◌, ◌+◌, IfSome, length};
 ghost use Rattle.hal_names.specs.SeenNames.{seen_names};
-ghost use Rattle.hal_meaning.specs.Bodies.{meant, processes_of};
+ghost use Rattle.hal_meaning.specs.Bodies.{meant};
 ghost use Rattle.hal_meaning.specs.Events as events;
 ghost use Rattle.hal_event_expressions.specs.Numbered as numbered;
 
