@@ -1,0 +1,12 @@
+//! Where data are stored, and the shared cells of a set of files.
+#![tactic(auto)]
+
+mod cells;
+mod groups;
+mod sharing;
+mod storing;
+mod storings;
+
+pub use cells::cells_of;
+pub use storing::Storing;
+pub use storings::{is_in_unit, parameter, storing_of};

@@ -1,0 +1,4 @@
+pub mod Attributes
+pub mod Repeated
+pub mod Shaped
+pub mod Parted

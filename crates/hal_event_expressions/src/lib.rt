@@ -1,0 +1,11 @@
+//! The event expressions of a set of files.
+#![tactic(auto)]
+
+mod numbers;
+mod postfix;
+mod stated;
+mod statements;
+
+pub use numbers::event_of;
+pub use stated::Stated;
+pub use statements::stated_of;

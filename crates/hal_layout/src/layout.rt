@@ -1,0 +1,22 @@
+//! Layouts.
+
+use hal_event_expressions::Stated;
+use hal_own_places::OwnPlaces;
+use hal_values::{Cell, EventStart};
+
+/// The layout of a set of files.
+#[derive(Drop)]
+pub struct Layout {
+    /// The shared cells, in order.
+    pub cells: Vec<Cell>,
+    /// The own places of the processes.
+    pub own: OwnPlaces,
+    /// The names of the processes, in order, in bytes.
+    pub processes: Vec<Vec<u8>>,
+    /// The process that starts at the opening, from 0.
+    pub first: usize,
+    /// How the declared events begin, in order.
+    pub events: Vec<EventStart>,
+    /// The event expressions, in the order in which they stand.
+    pub expressions: Vec<Stated>,
+}

@@ -1,0 +1,4 @@
+pub mod Rounds
+pub mod Within
+pub mod Callees
+pub mod Reaching

@@ -1,0 +1,4 @@
+pub mod Marks
+pub mod Places
+pub mod Calls
+pub mod SeenUnits

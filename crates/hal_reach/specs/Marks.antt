@@ -1,0 +1,59 @@
+-- Marks of units: which of them reach a block by so many calls.
+use Rattle.std.specs.Prelude.{ℕ, zero, suc, ◌==◌, Bool, true, false, ◌&&◌, ◌||◌, List, [], ◌∷◌, length, map, slice_get, unwrap_or, if◌then◌else◌}
+use Rattle.std.specs.List.{list_any}
+
+-- a unit: the number of its phrase, whether it is a process, and the places of those that it calls among the units
+pub record Unit : Type 0 where
+  pub number : ℕ
+  pub process : Bool
+  pub callees : List ℕ
+
+-- a unit, and the processes that reach it
+pub record Reached : Type 0 where
+  pub unit : ℕ
+  pub processes : List ℕ
+
+-- whether the unit at this place is marked
+abbrev pub is_marked : List Bool → ℕ → Bool
+is_marked marked place = unwrap_or (slice_get marked place) false
+
+-- the block with this number itself
+abbrev pub itself : List Unit → ℕ → List Bool
+itself units to = map (λ (u : Unit). u.number == to) units
+
+-- the same, and the units that call one of those that are marked
+abbrev pub callers : List Unit → ℕ → List Bool → List Bool
+callers units to marked = map (λ (u : Unit). (u.number == to) || list_any (is_marked marked) u.callees) units
+
+-- that so many times
+unfoldable pub rounds : ℕ → List Unit → ℕ → List Bool → List Bool
+rounds zero units to marked = marked
+rounds (suc n) units to marked = rounds n units to (callers units to marked)
+
+-- as many times as there are units
+abbrev pub reaching : List Unit → ℕ → List Bool
+reaching units to = rounds (length units) units to (itself units to)
+
+abbrev pub same_mark : Bool → Bool → Bool
+same_mark true one = one
+same_mark false true = false
+same_mark false false = true
+
+abbrev pub are_same : List Bool → List Bool → Bool
+are_same [] [] = true
+are_same (m ∷ ms) [] = false
+are_same [] (m ∷ ms) = false
+are_same (m ∷ ms) (n ∷ ns) = same_mark m n && are_same ms ns
+
+-- the processes among the units that are marked
+unfoldable pub processes_marked : List Unit → List Bool → List ℕ
+processes_marked [] marked = []
+processes_marked (u ∷ us) [] = []
+processes_marked (u ∷ us) (m ∷ ms) = if u.process && m then u.number ∷ processes_marked us ms else processes_marked us ms
+
+-- each unit with the processes that reach it
+abbrev pub row : List Unit → Unit → Reached
+row units u = record { unit = u.number; processes = processes_marked units (reaching units u.number) }
+
+unfoldable pub rows : List Unit → List Reached
+rows units = map (row units) units

@@ -1,0 +1,8 @@
+//! A call.
+
+/// A call, by the numbers of phrases: the unit in which it stands, and the block that is called.
+#[derive(Clone, Copy, Debug)]
+pub struct Call {
+    pub from: usize,
+    pub to: usize,
+}
