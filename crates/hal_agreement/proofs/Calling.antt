@@ -7,10 +7,13 @@ use Rattle.hal_values.specs.declared.value.Value.{Value}
 use Rattle.hal_values.specs.declared.value.Value.TheVariants as value
 use Rattle.hal_values.specs.Answers.{Answered, error}
 use Rattle.hal_values.specs.Searching.{entered}
-use Rattle.hal_states.specs.Spots.{Kept}
+use Rattle.hal_states.specs.Spots.{Own, Kept}
 use Rattle.hal_states.specs.Modes.{Mode}
 use Rattle.hal_meaning.specs.Bodies.{Body}
-use Rattle.hal_meaning.specs.Calls.{begun, entering, zero_of, is_function, result_of, bound, stored_parameters, inputs_of, outputs_of, left_with, run_call, made_call, call}
+use Rattle.hal_meaning.specs.Calls.{Passed, Plain, Whole, parameter_named, stored_parameter, begun, entering, zero_of, is_function, result_of, bound, stored_parameters, inputs_of, outputs_of, left_with, run_call, made_call, call}
+use Rattle.hal_meaning.specs.Expressions.{inputs_at}
+use Rattle.hal_meaning.specs.ReportNames.{first_place}
+use Rattle.hal_meaning.specs.Variables.{kind_of_first}
 use Rattle.hal_meaning.specs.Marks.{handling_in}
 use Rattle.hal_meaning.specs.Sets.{body_at}
 use Rattle.hal_meaning.specs.States.{State, state, with_entries, with_places, Evaluated, Gives, Asks, Caught, Restarts, Lost, bind, Flow, Normal, Leaves, Repeats, Returned}
@@ -20,14 +23,14 @@ use Rattle.hal_meaning.specs.Runs.{in_function, ended}
 use Rattle.hal_meaning.specs.Tasks.{Meaning, Entering}
 use Rattle.hal_code.specs.declared.instr.Instr.TheVariants as instr
 use Rattle.hal_code.specs.declared.row.Block.{Block}
-use Rattle.hal_code.specs.Cores.{Operand, Val, Frame, Core, core, Setting, Goes, going, Step, Moves}
+use Rattle.hal_code.specs.Cores.{Operand, Val, At, Frame, Core, core, Setting, Goes, going, Step, Moves}
 use Rattle.hal_code.specs.Raising.{stuck, turned, raised}
 use Rattle.hal_code.specs.Controlling as machine
 use Rattle.hal_code.specs.Controlling.{with_result, calling}
 use Rattle.hal_code.specs.Machine.{act}
 use Rattle.hal_agreement.specs.Codes.{Code}
 use Rattle.hal_agreement.specs.Sites.{site_of}
-use Rattle.hal_agreement.specs.PlacedExpressions.{Has, One, pushes, CallAt}
+use Rattle.hal_agreement.specs.PlacedExpressions.{Has, One, pushes, AddressAt, ParametersAt, CallAt}
 use Rattle.hal_agreement.specs.PlacedStatements.{ByReturn, ByResult, of_block}
 use Rattle.hal_agreement.specs.PlacedBlocks.{leaving_by, EndAt, UnitAt}
 use Rattle.hal_agreement.proofs.Handling.{HandledAt, each_handled}
@@ -35,7 +38,8 @@ use Rattle.hal_agreement.proofs.Knowing.{Out, flow_to, Leads_out, Ends, Ending, 
 use Rattle.hal_agreement.proofs.Leading.{Leads, stays, through, acts_to}
 use Rattle.hal_agreement.proofs.Reaching.{Nest, nest, behind, coded_entries, setting, core_at, Arrives, Holds, Reaches, OnStep, before, bind_reaches, bind_on, acts}
 use Rattle.hal_agreement.proofs.Searching.{above, coded_above}
-use Rattle.hal_agreement.proofs.Raising.{Standing, raised_reaches, turned_at}
+use Rattle.hal_agreement.proofs.Raising.{Standing, store_reaches, raised_reaches, turned_at}
+use Rattle.hal_agreement.proofs.Viewing.{address_reaches}
 
 -- the result that a call wants, and the operands with it
 abbrev wanted_by : Bool → Head → Option Value
@@ -53,6 +57,10 @@ called_with wanted s row c = turned (raised s (error 1 8) (going (suc c.at) (wit
 -- whether the end of a unit is that of a FUNCTION
 abbrev function_of : Option Body → Bool
 function_of o = elim o [ None ↦ false | Some x ↦ is_function x.head ]
+
+-- the names of the parameters of a unit
+abbrev inputs_by : Option Body → List Naming
+inputs_by o = elim o [ None ↦ [] | Some b ↦ inputs_of b.head ]
 
 -- the end of a unit says which result it has
 result_same : (code : Code) (function : Bool) (head : Head) (row : Block) (at : ℕ) → EndAt code function head row at → machine.zero_of row.result ≡ wanted_by function head
@@ -193,41 +201,90 @@ module _ (code : Code) (begin : ℕ) (rec : Meaning) (sound : Sound code begin r
       (λ after. record { holds = stays (setting code begin h) _ after.left }))
       (λ made after. spent_reaches function b from stack line made after))
 
-  -- what a call without arguments comes to
-  abbrev plain_call : Body → List Naming → List Naming → State → Evaluated Value
-  plain_call b inputs outputs st =
-      bind (stored_parameters h b.number inputs [] (with_places (bound h b.number outputs [] st.kept.places) st)) (λ stored after. bind (turn h after) (λ made begins. run_call rec h b made begins))
+  -- the operands of a call, with its arguments
+  abbrev pub args_step : List Naming → List Passed → List Operand → ℕ → List ℕ → State → Option Step
+  args_step [] [] stack at line after = Some (Moves (core_at at stack line n after))
+  args_step (name ∷ names) (Plain v ∷ ps) stack at line after = args_step names ps (Val v ∷ stack) at line after
+  args_step names ps stack at line after = None
 
-  plain_same : (b : Body) (st : State) → inputs_of b.head ≡ [] → outputs_of b.head ≡ [] → made_call rec h b [] [] st ≡ bind (turn h st) (λ made begins. run_call rec h b made begins)
-  plain_same b st inputs outputs = ap (λ names. plain_call b names (outputs_of b.head) st) inputs ∙ ap (λ names. plain_call b [] names st) outputs
+  -- what is said of a step is said of it in other words
+  pub on_step : (o : Option Step) (P Q : Step → Type 0) → OnStep o P → ((x : Step) → P x → Q x) → OnStep o Q
+  on_step None P Q is each = tt
+  on_step (Some x) P Q is each = each x is
 
-  abbrev call_by : Option Body → State → Evaluated Value
-  call_by o st = elim o [ None ↦ Gives (value.Int (pos 0)) st | Some b ↦ made_call rec h b [] [] st ]
+  -- something is done, and control goes on there
+  abbrev Done : ℕ → List Operand → List ℕ → Step → List Answered → Evaluated (Unit {0}) → Type 0
+  Done to stack line step left r = Reaches (setting code begin h) n (λ (done : Unit {0}) after. Some (Moves (core_at to stack line n after))) step left r
 
-  call_reaches : (unit : ℕ) (function : Bool) (from to : ℕ) (stack : List Operand) (line : List ℕ) (st : State) (here : CallAt code h.set unit function from to)
-      → Reaches (setting code begin h) n (λ v after. Some (Moves (core_at to (pushed_result (wanted_by function here.body.head) v stack) line n after))) (Moves (core_at from stack line n st)) st.left (call rec h unit [] [] st)
-  call_reaches unit function from to stack line st here =
-      subst (λ end. Reaches (setting code begin h) n (λ v after. Some (Moves (core_at end (pushed_result (wanted_by function here.body.head) v stack) line n after))) (Moves (core_at from stack line n st)) st.left (call rec h unit [] [] st)) here.call.1
-      (acts (setting code begin h) n _ (core_at from stack line n st) st.left (instr.Call here.number) _ here.call.0
-      (subst (λ o. Reaches (setting code begin h) n (λ v after. Some (Moves (core_at (suc from) (pushed_result (wanted_by function here.body.head) v stack) line n after)))
-      (elim o [ None ↦ stuck (core_at from stack line n st) | Some row ↦ machine.called (setting code begin h) row (core_at from stack line n st) ]) st.left (call rec h unit [] [] st)) (sym here.block)
-      (subst (λ o. Reaches (setting code begin h) n (λ v after. Some (Moves (core_at (suc from) (pushed_result (wanted_by function here.body.head) v stack) line n after))) (machine.called (setting code begin h) here.row (core_at from stack line n st)) st.left (call_by o st)) (sym here.found)
-      (subst (λ r. Reaches (setting code begin h) n (λ v after. Some (Moves (core_at (suc from) (pushed_result (wanted_by function here.body.head) v stack) line n after))) (machine.called (setting code begin h) here.row (core_at from stack line n st)) st.left r)
-      (sym (plain_same here.body st here.inputs here.outputs))
-      (subst (λ w. Reaches (setting code begin h) n (λ v after. Some (Moves (core_at (suc from) (pushed_result (wanted_by function here.body.head) v stack) line n after))) (called_with w (setting code begin h) here.row (core_at from stack line n st)) st.left
-      (bind (turn h st) (λ made begins. run_call rec h here.body made begins)))
+  parameter_reaches : (unit : ℕ) (name : Naming) (v : Value) (from to : ℕ) (stack : List Operand) (line : List ℕ) (st : State)
+      → AddressAt code st.kept.places (kind_of_first (parameter_named h.set unit name).shape.components) (Own (first_place h.places (parameter_named h.set unit name).number)) from → One code (suc from) instr.Keep to
+      → Done to stack line (Moves (core_at from (Val v ∷ stack) line n st)) st.left (stored_parameter h (parameter_named h.set unit name) (Plain v) st)
+  parameter_reaches unit name v from to stack line st at one =
+      subst (λ end. Done end stack line (Moves (core_at from (Val v ∷ stack) line n st)) st.left (stored_parameter h (parameter_named h.set unit name) (Plain v) st)) one.1
+      (address_reaches code begin h n _ (kind_of_first (parameter_named h.set unit name).shape.components) (Own (first_place h.places (parameter_named h.set unit name).number)) from (Val v ∷ stack) line st _ at
+      (acts (setting code begin h) n _ (core_at (suc from) (At (Own (first_place h.places (parameter_named h.set unit name).number)) (kind_of_first (parameter_named h.set unit name).shape.components) ∷ Val v ∷ stack) line n st) st.left instr.Keep _ one.0
+      (store_reaches code begin h n standing (suc (suc from)) stack line (kind_of_first (parameter_named h.set unit name).shape.components) (Own (first_place h.places (parameter_named h.set unit name).number)) v st)))
+
+  -- parameters get their arguments, from the last to the first
+  stored_reaches : (unit : ℕ) (names : List Naming) (ps : List Passed) (from to : ℕ) (stack : List Operand) (line : List ℕ) (st : State) → ParametersAt code (site_of h) unit names from to
+      → OnStep (args_step names ps stack from line st) (λ x. Done to stack line x st.left (stored_parameters h unit names ps st))
+  stored_reaches unit [] [] from to stack line st same =
+      subst (λ end. Done end stack line (Moves (core_at from stack line n st)) st.left (Gives tt st)) same (record { holds = stays (setting code begin h) _ st.left })
+  stored_reaches unit (name ∷ names) (Plain v ∷ ps) from to stack line st here =
+      on_step (args_step names ps (Val v ∷ stack) from line st) (λ x. Done here.0 (Val v ∷ stack) line x st.left (stored_parameters h unit names ps st))
+      (λ x. Done to stack line x st.left (stored_parameters h unit (name ∷ names) (Plain v ∷ ps) st)) (stored_reaches unit names ps from here.0 (Val v ∷ stack) line st here.1)
+      (λ x is. bind_reaches (setting code begin h) n (λ done after. Moves (core_at here.0 (Val v ∷ stack) line n after)) _ x st.left (stored_parameters h unit names ps st)
+      (λ done after. stored_parameter h (parameter_named h.set unit name) (Plain v) after) is
+      (λ done after. parameter_reaches unit name v here.0 to stack line after (here.2 after.kept.places) here.3))
+  stored_reaches unit [] (p ∷ ps) from to stack line st here = tt
+  stored_reaches unit (name ∷ names) [] from to stack line st here = tt
+  stored_reaches unit (name ∷ names) (Whole at ∷ ps) from to stack line st here = tt
+
+  abbrev call_by : Option Body → List Passed → State → Evaluated Value
+  call_by o ps st = elim o [ None ↦ Gives (value.Int (pos 0)) st | Some b ↦ made_call rec h b ps [] st ]
+
+  -- what a call without ASSIGN arguments comes to
+  abbrev plain_call : Body → List Passed → List Naming → State → Evaluated Value
+  plain_call b ps outputs st =
+      bind (stored_parameters h b.number (inputs_of b.head) ps (with_places (bound h b.number outputs [] st.kept.places) st)) (λ stored after. bind (turn h after) (λ made begins. run_call rec h b made begins))
+
+  called_reaches : (unit : ℕ) (function : Bool) (from to : ℕ) (stack : List Operand) (line : List ℕ) (st : State) (here : CallAt code (site_of h) unit function from to)
+      → Reaches (setting code begin h) n (λ v after. Some (Moves (core_at to (pushed_result (wanted_by function here.body.head) v stack) line n after))) (Moves (core_at here.middle stack line n st)) st.left
+      (bind (turn h st) (λ made begins. run_call rec h here.body made begins))
+  called_reaches unit function from to stack line st here =
+      subst (λ end. Reaches (setting code begin h) n (λ v after. Some (Moves (core_at end (pushed_result (wanted_by function here.body.head) v stack) line n after))) (Moves (core_at here.middle stack line n st)) st.left
+      (bind (turn h st) (λ made begins. run_call rec h here.body made begins))) here.call.1
+      (acts (setting code begin h) n _ (core_at here.middle stack line n st) st.left (instr.Call here.number) _ here.call.0
+      (subst (λ o. Reaches (setting code begin h) n (λ v after. Some (Moves (core_at (suc here.middle) (pushed_result (wanted_by function here.body.head) v stack) line n after)))
+      (elim o [ None ↦ stuck (core_at here.middle stack line n st) | Some row ↦ machine.called (setting code begin h) row (core_at here.middle stack line n st) ]) st.left (bind (turn h st) (λ made begins. run_call rec h here.body made begins))) (sym here.block)
+      (subst (λ w. Reaches (setting code begin h) n (λ v after. Some (Moves (core_at (suc here.middle) (pushed_result (wanted_by function here.body.head) v stack) line n after)))
+      (called_with w (setting code begin h) here.row (core_at here.middle stack line n st)) st.left (bind (turn h st) (λ made begins. run_call rec h here.body made begins)))
       (sym (result_same code function here.body.head here.row at.finish (subst (λ f. EndAt code f here.body.head here.row at.finish) here.gives at.ends)))
-      (run_reaches function here.body here.row from stack line st at here.gives))))))
+      (run_reaches function here.body here.row here.middle stack line st at here.gives))))
     where
       at : UnitAt code h.set h.places here.body here.row
       at = standing.units unit here.number here.body here.row here.named here.found here.block
 
-  -- the value of a FUNCTION without arguments
-  pub function_reaches : (unit from to : ℕ) (stack : List Operand) (line : List ℕ) (st : State) → CallAt code h.set unit true from to
-      → Reaches (setting code begin h) n (λ v after. Some (Moves (core_at to (Val v ∷ stack) line n after))) (Moves (core_at from stack line n st)) st.left (call rec h unit [] [] st)
-  function_reaches unit from to stack line st here = call_reaches unit true from to stack line st here
+  -- a call, behind its arguments
+  pub call_reaches : (unit : ℕ) (function : Bool) (ps : List Passed) (from to : ℕ) (stack : List Operand) (line : List ℕ) (st : State) (here : CallAt code (site_of h) unit function from to)
+      → OnStep (args_step (inputs_of here.body.head) ps stack from line st)
+      (λ x. Reaches (setting code begin h) n (λ v after. Some (Moves (core_at to (pushed_result (wanted_by function here.body.head) v stack) line n after))) x st.left (call rec h unit ps [] st))
+  call_reaches unit function ps from to stack line st here =
+      on_step (args_step (inputs_of here.body.head) ps stack from line st) (λ x. Done here.middle stack line x st.left (stored_parameters h here.body.number (inputs_of here.body.head) ps st))
+      (λ x. Reaches (setting code begin h) n (λ v after. Some (Moves (core_at to (pushed_result (wanted_by function here.body.head) v stack) line n after))) x st.left (call rec h unit ps [] st))
+      (stored_reaches here.body.number (inputs_of here.body.head) ps from here.middle stack line st here.parameters)
+      (λ x is. subst (λ o. Reaches (setting code begin h) n (λ v after. Some (Moves (core_at to (pushed_result (wanted_by function here.body.head) v stack) line n after))) x st.left (call_by o ps st)) (sym here.found)
+      (subst (λ names. Reaches (setting code begin h) n (λ v after. Some (Moves (core_at to (pushed_result (wanted_by function here.body.head) v stack) line n after))) x st.left (plain_call here.body ps names st)) (sym here.outputs)
+      (bind_reaches (setting code begin h) n (λ done after. Moves (core_at here.middle stack line n after)) _ x st.left (stored_parameters h here.body.number (inputs_of here.body.head) ps st)
+      (λ stored after. bind (turn h after) (λ made begins. run_call rec h here.body made begins)) is (λ done after. called_reaches unit function from to stack line after here))))
 
-  -- CALL of a PROCEDURE without arguments
-  pub procedure_reaches : (unit from to : ℕ) (st : State) → CallAt code h.set unit false from to
-      → Reaches (setting code begin h) n (λ (v : Value) after. Some (Moves (core_at to [] [] n after))) (Moves (core_at from [] [] n st)) st.left (call rec h unit [] [] st)
-  procedure_reaches unit from to st here = call_reaches unit false from to [] [] st here
+  -- the names of the parameters of a unit that is found
+  pub inputs_same : (unit : ℕ) (function : Bool) (from to : ℕ) (here : CallAt code (site_of h) unit function from to) → inputs_at h.set unit ≡ inputs_of here.body.head
+  inputs_same unit function from to here = ap inputs_by here.found
+
+  -- the value of a FUNCTION without arguments
+  pub function_reaches : (unit from to : ℕ) (stack : List Operand) (line : List ℕ) (st : State) → inputs_at h.set unit ≡ [] → CallAt code (site_of h) unit true from to
+      → Reaches (setting code begin h) n (λ v after. Some (Moves (core_at to (Val v ∷ stack) line n after))) (Moves (core_at from stack line n st)) st.left (call rec h unit [] [] st)
+  function_reaches unit from to stack line st none here =
+      subst (λ names. OnStep (args_step names [] stack from line st) (λ x. Reaches (setting code begin h) n (λ v after. Some (Moves (core_at to (Val v ∷ stack) line n after))) x st.left (call rec h unit [] [] st)))
+      (sym (inputs_same unit true from to here) ∙ none) (call_reaches unit true [] from to stack line st here)

@@ -28,10 +28,10 @@ use Rattle.hal_states.specs.OfKinds.{told}
 use Rattle.hal_meaning.specs.Elements.{Shape, chosen, offset}
 use Rattle.hal_meaning.specs.States.{State, state, Evaluated, Gives, bind}
 use Rattle.hal_meaning.specs.Access.{Here, ask, read}
-use Rattle.hal_meaning.specs.Calls.{Passed}
+use Rattle.hal_meaning.specs.Calls.{Passed, Plain, call}
 use Rattle.hal_meaning.specs.Bodies.{meant}
 use Rattle.hal_meaning.specs.Variables.{Meant, MeantData, MeantConstant, MeantEvent, MeantBlock, MeantBuiltin, MeantNothing, meant_by, declaration_meant, builtin_meant, name_meant, kind_of_first, is_arrayed}
-use Rattle.hal_meaning.specs.Expressions.{literal_value, is_condition, are_conditions, becomes_condition, as_operand, apply_one, apply_two, signed, exponent_of, operation_of_relation, operation_of_sign, operation_of_conversion, is_size, event_value, alone_value, plain_value, built, sizes_named, size_argument, inputs_at, call_form, subscripted, expression, joined, folded, summed, values, passed, referred, data_chosen, component}
+use Rattle.hal_meaning.specs.Expressions.{literal_value, is_condition, are_conditions, becomes_condition, as_operand, apply_one, apply_two, signed, exponent_of, operation_of_relation, operation_of_sign, operation_of_conversion, is_size, event_value, alone_value, plain_value, built, sizes_named, size_argument, inputs_at, call_form, subscripted, expression, joined, folded, summed, values, argument, passed, chosen_by, referred, data_chosen, component}
 use Rattle.hal_meaning.specs.Tasks.{Meaning}
 use Rattle.hal_code.specs.declared.choice.Choice.TheVariants as choice
 use Rattle.hal_code.specs.declared.instr.Instr.{Instr}
@@ -45,11 +45,12 @@ use Rattle.hal_code.specs.Addressing.{spot_of, pushed, cell_viewed, act_cell}
 use Rattle.hal_code.specs.Machine.{act}
 use Rattle.hal_agreement.specs.Codes.{Code}
 use Rattle.hal_agreement.specs.Sites.{Site, site_of, here_at}
-use Rattle.hal_agreement.specs.PlacedExpressions.{Has, One, pushes, two, IsPlain, AddressAt, AloneAt, ValueAt, NameAt, ReferenceAt, SignAt, stay, ExpressionAt, FoldedAt, TermsAt, CalledAt, BuiltAt}
-use Rattle.hal_agreement.proofs.Calling.{function_reaches}
+use Rattle.hal_agreement.specs.PlacedExpressions.{Has, One, pushes, two, IsPlain, AddressAt, AloneAt, ValueAt, NameAt, ReferenceAt, SignAt, stay, ExpressionAt, FoldedAt, TermsAt, CalledAt, BuiltAt, ArgumentsAt}
+use Rattle.hal_agreement.proofs.Calling.{args_step, inputs_same, call_reaches, function_reaches}
 use Rattle.hal_agreement.proofs.Knowing.{Sound}
 use Rattle.hal_agreement.proofs.Leading.{stays}
-use Rattle.hal_agreement.proofs.Reaching.{Nest, setting, core_at, Reaches, bind_reaches, acts}
+use Rattle.hal_agreement.proofs.Reaching.{Nest, setting, core_at, Arrives, Reaches, OnStep, bind_reaches, bind_on, acts}
+use Rattle.hal_agreement.proofs.Viewing.{address_reaches}
 use Rattle.hal_agreement.proofs.Raising.{Standing, bind_bind, asks_then, tested_reaches, read_reaches}
 
 -- what a declaration means goes by the site alone
@@ -73,11 +74,6 @@ named_same h held name (Some k) = declared_same h held (slice_get h.set.phrases 
 -- and so does what a name means
 pub name_same : (h : Here) (name : List ℕ) (held : List Held) → name_meant (here_at (site_of h)) name held ≡ name_meant h name held
 name_same h name held = named_same h held name (meant h.set.phrases h.block name)
-
-further_none : (at : Spot) → further 0 at ≡ at
-further_none (Shared c) = ap Shared (omega arith)
-further_none (Own k) = ap Own (omega arith)
-further_none Nowhere = refl
 
 both_left : (a b : Bool) → (a && b) ≡ true → a ≡ true
 both_left true b is = refl
@@ -135,34 +131,11 @@ module _ (code : Code) (begin : ℕ) (rec : Meaning) (sound : Sound code begin r
       last (two op) at to (Val w ∷ Val v ∷ stack) stack line st (apply_two h op v w st) one
       (tested_reaches code begin h n standing (value_of_two op v w) (mended_of_two op v w) at (Val w ∷ Val v ∷ stack) stack line st)
 
-  -- CELL with a view of one cell
-  plain_view : (b : Base) (k : Kind) (spot : Spot) (c : Core) → spot_of b c.kept.places ≡ spot
-      → cell_viewed (setting code begin h) (record { base = b; dimensions = []; target = target.Cell k }) c ≡ Moves (going (suc c.at) (At spot k ∷ c.stack) c)
-  plain_view b k spot c is = ap (λ at. Moves (going (suc c.at) (At at k ∷ c.stack) c)) (further_none (spot_of b c.kept.places) ∙ is)
-
-  viewed : (view : View) (k : Kind) (spot : Spot) (c : Core) → IsPlain view c.kept.places k spot → cell_viewed (setting code begin h) view c ≡ Moves (going (suc c.at) (At spot k ∷ c.stack) c)
-  viewed view k spot c is =
-      subst (λ ds. cell_viewed (setting code begin h) (record { base = view.base; dimensions = ds; target = view.target }) c ≡ Moves (going (suc c.at) (At spot k ∷ c.stack) c)) (sym is.dimensions)
-      (subst (λ t. cell_viewed (setting code begin h) (record { base = view.base; dimensions = []; target = t }) c ≡ Moves (going (suc c.at) (At spot k ∷ c.stack) c)) (sym is.target)
-      (plain_view view.base k spot c is.base))
-
-  cell_acts : (number : ℕ) (view : View) (k : Kind) (spot : Spot) (c : Core) → slice_get code.image.views number ≡ Some view → IsPlain view c.kept.places k spot
-      → act_cell (setting code begin h) number c ≡ Moves (going (suc c.at) (At spot k ∷ c.stack) c)
-  cell_acts number view k spot c row is =
-      ap (λ o. elim o [ None ↦ stuck c | Some found ↦ cell_viewed (setting code begin h) found c ]) row ∙ viewed view k spot c is
-
-  -- the address of a cell
-  pub address_reaches : {A : Type 0} (fine : A → State → Option Step) (k : Kind) (spot : Spot) (from : ℕ) (stack : List Operand) (line : List ℕ) (st : State) (r : Evaluated A) → AddressAt code st.kept.places k spot from
-      → Reaches (setting code begin h) n fine (From (suc from) (At spot k ∷ stack) line st) st.left r → Reaches (setting code begin h) n fine (From from stack line st) st.left r
-  address_reaches fine k spot from stack line st r at is =
-      acts (setting code begin h) n fine (core_at from stack line n st) st.left (instr.Cell at.number) r at.cell
-      (subst (λ step. Reaches (setting code begin h) n fine step st.left r) (sym (cell_acts at.number at.view k spot (core_at from stack line n st) at.row at.plain)) is)
-
   -- the value of data
   data_reaches : (k : Kind) (spot : Spot) (from to : ℕ) (stack : List Operand) (line : List ℕ) (st : State) → AddressAt code st.kept.places k spot from → One code (suc from) instr.Fetch to
       → ValuesAt to stack line (From from stack line st) st.left (read h k spot st)
   data_reaches k spot from to stack line st at fetch =
-      address_reaches (λ v after. Some (Moves (core_at to (Val v ∷ stack) line n after))) k spot from stack line st (read h k spot st) at
+      address_reaches code begin h n (λ v after. Some (Moves (core_at to (Val v ∷ stack) line n after))) k spot from stack line st (read h k spot st) at
       (last instr.Fetch (suc from) to (At spot k ∷ stack) stack line st (read h k spot st) fetch (read_reaches code begin h n standing (suc from) (At spot k ∷ stack) stack line k spot st))
 
   event_in : (b : Bool) (e from : ℕ) (stack : List Operand) (line : List ℕ) (st : State)
@@ -189,13 +162,13 @@ module _ (code : Code) (begin : ℕ) (rec : Meaning) (sound : Sound code begin r
   alone_reaches other from to stack line st one = absurd one
 
   -- what a name means, without subscripts
-  value_reaches : (path : List Naming) (m : Meant) (from to : ℕ) (stack : List Operand) (line : List ℕ) (st : State) → ValueAt code h.set path st.kept.places m from to
+  value_reaches : (path : List Naming) (m : Meant) (from to : ℕ) (stack : List Operand) (line : List ℕ) (st : State) → ValueAt code (site_of h) path st.kept.places m from to
       → ValuesAt to stack line (From from stack line st) st.left (plain_value rec h path m st)
   value_reaches path (MeantData at shape) from to stack line st here =
       data_reaches (kind_of_first (chosen path shape.components)) (further (offset path shape.components) at) from to stack line st here.0 here.1
   value_reaches path (MeantConstant v) from to stack line st here = constant_reaches v from to stack line st here
   value_reaches path (MeantEvent e) from to stack line st here = event_reaches e from to stack line st here
-  value_reaches path (MeantBlock unit) from to stack line st here = function_reaches code begin rec sound h n standing unit from to stack line st here
+  value_reaches path (MeantBlock unit) from to stack line st here = function_reaches code begin rec sound h n standing unit from to stack line st here.0 here.1
   value_reaches path (MeantBuiltin b) from to stack line st here = alone_reaches b from to stack line st here
   value_reaches path MeantNothing from to stack line st here = absurd here
 
@@ -203,14 +176,14 @@ module _ (code : Code) (begin : ℕ) (rec : Meaning) (sound : Sound code begin r
   kept_reaches : (to : ℕ) (stack : List Operand) (line : List ℕ) (step : Step) (left : List Answered) (r : Evaluated Value) → ValuesAt to stack line step left r → ValuesAt to stack line step left (bind r (λ v after. Gives v after))
   kept_reaches to stack line step left r is = then_reaches to to stack stack line step left r (λ v after. Gives v after) is (λ v after. gives to stack line v after)
 
-  meant_reaches : (path : List Naming) (m : Meant) (from to : ℕ) (stack : List Operand) (line : List ℕ) (st : State) → ValueAt code h.set path st.kept.places m from to
+  meant_reaches : (path : List Naming) (m : Meant) (from to : ℕ) (stack : List Operand) (line : List ℕ) (st : State) → ValueAt code (site_of h) path st.kept.places m from to
       → ValuesAt to stack line (From from stack line st) st.left
       (subscripted rec h path (λ at shape before. data_chosen rec h path Unsubscripted at shape before) (λ arrayed v after. component rec h arrayed Unsubscripted v after) m st)
   meant_reaches path (MeantData at shape) from to stack line st here =
       kept_reaches to stack line (From from stack line st) st.left _ (value_reaches path (MeantData at shape) from to stack line st here)
   meant_reaches path (MeantConstant v) from to stack line st here = constant_reaches v from to stack line st here
   meant_reaches path (MeantEvent e) from to stack line st here = kept_reaches to stack line (From from stack line st) st.left _ (event_reaches e from to stack line st here)
-  meant_reaches path (MeantBlock unit) from to stack line st here = kept_reaches to stack line (From from stack line st) st.left _ (function_reaches code begin rec sound h n standing unit from to stack line st here)
+  meant_reaches path (MeantBlock unit) from to stack line st here = kept_reaches to stack line (From from stack line st) st.left _ (function_reaches code begin rec sound h n standing unit from to stack line st here.0 here.1)
   meant_reaches path (MeantBuiltin b) from to stack line st here = kept_reaches to stack line (From from stack line st) st.left _ (alone_reaches b from to stack line st here)
   meant_reaches path MeantNothing from to stack line st here = absurd here
 
@@ -219,7 +192,7 @@ module _ (code : Code) (begin : ℕ) (rec : Meaning) (sound : Sound code begin r
       → ValuesAt to stack line (From from stack line st) st.left (referred rec h reference st)
   referred_reaches (Refers place name path Unsubscripted) from to stack line st here =
       meant_reaches path (name_meant h name st.kept.places) from to stack line st
-      (subst (λ m. ValueAt code h.set path st.kept.places m from to) (name_same h name st.kept.places) (here st.kept.places))
+      (subst (λ m. ValueAt code (site_of h) path st.kept.places m from to) (name_same h name st.kept.places) (here st.kept.places))
   referred_reaches (Refers place name path (ByName at other)) from to stack line st here = absurd here
   referred_reaches (Refers place name path (ByInteger at mark number)) from to stack line st here = absurd here
   referred_reaches (Refers place name path (ByParts at copies arrays components)) from to stack line st here = absurd here
@@ -240,19 +213,32 @@ module _ (code : Code) (begin : ℕ) (rec : Meaning) (sound : Sound code begin r
 
   -- a name with a list, whose operands are known
   called_reaches : (size : Value) (inputs : ℕ → State → Evaluated (List Passed)) (items : State → Evaluated (List Value)) (multiplied : Value → State → Evaluated Value) (folded : ℕ → ℕ → Type 0) (made : Operation → ℕ → ℕ → Type 0)
-      (m : Meant) (from to : ℕ) (stack : List Operand) (line : List ℕ) (st : State)
+      (args : ℕ → ℕ → ℕ → Type 0) (m : Meant) (from to : ℕ) (stack : List Operand) (line : List ℕ) (st : State)
       → ((middle : ℕ) (v : Value) (after : State) → folded middle to → ValuesAt to stack line (From middle (Val v ∷ stack) line after) after.left (multiplied v after))
       → ((op : Operation) → made op from to → ValuesAt to stack line (From from stack line st) st.left (bind (items st) (λ vs after. built h op vs after)))
-      → CalledAt code h.set st.kept.places folded made m from to → ValuesAt to stack line (From from stack line st) st.left (call_form rec h size inputs items multiplied m st)
-  called_reaches size inputs items multiplied folded made (MeantBlock unit) from to stack line st products functions here = absurd here
-  called_reaches size inputs items multiplied folded made (MeantBuiltin b) from to stack line st products functions here =
+      → ((unit middle : ℕ) → args unit from middle
+      → Reaches (setting code begin h) n (λ ps after. args_step code begin rec sound h n standing (inputs_at h.set unit) ps stack middle line after) (From from stack line st) st.left (inputs unit st))
+      → CalledAt code (site_of h) st.kept.places folded made args m from to → ValuesAt to stack line (From from stack line st) st.left (call_form rec h size inputs items multiplied m st)
+  called_reaches size inputs items multiplied folded made args (MeantBlock unit) from to stack line st products functions passes here =
+      bind_on (setting code begin h) n (λ ps after. args_step code begin rec sound h n standing (inputs_at h.set unit) ps stack here.0 line after) _ _ st.left (inputs unit st) (λ ps after. call rec h unit ps [] after) (passes unit here.0 here.1)
+      (λ ps after. subst (λ names. OnStep (args_step code begin rec sound h n standing names ps stack here.0 line after) (λ x. ValuesAt to stack line x after.left (call rec h unit ps [] after)))
+      (sym (inputs_same code begin rec sound h n standing unit true here.0 to here.2)) (call_reaches code begin rec sound h n standing unit true ps here.0 to stack line after here.2))
+  called_reaches size inputs items multiplied folded made args (MeantBuiltin b) from to stack line st products functions passes here =
       subst (λ is. ValuesAt to stack line (From from stack line st) st.left (if is then Gives size st else bind (items st) (λ vs after. built h (operation_of b) vs after))) (sym here.0) (functions (operation_of b) here.1)
-  called_reaches size inputs items multiplied folded made (MeantData at shape) from to stack line st products functions here =
+  called_reaches size inputs items multiplied folded made args (MeantData at shape) from to stack line st products functions passes here =
       then_reaches here.0 to stack stack line _ _ _ _ (value_reaches [] (MeantData at shape) from here.0 stack line st here.1) (λ v after. products here.0 v after here.2)
-  called_reaches size inputs items multiplied folded made (MeantConstant v) from to stack line st products functions here =
+  called_reaches size inputs items multiplied folded made args (MeantConstant v) from to stack line st products functions passes here =
       then_reaches here.0 to stack stack line _ _ _ _ (value_reaches [] (MeantConstant v) from here.0 stack line st here.1) (λ w after. products here.0 w after here.2)
-  called_reaches size inputs items multiplied folded made (MeantEvent e) from to stack line st products functions here = absurd here
-  called_reaches size inputs items multiplied folded made MeantNothing from to stack line st products functions here = absurd here
+  called_reaches size inputs items multiplied folded made args (MeantEvent e) from to stack line st products functions passes here = absurd here
+  called_reaches size inputs items multiplied folded made args MeantNothing from to stack line st products functions passes here = absurd here
+
+  -- an argument more
+  argument_step : (name : Naming) (names : List Naming) (v : Value) (stack : List Operand) (at : ℕ) (line : List ℕ) (ps : List Passed) (after : State) (o : Option Step)
+      → args_step code begin rec sound h n standing names ps (Val v ∷ stack) at line after ≡ o
+      → OnStep o (λ x. Reaches (setting code begin h) n (λ all later. args_step code begin rec sound h n standing (name ∷ names) all stack at line later) x after.left (Gives (Plain v ∷ ps) after))
+  argument_step name names v stack at line ps after None e = tt
+  argument_step name names v stack at line ps after (Some x) e =
+      record { holds = subst (λ one. Arrives (setting code begin h) x after.left one after.left) (sym e) (stays (setting code begin h) x after.left) }
 
   -- a value that is done with
   done : (from to : ℕ) (v : Value) (stack : List Operand) (line : List ℕ) (st : State) → from ≡ to → ValuesAt to stack line (From from (Val v ∷ stack) line st) st.left (Gives v st)
@@ -292,10 +278,12 @@ module _ (code : Code) (begin : ℕ) (rec : Meaning) (sound : Sound code begin r
     expression_reaches (Referred reference) from to stack line st here = referred_reaches reference from to stack line st here
     expression_reaches (Called place name arguments) from to stack line st here =
         called_reaches (size_argument h arguments st.kept.places) (λ unit before. passed rec h unit (inputs_at h.set unit) arguments before) (λ before. values rec h arguments before) (λ v after. folded rec h op2.Product v arguments after)
-        (λ middle end. FoldedAt code (site_of h) op2.Product arguments middle end) (λ op begins end. BuiltAt code (site_of h) op arguments begins end) (name_meant h name st.kept.places) from to stack line st
+        (λ middle end. FoldedAt code (site_of h) op2.Product arguments middle end) (λ op begins end. BuiltAt code (site_of h) op arguments begins end)
+        (λ unit begins end. ArgumentsAt code (site_of h) unit (inputs_at h.set unit) arguments begins end) (name_meant h name st.kept.places) from to stack line st
         (λ middle v after at. folded_reaches op2.Product arguments middle to v stack line after at) (λ op at. built_reaches op arguments from to stack line st at)
-        (subst (λ m. CalledAt code h.set st.kept.places (λ middle end. FoldedAt code (site_of h) op2.Product arguments middle end) (λ op begins end. BuiltAt code (site_of h) op arguments begins end) m from to) (name_same h name st.kept.places)
-        (here st.kept.places))
+        (λ unit middle at. passed_reaches unit (inputs_at h.set unit) arguments from middle stack line st at)
+        (subst (λ m. CalledAt code (site_of h) st.kept.places (λ middle end. FoldedAt code (site_of h) op2.Product arguments middle end) (λ op begins end. BuiltAt code (site_of h) op arguments begins end)
+        (λ unit begins end. ArgumentsAt code (site_of h) unit (inputs_at h.set unit) arguments begins end) m from to) (name_same h name st.kept.places) (here st.kept.places))
     expression_reaches (Convert place conversion operand) from to stack line st here =
         then_reaches here.0 to stack stack line _ _ _ _ (expression_reaches operand from here.0 stack line st here.1) (λ v after. one_reaches (operation_of_conversion conversion) here.0 to v stack line after here.2)
     expression_reaches (Parenthesis place inner) from to stack line st here = expression_reaches inner from to stack line st here
@@ -351,3 +339,22 @@ module _ (code : Code) (begin : ℕ) (rec : Meaning) (sound : Sound code begin r
     built_reaches (operation.Two op) (MoreExpressions left (MoreExpressions right (MoreExpressions other others))) from to stack line st here = absurd here
     built_reaches operation.Size arguments from to stack line st here = absurd here
     built_reaches operation.Nothing arguments from to stack line st here = absurd here
+
+    -- arguments of a call
+    pub passed_reaches : (unit : ℕ) (names : List Naming) (arguments : Expressions) (from to : ℕ) (stack : List Operand) (line : List ℕ) (st : State) → ArgumentsAt code (site_of h) unit names arguments from to
+        → Reaches (setting code begin h) n (λ ps after. args_step code begin rec sound h n standing names ps stack to line after) (From from stack line st) st.left (passed rec h unit names arguments st)
+    passed_reaches unit [] NoExpressions from to stack line st same =
+        subst (λ end. Reaches (setting code begin h) n (λ ps after. args_step code begin rec sound h n standing [] ps stack end line after) (From from stack line st) st.left (Gives [] st)) same
+        (record { holds = stays (setting code begin h) _ st.left })
+    passed_reaches unit (name ∷ names) (MoreExpressions first others) from to stack line st here =
+        subst (λ whole. Reaches (setting code begin h) n (λ ps after. args_step code begin rec sound h n standing (name ∷ names) ps stack to line after) (From from stack line st) st.left
+        (bind (argument whole (λ before. chosen_by rec h first before) (λ before. expression rec h first before) st) (λ p after. bind (passed rec h unit names others after) (λ ps later. Gives (p ∷ ps) later)))) (sym here.1)
+        (subst (λ r. Reaches (setting code begin h) n (λ ps after. args_step code begin rec sound h n standing (name ∷ names) ps stack to line after) (From from stack line st) st.left r)
+        (sym (bind_bind (expression rec h first st) (λ v after. Gives (Plain v) after) (λ p after. bind (passed rec h unit names others after) (λ ps later. Gives (p ∷ ps) later))))
+        (bind_reaches (setting code begin h) n (λ v after. From here.0 (Val v ∷ stack) line after) _ _ st.left (expression rec h first st) (λ v after. bind (passed rec h unit names others after) (λ ps later. Gives (Plain v ∷ ps) later))
+        (expression_reaches first from here.0 stack line st here.2)
+        (λ v after. bind_on (setting code begin h) n (λ ps later. args_step code begin rec sound h n standing names ps (Val v ∷ stack) to line later) _ _ after.left (passed rec h unit names others after) (λ ps later. Gives (Plain v ∷ ps) later)
+        (passed_reaches unit names others here.0 to (Val v ∷ stack) line after here.3)
+        (λ ps later. argument_step name names v stack to line ps later (args_step code begin rec sound h n standing names ps (Val v ∷ stack) to line later) refl))))
+    passed_reaches unit [] (MoreExpressions first others) from to stack line st here = absurd here
+    passed_reaches unit (name ∷ names) NoExpressions from to stack line st here = absurd here

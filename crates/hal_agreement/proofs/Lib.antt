@@ -3,6 +3,7 @@ pub mod Reaching
 pub mod Searching
 pub mod Handling
 pub mod Raising
+pub mod Viewing
 pub mod Knowing
 pub mod Calling
 pub mod Expressing

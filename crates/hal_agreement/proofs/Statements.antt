@@ -2,7 +2,6 @@
 use Rattle.std.specs.Prelude.{◌≡◌, ℕ, suc, List, [], ◌∷◌, Some, None}
 use Rattle.std.proofs.Common.{refl, subst}
 use Rattle.hal_grammar.specs.Leaves.{Naming}
-use Rattle.hal_grammar.specs.Expressions.{NoExpressions}
 use Rattle.hal_grammar.specs.Statements.{Statement, Labelled, Basic, Null, Assignment, If, Do, DoCase, DoLoop, DoFor, Exit, Repeat, Return, Call, Read, Write, Update, Scheduled, Cancel, Terminate, Wait, WaitUntil, WaitForDependent, WaitFor, Event, UpdatePriority, OnErrorStatement, OnErrorResponse, OffError, SendError, Alternative, NoAlternative, Otherwise, Group, Groups, Statements, NoStatements, MoreStatements}
 use Rattle.hal_values.specs.declared.request.Request.TheVariants as request
 use Rattle.hal_values.specs.Answers.{error}
@@ -63,9 +62,9 @@ module _ (code : Code) (begin : ℕ) (rec : Meaning) (sound : Sound code begin r
     basic_reaches h n standing exits out marks leads m labels (Return place (Some tree)) from to st here =
         subst (λ end. FlowsAt code begin rec sound h n standing out exits end (Begins code begin rec sound h n standing out from st) st.left (basic_statement rec h m labels (Return place (Some tree)) st)) here.5.1
         (returned_reaches code begin rec sound h n standing out exits tree from here.0 here.1 (suc here.1) st leads here.2 here.3 here.4 here.5.0)
-    basic_reaches h n standing exits out marks leads m labels (Call place name NoExpressions []) from to st here =
+    basic_reaches h n standing exits out marks leads m labels (Call place name arguments []) from to st here =
         goes_on_reaches code begin rec sound h n standing out exits to _ st.left _
-        (call_meant code begin rec sound h n standing out (name_meant h name.name st.kept.places) from to st (subst (λ m. CalledAt code h.set m from to) (name_same h name.name st.kept.places) (here st.kept.places)))
+        (call_meant code begin rec sound h n standing out arguments (name_meant h name.name st.kept.places) from to st (subst (λ m. CalledAt code (site_of h) arguments m from to) (name_same h name.name st.kept.places) (here st.kept.places)))
     basic_reaches h n standing exits out marks leads m labels (Write place channel items) from to st here =
         goes_on_reaches code begin rec sound h n standing out exits to _ st.left _ (written_reaches code begin rec sound h n standing out channel items here.0 from here.1 to st here.2 here.3 here.4)
     basic_reaches h n standing exits out marks leads m labels (SendError place group_at group number_at number) from to st here =

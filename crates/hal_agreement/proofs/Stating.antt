@@ -22,11 +22,11 @@ use Rattle.hal_meaning.specs.Elements.{chosen, offset}
 use Rattle.hal_meaning.specs.Marks.{after_statement, handling_in}
 use Rattle.hal_meaning.specs.States.{State, Evaluated, Gives, Asks, Caught, Restarts, Lost, bind, Flow, Normal, Leaves, Repeats, Returned}
 use Rattle.hal_meaning.specs.Bodies.{Body}
-use Rattle.hal_meaning.specs.Calls.{returned_by, call}
+use Rattle.hal_meaning.specs.Calls.{inputs_of, returned_by, call}
 use Rattle.hal_meaning.specs.Sets.{body_at}
 use Rattle.hal_meaning.specs.Access.{Here, raise, turn, store, request_made}
 use Rattle.hal_meaning.specs.Variables.{Meant, MeantData, MeantConstant, MeantEvent, MeantBlock, MeantBuiltin, MeantNothing, name_meant, kind_of_first}
-use Rattle.hal_meaning.specs.Expressions.{Located, expression, values, chosen_data, data_chosen, meant_chosen, literal_value}
+use Rattle.hal_meaning.specs.Expressions.{Located, inputs_at, expression, values, passed, chosen_data, data_chosen, meant_chosen, literal_value}
 use Rattle.hal_meaning.specs.Statements.{goes_on, returned_in, called, received_by, is_array_named, received, all_received, channel_of, line_fitting, written, is_meant, group_left, After, NextTurn, Ended, after_turn, goes_round, turn_made, turn_if, guard_holds, first_holds, label_name, looping, goes_behind, one_of, statement, basic_statement, otherwise, grouped, statements}
 use Rattle.hal_meaning.specs.Tasks.{Looping, Meaning, Tested, Resuming, Cycling}
 use Rattle.hal_code.specs.declared.choice.Choice.TheVariants as choice
@@ -42,10 +42,11 @@ use Rattle.hal_agreement.specs.PlacedExpressions.{Has, One, AddressAt, Expressio
 use Rattle.hal_agreement.specs.PlacedStatements.{Opened, opened, exit_of, again_of, Leaving, ToFinish, ByResult, NoReturn, Exits, within_group, of_block, KeptAt, ReceiverAt, ReceiversAt, ChannelAt, ItemsAt, ConditionAt, FirstTestAt, TestAt, ReturnAt, ResultBy, ResultAt, CalledAt, StatementAt, BasicAt, AlternativeAt, GroupAt, StatementsAt}
 use Rattle.hal_agreement.proofs.Leading.{Leads, stays, through, acts_to}
 use Rattle.hal_agreement.proofs.Reaching.{Nest, behind, setting, core_at, Arrives, Holds, Reaches, OnStep, before, bind_reaches, bind_on, asks_reaches, acts}
-use Rattle.hal_agreement.proofs.Calling.{procedure_reaches}
+use Rattle.hal_agreement.proofs.Calling.{args_step, on_step, inputs_same, call_reaches}
 use Rattle.hal_agreement.proofs.Knowing.{going_to, Out, flow_to, Marks, Leads_out, Sound}
 use Rattle.hal_agreement.proofs.Raising.{Standing, bind_bind, asks_then, raised_reaches, store_reaches, turned_reaches}
-use Rattle.hal_agreement.proofs.Expressing.{name_same, address_reaches, expression_reaches}
+use Rattle.hal_agreement.proofs.Expressing.{name_same, expression_reaches, passed_reaches}
+use Rattle.hal_agreement.proofs.Viewing.{address_reaches}
 
 -- what a unit returns, as its type has it
 abbrev result_in : Option Body → Value → Value
@@ -126,7 +127,7 @@ module _ (code : Code) (begin : ℕ) (rec : Meaning) (sound : Sound code begin r
       → DoneAt to under [] (Moves (core_at from (Val v ∷ under) [] n st)) st.left
       (bind (meant_chosen (λ at shape before. data_chosen rec h path Unsubscripted at shape before) m st) (λ l after. received_by rec h l (is_array_named path m) Unsubscripted v after))
   received_as path (MeantData at shape) v from to under st here =
-      address_reaches code begin rec sound h n standing _ (kind_of_first (chosen path shape.components)) (further (offset path shape.components) at) from (Val v ∷ under) [] st _ here.0
+      address_reaches code begin h n _ (kind_of_first (chosen path shape.components)) (further (offset path shape.components) at) from (Val v ∷ under) [] st _ here.0
       (final (λ end done after. Some (Moves (core_at end under [] n after))) instr.Keep (suc from) to (At (further (offset path shape.components) at) (kind_of_first (chosen path shape.components)) ∷ Val v ∷ under) [] st _ here.1
       (received_flag (is_array_named path (MeantData at shape)) (record { at = further (offset path shape.components) at; kind = kind_of_first (chosen path shape.components) }) v (suc (suc from)) under st))
   received_as path (MeantConstant w) v from to under st here = absurd here
@@ -347,12 +348,20 @@ module _ (code : Code) (begin : ℕ) (rec : Meaning) (sound : Sound code begin r
       (λ w later. returned_holds late w later exits to (out (Some w) later) refl (leads.with_value w late later same has)))
 
   -- CALL of what a name means
-  pub call_meant : (m : Meant) (from to : ℕ) (st : State) → CalledAt code h.set m from to → DoneAt to [] [] (Begins from st) st.left (called rec h m NoExpressions [] st)
-  call_meant (MeantBlock unit) from to st here =
-      bind_reaches (setting code begin h) n (λ (v : Value) after. Begins to after) _ _ st.left (call rec h unit [] [] st) (λ result after. Gives tt after) (procedure_reaches code begin rec sound h n standing unit from to st here)
-      (λ v after. record { holds = stays (setting code begin h) _ after.left })
-  call_meant (MeantData at shape) from to st here = absurd here
-  call_meant (MeantConstant w) from to st here = absurd here
-  call_meant (MeantEvent e) from to st here = absurd here
-  call_meant (MeantBuiltin b) from to st here = absurd here
-  call_meant MeantNothing from to st here = absurd here
+  pub call_meant : (arguments : Expressions) (m : Meant) (from to : ℕ) (st : State) → CalledAt code (site_of h) arguments m from to → DoneAt to [] [] (Begins from st) st.left (called rec h m arguments [] st)
+  call_meant arguments (MeantBlock unit) from to st here =
+      bind_on (setting code begin h) n (λ ps after. args_step code begin rec sound h n standing (inputs_at h.set unit) ps [] here.0 [] after) _ _ st.left (passed rec h unit (inputs_at h.set unit) arguments st)
+      (λ ps after. bind (call rec h unit ps [] after) (λ result later. Gives tt later)) (passed_reaches code begin rec sound h n standing unit (inputs_at h.set unit) arguments from here.0 [] [] st here.1)
+      (λ ps after. subst (λ names. OnStep (args_step code begin rec sound h n standing names ps [] here.0 [] after) (λ x. DoneAt to [] [] x after.left (bind (call rec h unit ps [] after) (λ result later. Gives tt later))))
+      (sym (inputs_same code begin rec sound h n standing unit false here.0 to here.2))
+      (on_step code begin rec sound h n standing (args_step code begin rec sound h n standing (inputs_of here.2.body.head) ps [] here.0 [] after)
+      (λ x. Reaches (setting code begin h) n (λ (v : Value) later. Some (Begins to later)) x after.left (call rec h unit ps [] after))
+      (λ x. DoneAt to [] [] x after.left (bind (call rec h unit ps [] after) (λ result later. Gives tt later)))
+      (call_reaches code begin rec sound h n standing unit false ps here.0 to [] [] after here.2)
+      (λ x is. bind_reaches (setting code begin h) n (λ (v : Value) later. Begins to later) _ x after.left (call rec h unit ps [] after) (λ result later. Gives tt later) is
+      (λ v later. record { holds = stays (setting code begin h) _ later.left }))))
+  call_meant arguments (MeantData at shape) from to st here = absurd here
+  call_meant arguments (MeantConstant w) from to st here = absurd here
+  call_meant arguments (MeantEvent e) from to st here = absurd here
+  call_meant arguments (MeantBuiltin b) from to st here = absurd here
+  call_meant arguments MeantNothing from to st here = absurd here

@@ -13,13 +13,14 @@ use Rattle.hal_constants.specs.Naming.{operation_of}
 use Rattle.hal_values.specs.declared.value.Kind.{Kind}
 use Rattle.hal_values.specs.declared.value.Value.{Value}
 use Rattle.hal_values.specs.declared.value.Value.TheVariants as value
-use Rattle.hal_states.specs.Spots.{Spot, Held, further}
+use Rattle.hal_states.specs.Spots.{Spot, Own, Held, further}
 use Rattle.hal_meaning.specs.Bodies.{Body}
-use Rattle.hal_meaning.specs.Calls.{inputs_of, outputs_of, is_function}
-use Rattle.hal_meaning.specs.Sets.{Set, body_at}
+use Rattle.hal_meaning.specs.Calls.{parameter_named, inputs_of, outputs_of, is_function}
+use Rattle.hal_meaning.specs.ReportNames.{first_place}
+use Rattle.hal_meaning.specs.Sets.{body_at}
 use Rattle.hal_meaning.specs.Elements.{Shape, chosen, offset}
-use Rattle.hal_meaning.specs.Variables.{Meant, MeantData, MeantConstant, MeantEvent, MeantBlock, MeantBuiltin, MeantNothing, name_meant, kind_of_first}
-use Rattle.hal_meaning.specs.Expressions.{literal_value, is_condition, are_conditions, becomes_condition, exponent_of, operation_of_relation, operation_of_sign, operation_of_conversion, is_size}
+use Rattle.hal_meaning.specs.Variables.{Meant, MeantData, MeantConstant, MeantEvent, MeantBlock, MeantBuiltin, MeantNothing, name_meant, kind_of_first, is_whole}
+use Rattle.hal_meaning.specs.Expressions.{literal_value, is_condition, are_conditions, becomes_condition, exponent_of, operation_of_relation, operation_of_sign, operation_of_conversion, is_size, inputs_at}
 use Rattle.hal_code.specs.declared.choice.Choice.TheVariants as choice
 use Rattle.hal_code.specs.declared.instr.Instr.{Instr}
 use Rattle.hal_code.specs.declared.instr.Instr.TheVariants as instr
@@ -69,32 +70,42 @@ AloneAt code builtin.Errnum from to = One code from instr.ErrNum to
 AloneAt code builtin.Runtime from to = One code from instr.Now to
 AloneAt code other from to = ⊥
 
--- CALL of the unit with this number, which has no parameters and gives a value or none
-pub record CallAt (code : Code) (s : Set) (unit : ℕ) (function : Bool) (from to : ℕ) : Type 0 where
+-- input parameters are stored from the last to the first, each from the value on the stack: CELL and KEEP
+abbrev pub ParametersAt : Code → Site → ℕ → List Naming → ℕ → ℕ → Type 0
+ParametersAt code site unit [] from to = from ≡ to
+ParametersAt code site unit (name ∷ names) from to =
+    (middle : ℕ) × ParametersAt code site unit names from middle
+    × ((held : List Held) → AddressAt code held (kind_of_first (parameter_named site.set unit name).shape.components) (Own (first_place site.places (parameter_named site.set unit name).number)) middle)
+    × One code (suc middle) instr.Keep to
+
+-- CALL of the unit with this number, behind its arguments: its input parameters are stored, and then it is called. It has no ASSIGN parameters, and
+-- gives a value or none
+pub record CallAt (code : Code) (site : Site) (unit : ℕ) (function : Bool) (from to : ℕ) : Type 0 where
   pub number : ℕ
   pub body : Body
   pub row : Block
   pub named : code.block unit ≡ Some number
-  pub found : body_at s unit ≡ Some body
+  pub found : body_at site.set unit ≡ Some body
   pub block : slice_get code.image.blocks number ≡ Some row
   pub gives : is_function body.head ≡ function
-  pub inputs : inputs_of body.head ≡ []
   pub outputs : outputs_of body.head ≡ []
-  pub call : One code from (instr.Call number) to
+  pub middle : ℕ
+  pub parameters : ParametersAt code site body.number (inputs_of body.head) from middle
+  pub call : One code middle (instr.Call number) to
 
--- the value of what a name means, without subscripts; of calls only those without arguments are placed yet
-abbrev pub ValueAt : Code → Set → List Naming → List Held → Meant → ℕ → ℕ → Type 0
-ValueAt code s path held (MeantData at shape) from to =
+-- the value of what a name means, without subscripts; of calls only those without ASSIGN arguments are placed yet
+abbrev pub ValueAt : Code → Site → List Naming → List Held → Meant → ℕ → ℕ → Type 0
+ValueAt code site path held (MeantData at shape) from to =
     AddressAt code held (kind_of_first (chosen path shape.components)) (further (offset path shape.components) at) from × One code (suc from) instr.Fetch to
-ValueAt code s path held (MeantConstant v) from to = One code from (pushes v) to
-ValueAt code s path held (MeantEvent e) from to = One code from (instr.Event e) to
-ValueAt code s path held (MeantBlock unit) from to = CallAt code s unit true from to
-ValueAt code s path held (MeantBuiltin b) from to = AloneAt code b from to
-ValueAt code s path held MeantNothing from to = ⊥
+ValueAt code site path held (MeantConstant v) from to = One code from (pushes v) to
+ValueAt code site path held (MeantEvent e) from to = One code from (instr.Event e) to
+ValueAt code site path held (MeantBlock unit) from to = (inputs_at site.set unit ≡ []) × CallAt code site unit true from to
+ValueAt code site path held (MeantBuiltin b) from to = AloneAt code b from to
+ValueAt code site path held MeantNothing from to = ⊥
 
 -- the same of a name, whatever the own places hold
 abbrev pub NameAt : Code → Site → List ℕ → List Naming → ℕ → ℕ → Type 0
-NameAt code site name path from to = (held : List Held) → ValueAt code site.set path held (name_meant (here_at site) name held) from to
+NameAt code site name path from to = (held : List Held) → ValueAt code site path held (name_meant (here_at site) name held) from to
 
 -- a reference; those with subscripts aren't placed yet
 abbrev pub ReferenceAt : Code → Site → Reference → ℕ → ℕ → Type 0
@@ -111,14 +122,14 @@ abbrev pub stay : Bool → Expressions → Bool
 stay condition NoExpressions = true
 stay condition (MoreExpressions first others) = not (becomes_condition condition first) && stay condition others
 
--- a name with a list, of which the code is given as the operands of a product and as those of a built-in function: it is the product of a value and a parenthesis,
--- or the function; SIZE and calls aren't placed yet
-abbrev pub CalledAt : Code → Set → List Held → (ℕ → ℕ → Type 0) → (Operation → ℕ → ℕ → Type 0) → Meant → ℕ → ℕ → Type 0
-CalledAt code s held folded built (MeantBlock unit) from to = ⊥
-CalledAt code s held folded built (MeantBuiltin b) from to = (is_size b ≡ false) × built (operation_of b) from to
-CalledAt code s held folded built (MeantData at shape) from to = (middle : ℕ) × ValueAt code s [] held (MeantData at shape) from middle × folded middle to
-CalledAt code s held folded built (MeantConstant v) from to = (middle : ℕ) × ValueAt code s [] held (MeantConstant v) from middle × folded middle to
-CalledAt code s held folded built other from to = ⊥
+-- a name with a list, of which the code is given as the operands of a product, as those of a built-in function, and as the arguments of a call: it is the product of
+-- a value and a parenthesis, or the function, or the call; SIZE isn't placed yet
+abbrev pub CalledAt : Code → Site → List Held → (ℕ → ℕ → Type 0) → (Operation → ℕ → ℕ → Type 0) → (ℕ → ℕ → ℕ → Type 0) → Meant → ℕ → ℕ → Type 0
+CalledAt code site held folded built arguments (MeantBlock unit) from to = (middle : ℕ) × arguments unit from middle × CallAt code site unit true middle to
+CalledAt code site held folded built arguments (MeantBuiltin b) from to = (is_size b ≡ false) × built (operation_of b) from to
+CalledAt code site held folded built arguments (MeantData at shape) from to = (middle : ℕ) × ValueAt code site [] held (MeantData at shape) from middle × folded middle to
+CalledAt code site held folded built arguments (MeantConstant v) from to = (middle : ℕ) × ValueAt code site [] held (MeantConstant v) from middle × folded middle to
+CalledAt code site held folded built arguments other from to = ⊥
 
 abbrev mutual
   -- an expression leaves its value on the stack
@@ -141,7 +152,8 @@ abbrev mutual
   ExpressionAt code site (Referred reference) from to = ReferenceAt code site reference from to
   ExpressionAt code site (Called place name arguments) from to =
       (held : List Held)
-      → CalledAt code site.set held (λ middle end. FoldedAt code site op2.Product arguments middle end) (λ op begin end. BuiltAt code site op arguments begin end) (name_meant (here_at site) name held) from to
+      → CalledAt code site held (λ middle end. FoldedAt code site op2.Product arguments middle end) (λ op begin end. BuiltAt code site op arguments begin end)
+      (λ unit begin end. ArgumentsAt code site unit (inputs_at site.set unit) arguments begin end) (name_meant (here_at site) name held) from to
   ExpressionAt code site (Convert place conversion operand) from to =
       (middle : ℕ) × ExpressionAt code site operand from middle × One code middle (instr.Op1 (choice.Known (operation_of_conversion conversion))) to
   ExpressionAt code site (Parenthesis place inner) from to = ExpressionAt code site inner from to
@@ -165,3 +177,10 @@ abbrev mutual
   BuiltAt code site (operation.Two op) (MoreExpressions left (MoreExpressions right NoExpressions)) from to =
       (middle : ℕ) × (last : ℕ) × ExpressionAt code site left from middle × ExpressionAt code site right middle last × One code last (two op) to
   BuiltAt code site other arguments from to = ⊥
+
+  -- arguments for input parameters of one element each, from left to right
+  pub ArgumentsAt : Code → Site → ℕ → List Naming → Expressions → ℕ → ℕ → Type 0
+  ArgumentsAt code site unit [] NoExpressions from to = from ≡ to
+  ArgumentsAt code site unit (name ∷ names) (MoreExpressions first others) from to =
+      (middle : ℕ) × (is_whole (parameter_named site.set unit name).shape ≡ false) × ExpressionAt code site first from middle × ArgumentsAt code site unit names others middle to
+  ArgumentsAt code site unit names arguments from to = ⊥

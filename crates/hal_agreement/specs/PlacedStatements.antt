@@ -9,7 +9,8 @@ use Rattle.hal_grammar.specs.Units.{Head, Function, HasKind}
 use Rattle.hal_operations.specs.declared.operation.Op1.TheVariants as op1
 use Rattle.hal_states.specs.Spots.{Held, further}
 use Rattle.hal_meaning.specs.Bodies.{Body}
-use Rattle.hal_meaning.specs.Sets.{Set, body_at}
+use Rattle.hal_meaning.specs.Sets.{body_at}
+use Rattle.hal_meaning.specs.Expressions.{inputs_at}
 use Rattle.hal_meaning.specs.Elements.{chosen, offset}
 use Rattle.hal_meaning.specs.Marks.{after_statement, handling_in}
 use Rattle.hal_meaning.specs.RealTime.{side_of}
@@ -26,7 +27,7 @@ use Rattle.hal_code.specs.Controlling as machine
 use Rattle.hal_code.specs.declared.instr.Instr.TheVariants as instr
 use Rattle.hal_agreement.specs.Codes.{Code}
 use Rattle.hal_agreement.specs.Sites.{Site, here_at}
-use Rattle.hal_agreement.specs.PlacedExpressions.{Has, One, AddressAt, CallAt, ExpressionAt}
+use Rattle.hal_agreement.specs.PlacedExpressions.{Has, One, AddressAt, CallAt, ExpressionAt, ArgumentsAt}
 
 -- a group that is open where a statement stands: its labels, where EXIT leads, and where REPEAT does, of a loop
 pub record Opened : Type 0 where
@@ -128,10 +129,10 @@ abbrev pub ResultAt : Code → Option Body → ℕ → ℕ → Type 0
 ResultAt code None from to = from ≡ to
 ResultAt code (Some b) from to = ResultBy code b.head from to
 
--- CALL of a PROCEDURE without parameters
-abbrev pub CalledAt : Code → Set → Meant → ℕ → ℕ → Type 0
-CalledAt code s (MeantBlock unit) from to = CallAt code s unit false from to
-CalledAt code s other from to = ⊥
+-- CALL of a PROCEDURE without ASSIGN arguments
+abbrev pub CalledAt : Code → Site → Expressions → Meant → ℕ → ℕ → Type 0
+CalledAt code site arguments (MeantBlock unit) from to = (middle : ℕ) × ArgumentsAt code site unit (inputs_at site.set unit) arguments from middle × CallAt code site unit false middle to
+CalledAt code site arguments other from to = ⊥
 
 -- the instruction that sets an entry for errors
 abbrev pub sets : ℕ → ℕ → Response → EventChange → ℕ → ℕ → Instr
@@ -166,7 +167,7 @@ abbrev mutual
   BasicAt code site exits m labels (Return place None) from to = ReturnAt code exits.leaving from to
   BasicAt code site exits m labels (Return place (Some tree)) from to =
       (middle : ℕ) × (late : ℕ) × ExpressionAt code site tree from middle × ResultAt code (body_at site.set site.unit) middle late × (exits.leaving ≡ ByResult) × One code late instr.Return to
-  BasicAt code site exits m labels (Call place name NoExpressions []) from to = (held : List Held) → CalledAt code site.set (name_meant (here_at site) name.name held) from to
+  BasicAt code site exits m labels (Call place name arguments []) from to = (held : List Held) → CalledAt code site arguments (name_meant (here_at site) name.name held) from to
   BasicAt code site exits m labels (Write place channel items) from to =
       (number : ℕ) × (last : ℕ) × ChannelAt channel number × ItemsAt code site items from last × One code last (instr.Print number) to
   BasicAt code site exits m labels (SendError place group_at group number_at number) from to = One code from (instr.Raise group number) to
