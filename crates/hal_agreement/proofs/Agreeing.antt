@@ -1,6 +1,7 @@
 -- An image that stands for a set asks what the set asks.
 use Rattle.std.specs.Prelude.{◌≡◌, ℕ, ◌≤◌, ◌<◌, ◌++◌, length, map, List, [], ◌∷◌, Option, Some, None}
 use Rattle.std.proofs.Common.{refl, sym, ap, subst, ◌∙◌, arith}
+use Rattle.std.proofs.lemmas.Bool.{lt-ltb}
 use Rattle.std.proofs.lemmas.List.{length-map}
 use Rattle.hal_grammar.specs.Units.{File}
 use Rattle.hal_phrases.specs.GatheredUnits.{phrases_of}
@@ -54,8 +55,8 @@ posed s n step left (Restarts k rest) is holds = absurd is
 posed s n step left Lost is holds = absurd is
 
 -- a process stands alone at its beginning
-alone : (s : Set) (code : Code) (p : ℕ) (body : Body) (spot : ℕ → ℕ) → UnitsAt code s (places_of_process s p) → Standing code (here_in s p (places_of_process s p) body) (nest [] (λ level. spot) 0)
-alone s code p body spot units = record { units = units; entered = λ es. refl; unleft = refl }
+alone : (s : Set) (code : Code) (p : ℕ) (body : Body) (spot : ℕ → ℕ) → UnitsAt code s (places_of_process s p) → p < process_count s.tables → Standing code (here_in s p (places_of_process s p) body) (nest [] (λ level. spot) 0)
+alone s code p body spot units exists = record { units = units; process = lt-ltb p (process_count s.tables) exists; entered = λ es. refl; unleft = refl }
 
 module _ (s : Set) (image : ImageParts) (placed : IsPlaced s image) (stated_few : length s.stated ≤ length s.tables.expressions) (p : ℕ) (exists : p < process_count s.tables) where
   -- the code of a process
@@ -72,7 +73,7 @@ module _ (s : Set) (image : ImageParts) (placed : IsPlaced s image) (stated_few 
   poses one answers =
       posed (setting (code_of one) (first_of image p) (here_in s p (places_of_process s p) one.body)) (nest [] (λ level. one.spot) 1) _ answers (course_of s p (places_of_process s p) one.body answers)
       (process_asks (here_in s p (places_of_process s p) one.body) exists stated_few answered.Killed (first_kept (places_of_process s p)) answers)
-      ((task_knows (code_of one) (first_of image p) (tasks s.turns answers) (tasks_known (code_of one) (first_of image p) s.turns answers)).cycles (here_in s p (places_of_process s p) one.body) (λ level. one.spot) (alone s (code_of one) p one.body one.spot one.units) one.plain refl one.code
+      ((task_knows (code_of one) (first_of image p) (tasks s.turns answers) (tasks_known (code_of one) (first_of image p) s.turns answers)).cycles (here_in s p (places_of_process s p) one.body) (λ level. one.spot) (alone s (code_of one) p one.body one.spot one.units exists) one.plain refl one.code
       (first_kept (places_of_process s p)) answers).holds
 
   settings_same : (one : IsPlacedProcess s image p) → setting (code_of one) (first_of image p) (here_in s p (places_of_process s p) one.body) ≡ setting_of s.turns image p

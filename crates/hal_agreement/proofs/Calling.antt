@@ -76,6 +76,7 @@ module _ (code : Code) (begin : ℕ) (rec : Meaning) (sound : Sound code begin r
     stands_inside : Standing code (entering h st.entries b) inner
     stands_inside = record {
       units = standing.units;
+      process = standing.process;
       entered = λ es. ap (λ rest. entered (coded_entries handler es) false ∷ rest) (standing.entered st.entries ∙ sym (coded_above handler n.spot 0 (tree.all_entered h st.entries)));
       unleft = refl;
     }

@@ -9,6 +9,7 @@ pub mod Calling
 pub mod Expressing
 pub mod Stating
 pub mod Entering
+pub mod Asking
 pub mod Settling
 pub mod Statements
 pub mod Tasking

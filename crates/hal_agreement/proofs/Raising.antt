@@ -15,7 +15,7 @@ use Rattle.hal_values.specs.declared.value.Value.TheVariants as value
 use Rattle.hal_values.specs.Answers.{Answered, error}
 use Rattle.hal_values.specs.Answers as answered
 use Rattle.hal_values.specs.Searching.{Found, BySystem, Ignored, ByStatement, search}
-use Rattle.hal_values.specs.Tables.{event_count}
+use Rattle.hal_values.specs.Tables.{event_count, process_count}
 use Rattle.hal_operations.specs.Stores.{stored, mended_store}
 use Rattle.hal_states.specs.Spots.{Spot, Shared, Own, Nowhere, Kept, kept}
 use Rattle.hal_states.specs.OfKinds.{of_kind, told}
@@ -38,6 +38,7 @@ use Rattle.hal_agreement.proofs.Searching.{coded_found, coded_blocks, search_cod
 -- the machine's blocks are those of the tree, and an error may meet a statement of the running one; the units that may be called stand in the code
 pub record Standing (code : Code) (h : Here) (n : Nest) : Type 0 where
   pub units : UnitsAt code h.set h.places
+  pub process : nat_lt h.process (process_count h.set.tables) ≡ true
   pub entered : (es : List Entry) → all_entered (coded_entries (n.spot 0) es) n.frames ≡ coded_blocks n.spot 0 (tree.all_entered h es)
   pub unleft : n.least ≡ 0
 
@@ -89,7 +90,7 @@ module _ (code : Code) (begin : ℕ) (h : Here) (n : Nest) where
   stops_reaches fine e c (answered.Block snapshot turns ∷ left) =
       before (setting code begin h) n fine _ _ (Waits (request.Stop e) (Halts e) c) left (stops_from e c.kept c.mode left) (heard (setting code begin h) (request.Stop e) (Halts e) c (answered.Block snapshot turns) left) (stops_reaches fine e c left)
 
-  changed_by : {A : Type 0} (fine : A → State → Option Step) (b : Bool) (r : Request) (w : Wait) (otherwise : Step) (at : ℕ) (stack : List Operand) (line : List ℕ) (st : State) (go : Unit {0} → State → Evaluated A)
+  pub changed_by : {A : Type 0} (fine : A → State → Option Step) (b : Bool) (r : Request) (w : Wait) (otherwise : Step) (at : ℕ) (stack : List Operand) (line : List ℕ) (st : State) (go : Unit {0} → State → Evaluated A)
       → Reaches (setting code begin h) n fine otherwise st.left (go tt st)
       → ((a : Answered) (rest : List Answered) → Reaches (setting code begin h) n fine (given (setting code begin h) w a (core_at at stack line n st)) rest (go tt (state st.kept st.entries st.mode rest)))
       → Reaches (setting code begin h) n fine (if b then Waits r w (core_at at stack line n st) else otherwise) st.left (bind (if b then tree.request_made r st else Gives tt st) go)

@@ -65,6 +65,7 @@ updated n st handler = nest (around n st ∷ n.frames) (above handler n.spot) 0
 pub stands_above : (code : Code) (h : Here) (n : Nest) (body : Statements) (first : ℕ) (st : State) (handler : ℕ → ℕ) → Standing code h n → Standing code (updating body first st.entries h) (updated n st handler)
 stands_above code h n body first st handler standing = record {
   units = standing.units;
+  process = standing.process;
   entered = λ es. ap (λ rest. entered (coded_entries handler es) true ∷ rest) (standing.entered st.entries ∙ sym (coded_above handler n.spot 0 (tree.all_entered h st.entries)));
   unleft = refl;
 }

@@ -3,12 +3,14 @@ use Rattle.std.specs.Prelude.{◌≡◌, ℕ, suc, List, [], ◌∷◌, Some, No
 use Rattle.std.proofs.Common.{refl, subst}
 use Rattle.hal_grammar.specs.Leaves.{Naming}
 use Rattle.hal_grammar.specs.Statements.{Statement, Labelled, Basic, Null, Assignment, If, Do, DoCase, DoLoop, DoFor, Exit, Repeat, Return, Call, Read, Write, Update, Scheduled, Cancel, Terminate, Wait, WaitUntil, WaitForDependent, WaitFor, Event, UpdatePriority, OnErrorStatement, OnErrorResponse, OffError, SendError, Alternative, NoAlternative, Otherwise, Group, Groups, Statements, NoStatements, MoreStatements}
+use Rattle.hal_values.specs.declared.plan.Pause.TheVariants as pause
 use Rattle.hal_values.specs.declared.request.Request.TheVariants as request
 use Rattle.hal_values.specs.Answers.{error}
 use Rattle.hal_states.specs.Numbers.{holds}
 use Rattle.hal_meaning.specs.Marks.{after_statement}
-use Rattle.hal_meaning.specs.States.{State, state, Gives, Normal, Leaves, Repeats}
-use Rattle.hal_meaning.specs.Access.{Here, updating}
+use Rattle.hal_meaning.specs.States.{State, state, Gives, bind, Normal, Leaves, Repeats}
+use Rattle.hal_meaning.specs.Access.{Here, updating, request_made}
+use Rattle.hal_meaning.specs.RealTime.{time, stated_at_mark}
 use Rattle.hal_meaning.specs.Expressions.{expression}
 use Rattle.hal_meaning.specs.Variables.{name_meant}
 use Rattle.hal_meaning.specs.Statements.{all_received, written, group_left, turn_if, label_name, looping, goes_on, goes_behind, one_of, statement, basic_statement, otherwise, grouped, settled, update_left, update_groups, entered_update, statements}
@@ -21,9 +23,10 @@ use Rattle.hal_agreement.specs.PlacedStatements.{opened, exit_of, again_of, NoRe
 use Rattle.hal_agreement.proofs.Expressing.{name_same}
 use Rattle.hal_agreement.proofs.Knowing.{Out, flow_to, Marks, Leads_out, Sound}
 use Rattle.hal_agreement.proofs.Handling.{each_handled}
+use Rattle.hal_agreement.proofs.Asking.{read_stated, event_reaches, named_or_own_reaches, for_reaches, till_reaches, dependents_reaches, waited_reaches}
 use Rattle.hal_agreement.proofs.Entering.{handler_leads, response_leads, off_leads}
 use Rattle.hal_agreement.proofs.Reaching.{Nest, setting, core_at, bind_on, acts}
-use Rattle.hal_agreement.proofs.Raising.{Standing, asks_then, raised_reaches}
+use Rattle.hal_agreement.proofs.Raising.{Standing, bind_bind, asks_then, raised_reaches}
 use Rattle.hal_agreement.proofs.Settling.{around, updated, stands_above, update_plain, settled_holds, updated_holds, update_ends}
 use Rattle.hal_agreement.proofs.Stating.{FlowsAt, Begins, still, normal, goes_on_reaches, final, valued, all_received_reaches, written_reaches, condition_reaches, first_test_reaches, turn_reaches, group_reaches, behind_reaches, exit_reaches, returned_reaches, call_meant, either_reaches, over_reaches}
 
@@ -65,6 +68,26 @@ module _ (code : Code) (begin : ℕ) (rec : Meaning) (sound : Sound code begin r
     basic_reaches h n standing exits out marks leads m labels (Call place name arguments []) from to st here =
         goes_on_reaches code begin rec sound h n standing out exits to _ st.left _
         (call_meant code begin rec sound h n standing out arguments (name_meant h name.name st.kept.places) from to st (subst (λ m. CalledAt code (site_of h) arguments m from to) (name_same h name.name st.kept.places) (here st.kept.places)))
+    basic_reaches h n standing exits out marks leads m labels (Read place channel receivers) from to st here =
+        read_stated code begin rec sound h n standing out exits channel receivers here.0 from to st here.1 here.2
+    basic_reaches h n standing exits out marks leads m labels (Event e) from to st here =
+        goes_on_reaches code begin rec sound h n standing out exits to _ st.left _ (event_reaches code begin rec sound h n standing out e.action _ from to st here)
+    basic_reaches h n standing exits out marks leads m labels (Cancel place names) from to st here =
+        goes_on_reaches code begin rec sound h n standing out exits to _ st.left _ (named_or_own_reaches code begin rec sound h n standing out request.Cancel instr.Cancel (λ number at now. refl) names from to st here)
+    basic_reaches h n standing exits out marks leads m labels (Terminate place names) from to st here =
+        goes_on_reaches code begin rec sound h n standing out exits to _ st.left _ (named_or_own_reaches code begin rec sound h n standing out request.Terminate instr.Terminate (λ number at now. refl) names from to st here)
+    basic_reaches h n standing exits out marks leads m labels (Wait place tree) from to st here =
+        subst (λ r. FlowsAt code begin rec sound h n standing out exits to (Begins code begin rec sound h n standing out from st) st.left r)
+        (bind_bind (time rec h tree st) (λ t after. request_made (request.Wait (pause.For t)) after) (λ nothing after. Gives Normal after))
+        (goes_on_reaches code begin rec sound h n standing out exits to _ st.left _ (for_reaches code begin rec sound h n standing out tree from to st here))
+    basic_reaches h n standing exits out marks leads m labels (WaitUntil place tree) from to st here =
+        subst (λ r. FlowsAt code begin rec sound h n standing out exits to (Begins code begin rec sound h n standing out from st) st.left r)
+        (bind_bind (time rec h tree st) (λ t after. request_made (request.Wait (pause.Till t)) after) (λ nothing after. Gives Normal after))
+        (goes_on_reaches code begin rec sound h n standing out exits to _ st.left _ (till_reaches code begin rec sound h n standing out tree from to st here))
+    basic_reaches h n standing exits out marks leads m labels (WaitForDependent place) from to st here =
+        goes_on_reaches code begin rec sound h n standing out exits to _ st.left _ (dependents_reaches code begin rec sound h n standing out from to st here)
+    basic_reaches h n standing exits out marks leads m labels (WaitFor place tree) from to st here =
+        goes_on_reaches code begin rec sound h n standing out exits to _ st.left _ (waited_reaches code begin rec sound h n standing out (stated_at_mark h m) from to st here)
     basic_reaches h n standing exits out marks leads m labels (Write place channel items) from to st here =
         goes_on_reaches code begin rec sound h n standing out exits to _ st.left _ (written_reaches code begin rec sound h n standing out channel items here.0 from here.1 to st here.2 here.3 here.4)
     basic_reaches h n standing exits out marks leads m labels (SendError place group_at group number_at number) from to st here =

@@ -136,7 +136,7 @@ module _ (code : Code) (begin : ℕ) (rec : Meaning) (sound : Sound code begin r
   received_as path (MeantBuiltin b) v from to under st here = absurd here
   received_as path MeantNothing v from to under st here = absurd here
 
-  received_reaches : (reference : Reference) (v : Value) (from to : ℕ) (under : List Operand) (st : State) → ReceiverAt code (site_of h) reference from to
+  pub received_reaches : (reference : Reference) (v : Value) (from to : ℕ) (under : List Operand) (st : State) → ReceiverAt code (site_of h) reference from to
       → DoneAt to under [] (Moves (core_at from (Val v ∷ under) [] n st)) st.left (received rec h v reference st)
   received_reaches (Refers place name path Unsubscripted) v from to under st here =
       received_as path (name_meant h name st.kept.places) v from to under st (subst (λ m. KeptAt code path st.kept.places m from to) (name_same h name st.kept.places) (here st.kept.places))

@@ -1,28 +1,35 @@
 -- Where the code of statements stands: from an instruction to the one at which control goes on.
-use Rattle.std.specs.Prelude.{◌≡◌, ℕ, zero, suc, Bool, true, false, List, [], ◌∷◌, pos, Option, Some, None, if◌then◌else◌}
+use Rattle.std.specs.Prelude.{◌≡◌, ℕ, zero, suc, ◌==◌, nat_lt, length, Bool, true, false, List, [], ◌∷◌, pos, Option, Some, None, if◌then◌else◌}
 use Rattle.hal_grammar.specs.Leaves.{Naming, Integer}
-use Rattle.hal_grammar.specs.Expressions.{Expression, Literal, Expressions, NoExpressions, MoreExpressions, Reference, Refers, Unsubscripted}
+use Rattle.hal_grammar.specs.Expressions.{Expression, Literal, Decimal, Expressions, NoExpressions, MoreExpressions, Reference, Refers, Unsubscripted}
 use Rattle.hal_grammar.specs.Statements as statements
-use Rattle.hal_grammar.specs.Statements.{Guard, While, Until, Selector, System, Ignore, Statement, Labelled, Basic, Null, Assignment, If, Do, DoLoop, Exit, Repeat, Return, Call, Write, Update, OnErrorStatement, OnErrorResponse, OffError, SendError, Alternative, NoAlternative, Otherwise, Group, Groups, Statements, NoStatements, MoreStatements}
+use Rattle.hal_grammar.specs.Statements.{Guard, While, Until, Selector, System, Ignore, Statement, Labelled, Basic, Null, Assignment, If, Do, DoLoop, Exit, Repeat, Return, Call, Read, Write, EventAction, Signal, Set, Reset, Event, Cancel, Terminate, Wait, WaitUntil, WaitForDependent, WaitFor, Update, OnErrorStatement, OnErrorResponse, OffError, SendError, Alternative, NoAlternative, Otherwise, Group, Groups, Statements, NoStatements, MoreStatements}
 use Rattle.hal_grammar.specs.Declarations.{CharacterKind}
 use Rattle.hal_grammar.specs.Units.{Head, Function, HasKind}
 use Rattle.hal_operations.specs.declared.operation.Op1.TheVariants as op1
+use Rattle.hal_values.specs.declared.value.Kind.{Kind}
+use Rattle.hal_values.specs.Tables.{process_count}
 use Rattle.hal_states.specs.Spots.{Held, further}
 use Rattle.hal_meaning.specs.Bodies.{Body}
 use Rattle.hal_meaning.specs.Sets.{body_at}
 use Rattle.hal_meaning.specs.Expressions.{inputs_at}
 use Rattle.hal_meaning.specs.Elements.{chosen, offset}
 use Rattle.hal_meaning.specs.Marks.{after_statement, handling_in}
-use Rattle.hal_meaning.specs.RealTime.{side_of}
+use Rattle.hal_meaning.specs.Events.{event_named}
+use Rattle.hal_meaning.specs.RealTime.{side_of, process_named, stated_at_mark}
 use Rattle.hal_meaning.specs.Statements as tree
-use Rattle.hal_meaning.specs.Statements.{is_meant, label_name, update_groups}
+use Rattle.hal_meaning.specs.Statements.{is_meant, label_name, update_groups, kind_named}
 use Rattle.hal_meaning.specs.Variables.{Meant, MeantData, MeantBlock, name_meant, kind_of_first}
 use Rattle.hal_code.specs.declared.choice.Choice.TheVariants as choice
 use Rattle.hal_code.specs.declared.instr.Instr.{Instr}
+use Rattle.hal_code.specs.declared.operand.Delay.{Delay}
+use Rattle.hal_code.specs.declared.operand.Delay.TheVariants as delay
 use Rattle.hal_code.specs.declared.operand.EventChange.{EventChange}
 use Rattle.hal_code.specs.declared.operand.EventChange.TheVariants as change
 use Rattle.hal_code.specs.declared.operand.Response.{Response}
 use Rattle.hal_code.specs.declared.operand.Response.TheVariants as response
+use Rattle.hal_code.specs.declared.operand.Time.{Time}
+use Rattle.hal_code.specs.declared.operand.Time.TheVariants as time
 use Rattle.hal_code.specs.Controlling as machine
 use Rattle.hal_code.specs.declared.instr.Instr.TheVariants as instr
 use Rattle.hal_agreement.specs.Codes.{Code}
@@ -134,6 +141,45 @@ abbrev pub CalledAt : Code → Site → Expressions → Meant → ℕ → ℕ �
 CalledAt code site arguments (MeantBlock unit) from to = (middle : ℕ) × ArgumentsAt code site unit (inputs_at site.set unit) arguments from middle × CallAt code site unit false middle to
 CalledAt code site arguments other from to = ⊥
 
+-- receivers of READ: for each INPUT of its kind, behind which control goes to the next one where there is no datum, and its store
+abbrev pub ReadsAt : Code → Site → ℕ → List Reference → ℕ → ℕ → Type 0
+ReadsAt code site channel [] from to = from ≡ to
+ReadsAt code site channel (receiver ∷ receivers) from to =
+    (kind : Kind) × (next : ℕ) × ((held : List Held) → kind_named (here_at site) receiver held ≡ kind) × Has code from (instr.Input channel kind next) × ReceiverAt code site receiver (suc from) next
+    × ReadsAt code site channel receivers next to
+
+-- SIGNAL, SET and RESET
+abbrev pub changes : EventAction → ℕ → Instr
+changes Signal e = instr.Signal e
+changes Set e = instr.Set e
+changes Reset e = instr.Reset e
+
+-- a pause whose time is written as a decimal
+abbrev pub PauseAt : Code → (Time → Delay) → Expression → ℕ → ℕ → Type 0
+PauseAt code delays (Decimal place number) from to = One code from (instr.Wait (delays (time.Milliseconds number))) to
+PauseAt code delays other from to = ⊥
+
+-- an event expression of the set
+abbrev pub EventAt : Code → Site → List ℕ → ℕ → ℕ → Type 0
+EventAt code site [] from to = ⊥
+EventAt code site (x ∷ xs) from to = (nat_lt x (length site.set.tables.expressions) ≡ true) × One code from (instr.Wait (delay.Event x)) to
+
+-- a process that is named
+pub record NamedAt (site : Site) (name : Naming) (number : ℕ) : Type 0 where
+  pub process : process_named (here_at site) name ≡ number
+  pub other : (number == 255) ≡ false
+  pub there : nat_lt number (process_count site.set.tables) ≡ true
+
+-- the same instruction for each process that is named
+abbrev pub EachAt : Code → Site → (ℕ → Instr) → List Naming → ℕ → ℕ → Type 0
+EachAt code site asks [] from to = from ≡ to
+EachAt code site asks (name ∷ names) from to = (number : ℕ) × NamedAt site name number × Has code from (asks number) × EachAt code site asks names (suc from) to
+
+-- or for the process itself, where none is
+abbrev pub NamedOrOwnAt : Code → Site → (ℕ → Instr) → List Naming → ℕ → ℕ → Type 0
+NamedOrOwnAt code site asks [] from to = One code from (asks 255) to
+NamedOrOwnAt code site asks (name ∷ names) from to = EachAt code site asks (name ∷ names) from to
+
 -- the instruction that sets an entry for errors
 abbrev pub sets : ℕ → ℕ → Response → EventChange → ℕ → ℕ → Instr
 sets group number r change event target = instr.On group number (choice.Known r) (choice.Known change) event target
@@ -168,6 +214,14 @@ abbrev mutual
   BasicAt code site exits m labels (Return place (Some tree)) from to =
       (middle : ℕ) × (late : ℕ) × ExpressionAt code site tree from middle × ResultAt code (body_at site.set site.unit) middle late × (exits.leaving ≡ ByResult) × One code late instr.Return to
   BasicAt code site exits m labels (Call place name arguments []) from to = (held : List Held) → CalledAt code site arguments (name_meant (here_at site) name.name held) from to
+  BasicAt code site exits m labels (Read place channel receivers) from to = (number : ℕ) × ChannelAt channel number × ReadsAt code site number receivers from to
+  BasicAt code site exits m labels (Event e) from to = One code from (changes e.action (event_named site.set.phrases site.block e.name.name)) to
+  BasicAt code site exits m labels (Cancel place names) from to = NamedOrOwnAt code site instr.Cancel names from to
+  BasicAt code site exits m labels (Terminate place names) from to = NamedOrOwnAt code site instr.Terminate names from to
+  BasicAt code site exits m labels (Wait place tree) from to = PauseAt code delay.For tree from to
+  BasicAt code site exits m labels (WaitUntil place tree) from to = PauseAt code delay.Until tree from to
+  BasicAt code site exits m labels (WaitForDependent place) from to = One code from (instr.Wait delay.Dependents) to
+  BasicAt code site exits m labels (WaitFor place tree) from to = EventAt code site (stated_at_mark (here_at site) m) from to
   BasicAt code site exits m labels (Write place channel items) from to =
       (number : ℕ) × (last : ℕ) × ChannelAt channel number × ItemsAt code site items from last × One code last (instr.Print number) to
   BasicAt code site exits m labels (SendError place group_at group number_at number) from to = One code from (instr.Raise group number) to
