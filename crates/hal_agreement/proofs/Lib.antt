@@ -14,3 +14,4 @@ pub mod Settling
 pub mod Statements
 pub mod Tasking
 pub mod Agreeing
+pub mod Linking
