@@ -1,5 +1,5 @@
 -- An image that stands for a set asks what the set asks.
-use Rattle.std.specs.Prelude.{◌≡◌, ℕ, ◌≤◌, ◌<◌, ◌++◌, length, map, List, [], ◌∷◌, Option, Some, None}
+use Rattle.std.specs.Prelude.{◌≡◌, ℕ, ◌≤◌, ◌<◌, ◌++◌, length, map, List, [], ◌∷◌, Some, None}
 use Rattle.std.proofs.Common.{refl, sym, ap, subst, ◌∙◌, arith}
 use Rattle.std.proofs.lemmas.Bool.{lt-ltb}
 use Rattle.std.proofs.lemmas.List.{length-map}
@@ -8,12 +8,12 @@ use Rattle.hal_phrases.specs.GatheredUnits.{phrases_of}
 use Rattle.hal_values.specs.declared.request.Request.TheVariants as request
 use Rattle.hal_values.specs.declared.tables.Tables.{Tables}
 use Rattle.hal_values.specs.declared.value.Value.{Value}
-use Rattle.hal_values.specs.Answers.{Answered, error}
+use Rattle.hal_values.specs.Answers.{Answered}
 use Rattle.hal_values.specs.Answers as answered
 use Rattle.hal_values.specs.Loads.{Agree}
 use Rattle.hal_values.specs.Tables.{process_count}
 use Rattle.hal_states.specs.Spots.{Held, Kept, kept}
-use Rattle.hal_states.specs.Modes.{Mode, asking}
+use Rattle.hal_states.specs.Modes.{asking}
 use Rattle.hal_states.specs.Telling.{writes_asked, own_values}
 use Rattle.hal_meaning.specs.Bodies.{Body}
 use Rattle.hal_meaning.specs.Events.{Stated, stated}
@@ -21,10 +21,10 @@ use Rattle.hal_meaning.specs.Sets.{Set, set_of}
 use Rattle.hal_meaning.specs.SetLoad as set
 use Rattle.hal_meaning.specs.States.{Evaluated, Gives, Asks, Caught, Restarts, Lost, Flow}
 use Rattle.hal_meaning.specs.Runs as tree
-use Rattle.hal_meaning.specs.Runs.{first_kept, here_in, process_body, places_of_process, course_of, asked, asked_kept, asked_mode, tasks}
+use Rattle.hal_meaning.specs.Runs.{first_kept, here_in, places_of_process, course_of, asked, asked_kept, asked_mode, tasks}
 use Rattle.hal_meaning.proofs.Asking.{IsAsked, process_asks}
 use Rattle.hal_code.specs.declared.image.ImageParts.{ImageParts}
-use Rattle.hal_code.specs.Images.{tables_of, places_of, first_of, held_first}
+use Rattle.hal_code.specs.Images.{tables_of, first_of, held_first}
 use Rattle.hal_code.specs.Cores.{Setting, Step}
 use Rattle.hal_code.specs.Machine.{begun}
 use Rattle.hal_code.specs.Courses as machine
@@ -33,7 +33,7 @@ use Rattle.hal_code.proofs.Coming.{comes_is_asked}
 use Rattle.hal_agreement.specs.Codes.{Code}
 use Rattle.hal_agreement.specs.PlacedBlocks.{UnitsAt}
 use Rattle.hal_agreement.specs.Placed.{IsPlacedProcess, IsPlaced}
-use Rattle.hal_agreement.proofs.Reaching.{Nest, nest, setting, Poses, Holds, Reaches}
+use Rattle.hal_agreement.proofs.Reaching.{Nest, nest, setting, Poses, Holds}
 use Rattle.hal_agreement.proofs.Raising.{Standing}
 use Rattle.hal_agreement.proofs.Tasking.{tasks_known, task_knows}
 

@@ -1,43 +1,39 @@
 -- Statements that ask: READ, event statements, CANCEL and TERMINATE, WAIT.
-use Rattle.std.specs.Prelude.{◌≡◌, ℕ, suc, ◌==◌, nat_lt, length, Bool, true, false, List, [], ◌∷◌, Option, Some, None, if◌then◌else◌}
+use Rattle.std.specs.Prelude.{◌≡◌, ℕ, suc, ◌==◌, nat_lt, Bool, true, false, List, [], ◌∷◌, Some, None, if◌then◌else◌}
 use Rattle.std.proofs.Common.{refl, sym, ap, subst, ◌∙◌}
 use Rattle.hal_grammar.specs.Leaves.{Naming, Integer}
 use Rattle.hal_grammar.specs.Expressions.{Expression, Literal, Decimal, Reference, Refers}
 use Rattle.hal_grammar.specs.Statements.{EventAction, Signal, Set, Reset}
-use Rattle.hal_values.specs.declared.plan.Pause.{Pause}
 use Rattle.hal_values.specs.declared.plan.Pause.TheVariants as pause
 use Rattle.hal_values.specs.declared.request.Request.{Request}
 use Rattle.hal_values.specs.declared.request.Request.TheVariants as request
-use Rattle.hal_values.specs.declared.value.Kind.{Kind}
 use Rattle.hal_values.specs.Answers.{Answered}
 use Rattle.hal_values.specs.Answers as answered
 use Rattle.hal_values.specs.Tables.{process_count, event_count}
 use Rattle.hal_states.specs.Spots.{Held}
 use Rattle.hal_meaning.specs.States.{State, state, Evaluated, Gives, Asks, Caught, Restarts, Lost, bind}
-use Rattle.hal_meaning.specs.Access.{Here, ask, raise, event_changed, request_made}
+use Rattle.hal_meaning.specs.Access.{Here, raise, event_changed, request_made}
 use Rattle.hal_meaning.specs.RealTime.{time, request_tried, answered_by, each_named, named_or_own, change_of}
 use Rattle.hal_meaning.specs.Statements.{goes_on, kind_meant, kind_named, datum_of, datum_received, all_read, channel_of, waited}
 use Rattle.hal_meaning.specs.Expressions.{expression}
 use Rattle.hal_meaning.specs.Tasks.{Meaning}
 use Rattle.hal_code.specs.declared.instr.Instr.{Instr}
 use Rattle.hal_code.specs.declared.instr.Instr.TheVariants as instr
-use Rattle.hal_code.specs.declared.operand.Delay.{Delay}
 use Rattle.hal_code.specs.declared.operand.Delay.TheVariants as delay
-use Rattle.hal_code.specs.declared.operand.Time.{Time}
 use Rattle.hal_code.specs.declared.operand.Time.TheVariants as times
-use Rattle.hal_code.specs.Cores.{Operand, core, Setting, Goes, Then, Tried, Takes, Step, Waits, Moves}
-use Rattle.hal_code.specs.Raising.{stuck, made_if}
+use Rattle.hal_code.specs.Cores.{Goes, Then, Tried, Takes, Step, Waits, Moves}
+use Rattle.hal_code.specs.Raising.{made_if}
 use Rattle.hal_code.specs.Asking as machine
 use Rattle.hal_code.specs.Asking.{named}
 use Rattle.hal_code.specs.Machine.{act, given}
 use Rattle.hal_agreement.specs.Codes.{Code}
 use Rattle.hal_agreement.specs.Sites.{site_of, here_at}
-use Rattle.hal_agreement.specs.PlacedExpressions.{Has, One}
-use Rattle.hal_agreement.specs.PlacedStatements.{Exits, ChannelAt, ReceiverAt, ReadsAt, changes, PauseAt, EventAt, NamedAt, EachAt, NamedOrOwnAt}
+use Rattle.hal_agreement.specs.PlacedExpressions.{One}
+use Rattle.hal_agreement.specs.PlacedStatements.{Exits, ChannelAt, ReceiverAt, ReadsAt, changes, PauseAt, EventAt, EachAt, NamedOrOwnAt}
 use Rattle.hal_agreement.proofs.Knowing.{Out, Sound}
 use Rattle.hal_agreement.proofs.Leading.{stays}
 use Rattle.hal_agreement.proofs.Reaching.{Nest, setting, core_at, Reaches, bind_reaches, asks_reaches, acts}
-use Rattle.hal_agreement.proofs.Raising.{Standing, bind_bind, asks_then, changed_by, raised_reaches}
+use Rattle.hal_agreement.proofs.Raising.{Standing, bind_bind, asks_then, raised_reaches}
 use Rattle.hal_agreement.proofs.Expressing.{name_same}
 use Rattle.hal_agreement.proofs.Stating.{FlowsAt, final, goes_on_reaches, received_reaches}
 
@@ -94,26 +90,17 @@ module _ (code : Code) (begin : ℕ) (rec : Meaning) (sound : Sound code begin r
       (λ answer st1. bind (datum_of h answer st1) (λ datum st2. bind (datum_received rec h receiver datum st2) (λ done st3. all_read rec h channel receivers st3)))
       (λ a rest. taken channel receiver receivers from here.1 to here.4 (λ after. read_reaches channel receivers here.1 to after here.5) a (state st.kept st.entries st.mode rest))))
 
+  -- an event is changed, where it is there
+  changed : (b : Bool) (r : Request) (at : ℕ) (now : State)
+      → Ready at (if b then Waits r (Then Goes) (core_at at [] [] n now) else Moves (core_at at [] [] n now)) now.left (if b then request_made r now else Gives tt now)
+  changed true r at now = made_reaches r at now
+  changed false r at now = ready at now
+
   -- SIGNAL, SET and RESET
   pub event_reaches : (action : EventAction) (e from to : ℕ) (st : State) → One code from (changes action e) to → Ready to (Moves (core_at from [] [] n st)) st.left (event_changed h (change_of action) e st)
   event_reaches Signal e from to st one = last (instr.Signal e) from to st _ one (changed (nat_lt e (event_count h.set.tables)) (request.Signal e) (suc from) st)
-    where
-      changed : (b : Bool) (r : Request) (at : ℕ) (now : State)
-          → Ready at (if b then Waits r (Then Goes) (core_at at [] [] n now) else Moves (core_at at [] [] n now)) now.left (if b then request_made r now else Gives tt now)
-      changed true r at now = made_reaches r at now
-      changed false r at now = ready at now
   event_reaches Set e from to st one = last (instr.Set e) from to st _ one (changed (nat_lt e (event_count h.set.tables)) (request.Set e) (suc from) st)
-    where
-      changed : (b : Bool) (r : Request) (at : ℕ) (now : State)
-          → Ready at (if b then Waits r (Then Goes) (core_at at [] [] n now) else Moves (core_at at [] [] n now)) now.left (if b then request_made r now else Gives tt now)
-      changed true r at now = made_reaches r at now
-      changed false r at now = ready at now
   event_reaches Reset e from to st one = last (instr.Reset e) from to st _ one (changed (nat_lt e (event_count h.set.tables)) (request.Reset e) (suc from) st)
-    where
-      changed : (b : Bool) (r : Request) (at : ℕ) (now : State)
-          → Ready at (if b then Waits r (Then Goes) (core_at at [] [] n now) else Moves (core_at at [] [] n now)) now.left (if b then request_made r now else Gives tt now)
-      changed true r at now = made_reaches r at now
-      changed false r at now = ready at now
 
   -- a request to which an error may be the answer
   answered_reaches : (a : Answered) (to : ℕ) (st : State) → Ready to (given (setting code begin h) Tried a (core_at to [] [] n st)) st.left (answered_by h a st)

@@ -1,5 +1,5 @@
 -- Calls: a unit is entered, and control goes back with its result.
-use Rattle.std.specs.Prelude.{◌≡◌, ℕ, zero, suc, ◌≤◌, length, pos, Bool, true, false, List, [], ◌∷◌, Option, Some, None, slice_get}
+use Rattle.std.specs.Prelude.{◌≡◌, ℕ, zero, suc, ◌≤◌, length, pos, Bool, true, false, List, [], ◌∷◌, Option, Some, None}
 use Rattle.std.proofs.Common.{refl, sym, ap, subst, ◌∙◌, arith}
 use Rattle.hal_grammar.specs.Leaves.{Naming}
 use Rattle.hal_grammar.specs.Units.{Head}
@@ -10,33 +10,31 @@ use Rattle.hal_values.specs.Searching.{entered}
 use Rattle.hal_states.specs.Spots.{Own, Kept}
 use Rattle.hal_states.specs.Modes.{Mode}
 use Rattle.hal_meaning.specs.Bodies.{Body}
-use Rattle.hal_meaning.specs.Calls.{Passed, Plain, Whole, parameter_named, stored_parameter, begun, entering, zero_of, is_function, result_of, bound, stored_parameters, inputs_of, outputs_of, left_with, run_call, made_call, call}
+use Rattle.hal_meaning.specs.Calls.{Passed, Plain, Whole, parameter_named, stored_parameter, begun, entering, zero_of, is_function, result_of, bound, stored_parameters, inputs_of, left_with, run_call, made_call, call}
 use Rattle.hal_meaning.specs.Expressions.{inputs_at}
 use Rattle.hal_meaning.specs.ReportNames.{first_place}
 use Rattle.hal_meaning.specs.Variables.{kind_of_first}
 use Rattle.hal_meaning.specs.Marks.{handling_in}
-use Rattle.hal_meaning.specs.Sets.{body_at}
 use Rattle.hal_meaning.specs.States.{State, state, with_entries, with_places, Evaluated, Gives, Asks, Caught, Restarts, Lost, bind, Flow, Normal, Leaves, Repeats, Returned}
 use Rattle.hal_meaning.specs.Access as tree
 use Rattle.hal_meaning.specs.Access.{Here, raise, turn}
-use Rattle.hal_meaning.specs.Runs.{in_function, ended}
+use Rattle.hal_meaning.specs.Runs.{ended}
 use Rattle.hal_meaning.specs.Tasks.{Meaning, Entering}
 use Rattle.hal_code.specs.declared.instr.Instr.TheVariants as instr
 use Rattle.hal_code.specs.declared.row.Block.{Block}
-use Rattle.hal_code.specs.Cores.{Operand, Val, At, Frame, Core, core, Setting, Goes, going, Step, Moves}
+use Rattle.hal_code.specs.Cores.{Operand, Val, At, Core, core, Setting, Goes, going, Step, Moves}
 use Rattle.hal_code.specs.Raising.{stuck, turned, raised}
 use Rattle.hal_code.specs.Controlling as machine
 use Rattle.hal_code.specs.Controlling.{with_result, calling}
-use Rattle.hal_code.specs.Machine.{act}
 use Rattle.hal_agreement.specs.Codes.{Code}
 use Rattle.hal_agreement.specs.Sites.{site_of}
 use Rattle.hal_agreement.specs.PlacedExpressions.{Has, One, pushes, AddressAt, ParametersAt, CallAt}
-use Rattle.hal_agreement.specs.PlacedStatements.{ByReturn, ByResult, of_block}
+use Rattle.hal_agreement.specs.PlacedStatements.{of_block}
 use Rattle.hal_agreement.specs.PlacedBlocks.{leaving_by, EndAt, UnitAt}
 use Rattle.hal_agreement.proofs.Handling.{HandledAt, each_handled}
-use Rattle.hal_agreement.proofs.Knowing.{Out, flow_to, Leads_out, Ends, Ending, Sound}
+use Rattle.hal_agreement.proofs.Knowing.{Out, flow_to, Leads_out, Ending, Sound}
 use Rattle.hal_agreement.proofs.Leading.{Leads, stays, through, acts_to}
-use Rattle.hal_agreement.proofs.Reaching.{Nest, nest, behind, coded_entries, setting, core_at, Arrives, Holds, Reaches, OnStep, before, bind_reaches, bind_on, acts}
+use Rattle.hal_agreement.proofs.Reaching.{Nest, nest, behind, coded_entries, setting, core_at, Holds, Reaches, OnStep, bind_reaches, bind_on, acts}
 use Rattle.hal_agreement.proofs.Searching.{above, coded_above}
 use Rattle.hal_agreement.proofs.Raising.{Standing, store_reaches, raised_reaches, turned_at}
 use Rattle.hal_agreement.proofs.Viewing.{address_reaches}

@@ -1,5 +1,5 @@
 -- ON ERROR and OFF ERROR: the machine's entries are those of the tree.
-use Rattle.std.specs.Prelude.{◌≡◌, ℕ, suc, List, [], Option, Some, None}
+use Rattle.std.specs.Prelude.{◌≡◌, ℕ, suc, [], Option, Some, None}
 use Rattle.std.proofs.Common.{refl, sym, ap, subst, ◌∙◌}
 use Rattle.hal_grammar.specs.Statements.{Selector, Eventful, System, Ignore}
 use Rattle.hal_grammar.specs.Statements as statements
@@ -14,13 +14,12 @@ use Rattle.hal_meaning.specs.Access.{Here}
 use Rattle.hal_meaning.specs.RealTime.{side_of}
 use Rattle.hal_meaning.specs.Statements.{selector_of, act_of, entry}
 use Rattle.hal_meaning.specs.Tasks.{Meaning}
-use Rattle.hal_code.specs.declared.choice.Choice.TheVariants as choice
 use Rattle.hal_code.specs.declared.instr.Instr.TheVariants as instr
 use Rattle.hal_code.specs.declared.operand.EventChange.{EventChange}
 use Rattle.hal_code.specs.declared.operand.EventChange.TheVariants as change
 use Rattle.hal_code.specs.declared.operand.Response.TheVariants as response
 use Rattle.hal_code.specs.Controlling as machine
-use Rattle.hal_code.specs.Cores.{core, Step, Moves}
+use Rattle.hal_code.specs.Cores.{core, Moves}
 use Rattle.hal_agreement.specs.Codes.{Code}
 use Rattle.hal_agreement.specs.Sites.{site_of, here_at}
 use Rattle.hal_agreement.specs.PlacedExpressions.{Has, One}
@@ -28,7 +27,7 @@ use Rattle.hal_agreement.specs.PlacedStatements.{sets, Selects, response_of}
 use Rattle.hal_agreement.proofs.Handling.{without_coded, with_coded}
 use Rattle.hal_agreement.proofs.Knowing.{Out, Sound}
 use Rattle.hal_agreement.proofs.Leading.{Leads, through}
-use Rattle.hal_agreement.proofs.Reaching.{Nest, coded_act, coded_entries, setting, core_at}
+use Rattle.hal_agreement.proofs.Reaching.{Nest, coded_act, coded_entries, setting}
 use Rattle.hal_agreement.proofs.Raising.{Standing}
 use Rattle.hal_agreement.proofs.Stating.{Begins, instr_leads, jump_leads}
 

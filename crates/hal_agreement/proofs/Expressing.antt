@@ -1,9 +1,9 @@
 -- The code of an expression leaves the value on the stack that the tree gives.
-use Rattle.std.specs.Prelude.{◌≡◌, ℕ, zero, suc, ◌+◌, nat_lt, Bool, true, false, not, ◌&&◌, ◌||◌, List, [], ◌∷◌, ◌++◌, pos, ℤ, Option, Some, None, slice_get, length, if◌then◌else◌}
-use Rattle.std.proofs.Common.{refl, sym, ap, subst, ◌∙◌, arith}
+use Rattle.std.specs.Prelude.{◌≡◌, ℕ, suc, nat_lt, Bool, true, false, not, ◌&&◌, ◌||◌, List, [], ◌∷◌, pos, Option, Some, None, slice_get, if◌then◌else◌}
+use Rattle.std.proofs.Common.{refl, sym, subst}
 use Rattle.hal_grammar.specs.Leaves.{Naming, Sign, Plus, Minus}
-use Rattle.hal_grammar.specs.Expressions.{Expression, Or, And, Compare, Cat, Sum, Product, Power, Not, Literal, Decimal, Referred, Called, Convert, Parenthesis, Expressions, NoExpressions, MoreExpressions, Terms, NoTerms, MoreTerms, Reference, Refers, Subscript, Unsubscripted, ByName, ByInteger, ByParts}
-use Rattle.hal_phrases.specs.Phrases.{Node, Phrase, OfFile, OfTemplate, OfUnit, OfItem, OfTemporaryGroup}
+use Rattle.hal_grammar.specs.Expressions.{Expression, Or, And, Compare, Cat, Sum, Product, Power, Not, Literal, Decimal, Referred, Called, Convert, Parenthesis, Expressions, NoExpressions, MoreExpressions, Terms, NoTerms, MoreTerms, Reference, Refers, Unsubscripted, ByName, ByInteger, ByParts}
+use Rattle.hal_phrases.specs.Phrases.{Node, Phrase}
 use Rattle.hal_scope.specs.declared.builtin.Builtin.{Builtin}
 use Rattle.hal_scope.specs.declared.builtin.Builtin.TheVariants as builtin
 use Rattle.hal_operations.specs.declared.operation.Op1.{Op1}
@@ -23,29 +23,25 @@ use Rattle.hal_values.specs.declared.value.Value.{Value}
 use Rattle.hal_values.specs.declared.value.Value.TheVariants as value
 use Rattle.hal_values.specs.Answers.{Answered}
 use Rattle.hal_values.specs.Tables.{event_count}
-use Rattle.hal_states.specs.Spots.{Spot, Shared, Own, Nowhere, Held, further}
+use Rattle.hal_states.specs.Spots.{Spot, Held, further}
 use Rattle.hal_states.specs.OfKinds.{told}
-use Rattle.hal_meaning.specs.Elements.{Shape, chosen, offset}
-use Rattle.hal_meaning.specs.States.{State, state, Evaluated, Gives, bind}
+use Rattle.hal_meaning.specs.Elements.{chosen, offset}
+use Rattle.hal_meaning.specs.States.{State, Evaluated, Gives, bind}
 use Rattle.hal_meaning.specs.Access.{Here, ask, read}
 use Rattle.hal_meaning.specs.Calls.{Passed, Plain, call}
 use Rattle.hal_meaning.specs.Bodies.{meant}
-use Rattle.hal_meaning.specs.Variables.{Meant, MeantData, MeantConstant, MeantEvent, MeantBlock, MeantBuiltin, MeantNothing, meant_by, declaration_meant, builtin_meant, name_meant, kind_of_first, is_arrayed}
-use Rattle.hal_meaning.specs.Expressions.{literal_value, is_condition, are_conditions, becomes_condition, as_operand, apply_one, apply_two, signed, exponent_of, operation_of_relation, operation_of_sign, operation_of_conversion, is_size, event_value, alone_value, plain_value, built, sizes_named, size_argument, inputs_at, call_form, subscripted, expression, joined, folded, summed, values, argument, passed, chosen_by, referred, data_chosen, component}
+use Rattle.hal_meaning.specs.Variables.{Meant, MeantData, MeantConstant, MeantEvent, MeantBlock, MeantBuiltin, MeantNothing, meant_by, declaration_meant, builtin_meant, name_meant, kind_of_first}
+use Rattle.hal_meaning.specs.Expressions.{literal_value, is_condition, are_conditions, becomes_condition, as_operand, apply_one, apply_two, signed, exponent_of, operation_of_relation, operation_of_sign, operation_of_conversion, event_value, alone_value, plain_value, built, size_argument, inputs_at, call_form, subscripted, expression, joined, folded, summed, values, argument, passed, chosen_by, referred, data_chosen, component}
 use Rattle.hal_meaning.specs.Tasks.{Meaning}
 use Rattle.hal_code.specs.declared.choice.Choice.TheVariants as choice
 use Rattle.hal_code.specs.declared.instr.Instr.{Instr}
 use Rattle.hal_code.specs.declared.instr.Instr.TheVariants as instr
-use Rattle.hal_code.specs.declared.row.Base.{Base}
-use Rattle.hal_code.specs.declared.row.Target.TheVariants as target
-use Rattle.hal_code.specs.declared.row.View.{View}
-use Rattle.hal_code.specs.Cores.{Operand, Val, At, Core, going, Pushes, Setting, Step, Waits, Moves}
-use Rattle.hal_code.specs.Raising.{stuck}
-use Rattle.hal_code.specs.Addressing.{spot_of, pushed, cell_viewed, act_cell}
+use Rattle.hal_code.specs.Cores.{Operand, Val, At, Pushes, Step, Waits, Moves}
+use Rattle.hal_code.specs.Addressing.{pushed}
 use Rattle.hal_code.specs.Machine.{act}
 use Rattle.hal_agreement.specs.Codes.{Code}
-use Rattle.hal_agreement.specs.Sites.{Site, site_of, here_at}
-use Rattle.hal_agreement.specs.PlacedExpressions.{Has, One, pushes, two, IsPlain, AddressAt, AloneAt, ValueAt, NameAt, ReferenceAt, SignAt, stay, ExpressionAt, FoldedAt, TermsAt, CalledAt, BuiltAt, ArgumentsAt}
+use Rattle.hal_agreement.specs.Sites.{site_of, here_at}
+use Rattle.hal_agreement.specs.PlacedExpressions.{One, pushes, two, AddressAt, AloneAt, ValueAt, ReferenceAt, SignAt, stay, ExpressionAt, FoldedAt, TermsAt, CalledAt, BuiltAt, ArgumentsAt}
 use Rattle.hal_agreement.proofs.Calling.{args_step, inputs_same, call_reaches, function_reaches}
 use Rattle.hal_agreement.proofs.Knowing.{Sound}
 use Rattle.hal_agreement.proofs.Leading.{stays}

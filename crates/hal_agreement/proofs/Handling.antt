@@ -2,15 +2,14 @@
 use Rattle.std.specs.Prelude.{◌≡◌, ℕ, suc, ◌==◌, Bool, true, false, not, List, [], ◌∷◌, Option, Some, None, if◌then◌else◌}
 use Rattle.std.proofs.Common.{refl, sym, ap, subst, ◌∙◌}
 use Rattle.std.proofs.lemmas.Bool.{eqb-true}
-use Rattle.hal_grammar.specs.Leaves.{Naming}
-use Rattle.hal_grammar.specs.Statements.{Statement, Labelled, Basic, Null, Assignment, If, Do, DoCase, DoLoop, DoFor, Exit, Repeat, Return, Call, Read, Write, Update, Scheduled, Cancel, Terminate, Wait, WaitUntil, WaitForDependent, WaitFor, Event, UpdatePriority, OnErrorStatement, OnErrorResponse, OffError, SendError, Statements, NoStatements, MoreStatements}
+use Rattle.hal_grammar.specs.Statements.{Statement, Labelled, OnErrorStatement, Statements, NoStatements, MoreStatements}
 use Rattle.hal_values.specs.declared.environment.Entry.{Entry}
 use Rattle.hal_values.specs.declared.environment.Selector.{Selector}
 use Rattle.hal_values.specs.Searching.{same_selector, with_entry, without}
 use Rattle.hal_meaning.specs.Marks.{after_statement, Handling, handling, handled_by, handling_in}
 use Rattle.hal_agreement.specs.Codes.{Code}
 use Rattle.hal_agreement.specs.Sites.{Site}
-use Rattle.hal_agreement.specs.PlacedStatements.{Exits, Leaving, of_block, LeadsOut, StatementAt, StatementsAt}
+use Rattle.hal_agreement.specs.PlacedStatements.{Exits, LeadsOut, StatementAt, StatementsAt}
 use Rattle.hal_agreement.proofs.Reaching.{coded, coded_entries}
 
 -- a statement of ON ERROR with what stands behind it, from where it is entered; what is none leads to the end

@@ -1,13 +1,12 @@
 -- Where the machine goes on once a statement is done, and what is known of the tasks that are begun in statements.
-use Rattle.std.specs.Prelude.{◌≡◌, ℕ, suc, Bool, true, false, List, [], ◌∷◌, Option, Some, None}
+use Rattle.std.specs.Prelude.{◌≡◌, ℕ, suc, List, [], ◌∷◌, Option, Some, None}
 use Rattle.hal_grammar.specs.Statements.{Guard}
 use Rattle.hal_values.specs.declared.environment.Entry.{Entry}
 use Rattle.hal_values.specs.declared.value.Value.{Value}
-use Rattle.hal_values.specs.Answers.{Answered}
 use Rattle.hal_meaning.specs.Bodies.{Body}
 use Rattle.hal_meaning.specs.Calls.{begun, entering, is_function}
 use Rattle.hal_meaning.specs.Marks.{handling_in}
-use Rattle.hal_meaning.specs.States.{State, with_places, Evaluated, Flow, Normal, Leaves, Repeats, Returned}
+use Rattle.hal_meaning.specs.States.{State, with_places, Flow, Normal, Leaves, Repeats, Returned}
 use Rattle.hal_meaning.specs.Access.{Here}
 use Rattle.hal_meaning.specs.Runs.{in_function, ended}
 use Rattle.hal_meaning.specs.Tasks.{Looping, Meaning, Tested, Entering, Resuming}

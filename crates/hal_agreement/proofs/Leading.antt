@@ -1,6 +1,6 @@
 -- Where steps of the machine lead.
-use Rattle.std.specs.Prelude.{◌≡◌, ℕ, zero, suc, List, [], ◌∷◌, Some, None, slice_get}
-use Rattle.std.proofs.Common.{refl, ap, subst, ◌∙◌}
+use Rattle.std.specs.Prelude.{◌≡◌, ℕ, zero, suc, List, ◌∷◌, Some, None, slice_get}
+use Rattle.std.proofs.Common.{ap, subst, ◌∙◌}
 use Rattle.hal_values.specs.declared.request.Request.{Request}
 use Rattle.hal_values.specs.Answers.{Answered}
 use Rattle.hal_code.specs.declared.instr.Instr.{Instr}

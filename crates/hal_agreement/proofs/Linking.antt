@@ -9,7 +9,6 @@ use Rattle.hal_meaning.specs.Places.{Place}
 use Rattle.hal_meaning.specs.Sets.{Set, body_at}
 use Rattle.hal_code.specs.declared.image.ImageParts.{ImageParts}
 use Rattle.hal_code.specs.declared.row.Block.{Block}
-use Rattle.hal_agreement.specs.Codes.{Code}
 use Rattle.hal_agreement.specs.PlacedBlocks.{UnitAt, UnitsAt}
 
 -- the block of one unit alone

@@ -1,5 +1,5 @@
 -- What the machine does where the tree raises errors, begins turns, and reads and stores.
-use Rattle.std.specs.Prelude.{◌≡◌, ℕ, zero, suc, ◌≤◌, length, nat_lt, Bool, true, false, List, [], ◌∷◌, pos, Option, Some, None, Result, Ok, Err, slice_get, slice_set, if◌then◌else◌}
+use Rattle.std.specs.Prelude.{◌≡◌, ℕ, zero, suc, nat_lt, Bool, true, false, List, [], ◌∷◌, pos, Option, Some, None, Result, Ok, Err, slice_get, if◌then◌else◌}
 use Rattle.std.proofs.Common.{refl, sym, ap, subst, ◌∙◌, arith}
 use Rattle.hal_values.specs.declared.environment.Entry.{Entry}
 use Rattle.hal_values.specs.declared.environment.ErrNo.{ErrNo}
@@ -20,19 +20,19 @@ use Rattle.hal_operations.specs.Stores.{stored, mended_store}
 use Rattle.hal_states.specs.Spots.{Spot, Shared, Own, Nowhere, Kept, kept}
 use Rattle.hal_states.specs.OfKinds.{of_kind, told}
 use Rattle.hal_states.specs.Modes.{Mode, mode, are_spent}
-use Rattle.hal_meaning.specs.States.{State, state, with_kept, with_mode, Evaluated, Gives, Asks, Caught, Restarts, Lost, bind, asks_from, stops_from, stops}
+use Rattle.hal_meaning.specs.States.{State, state, with_kept, Evaluated, Gives, Asks, Caught, Restarts, Lost, bind, asks_from, stops_from, stops}
 use Rattle.hal_meaning.specs.Access as tree
 use Rattle.hal_meaning.specs.Access.{Here, raise, turn, read, put, store}
-use Rattle.hal_code.specs.Cores.{Operand, Val, Frame, Core, core, going, all_entered, Rest, Goes, Puts, Wait, Then, Pushes, Halts, Setting, Step, Waits, Moves, Counts}
+use Rattle.hal_code.specs.Cores.{Operand, Val, Frame, Core, core, all_entered, Rest, Goes, Puts, Wait, Then, Pushes, Halts, Step, Waits, Moves}
 use Rattle.hal_code.specs.Raising as machine
-use Rattle.hal_code.specs.Raising.{cut, entered_at, raised, raised_before, rested}
+use Rattle.hal_code.specs.Raising.{cut, entered_at, raised_before, rested}
 use Rattle.hal_code.specs.Computing.{tested}
 use Rattle.hal_code.specs.Addressing.{pushed, fetched_cell, fetched, stored_at}
-use Rattle.hal_code.specs.Machine.{given, begun}
+use Rattle.hal_code.specs.Machine.{given}
 use Rattle.hal_agreement.specs.Codes.{Code}
 use Rattle.hal_agreement.specs.PlacedBlocks.{UnitsAt}
 use Rattle.hal_agreement.proofs.Leading.{Leads, stays, heard, counted}
-use Rattle.hal_agreement.proofs.Reaching.{Nest, coded_entries, setting, core_at, Handles, landing, Arrives, Holds, Reaches, OnStep, before, bind_reaches, bind_on, asks_reaches}
+use Rattle.hal_agreement.proofs.Reaching.{Nest, coded_entries, setting, core_at, Handles, landing, Reaches, before, bind_reaches, bind_on, asks_reaches}
 use Rattle.hal_agreement.proofs.Searching.{coded_found, coded_blocks, search_coded, IsFound, found_right}
 
 -- the machine's blocks are those of the tree, and an error may meet a statement of the running one; the units that may be called stand in the code

@@ -13,13 +13,13 @@ use Rattle.hal_meaning.specs.States.{State, state, Evaluated, Gives, Asks, Caugh
 use Rattle.hal_meaning.specs.Access.{Here}
 use Rattle.hal_meaning.specs.Runs.{held_first}
 use Rattle.hal_code.specs.declared.instr.Instr.{Instr}
-use Rattle.hal_code.specs.Cores.{Operand, Return, Frame, Core, core, Setting, Wait, Step, Waits, Moves, Counts}
+use Rattle.hal_code.specs.Cores.{Operand, Return, Frame, Core, core, Setting, Wait, Step, Waits, Moves}
 use Rattle.hal_code.specs.Raising.{stuck, cut, entered_at}
-use Rattle.hal_code.specs.Machine.{act, stepped, begun, given, after_answer}
+use Rattle.hal_code.specs.Machine.{act, stepped, begun, given}
 use Rattle.hal_code.specs.Courses.{Asked, asked}
 use Rattle.hal_code.specs.Executions.{Comes}
 use Rattle.hal_agreement.specs.Codes.{Code}
-use Rattle.hal_agreement.proofs.Leading.{Leads, stays, through, moved, heard}
+use Rattle.hal_agreement.proofs.Leading.{Leads, through, moved, heard}
 
 -- the frames of the blocks that are entered below the running one; where the statements of ON ERROR stand: of the block that has so many later ones,
 -- the statement with this mark; and how many blocks an error leaves at least

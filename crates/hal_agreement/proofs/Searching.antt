@@ -1,7 +1,7 @@
 -- An error meets in the machine's blocks what it meets in those of the tree.
 use Rattle.std.specs.Prelude.{◌≡◌, ℕ, zero, suc, ◌+◌, ◌≤◌, length, Bool, true, false, not, ◌&&◌, List, [], ◌∷◌, Option, Some, None, if◌then◌else◌}
 use Rattle.std.specs.Option.{option_or, is_none}
-use Rattle.std.proofs.Common.{refl, sym, ap, subst, ◌∙◌, arith}
+use Rattle.std.proofs.Common.{refl, ap, ◌∙◌, arith}
 use Rattle.hal_values.specs.declared.environment.Act.{Act}
 use Rattle.hal_values.specs.declared.environment.Act.TheVariants as act
 use Rattle.hal_values.specs.declared.environment.Entry.{Entry}

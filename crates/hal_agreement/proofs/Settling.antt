@@ -26,7 +26,7 @@ use Rattle.hal_agreement.specs.PlacedStatements.{Leaving, NoReturn, Exits, of_bl
 use Rattle.hal_agreement.proofs.Handling.{HandledAt}
 use Rattle.hal_agreement.proofs.Knowing.{Out, flow_to, Sound, Ending}
 use Rattle.hal_agreement.proofs.Leading.{Leads, through}
-use Rattle.hal_agreement.proofs.Reaching.{Nest, nest, behind, coded_entries, setting, core_at, Handles, landing, Holds, Reaches, OnStep, before, bind_on}
+use Rattle.hal_agreement.proofs.Reaching.{Nest, nest, behind, coded_entries, setting, core_at, Holds, Reaches, OnStep, before, bind_on}
 use Rattle.hal_agreement.proofs.Searching.{above, coded_above}
 use Rattle.hal_agreement.proofs.Raising.{Standing, turned_reaches}
 use Rattle.hal_agreement.proofs.Stating.{instr_leads, passes}

@@ -1,22 +1,21 @@
 -- The code of statements, of groups and of what stands behind them.
-use Rattle.std.specs.Prelude.{◌≡◌, ℕ, suc, List, [], ◌∷◌, Some, None}
+use Rattle.std.specs.Prelude.{ℕ, suc, List, [], ◌∷◌, Some, None}
 use Rattle.std.proofs.Common.{refl, subst}
 use Rattle.hal_grammar.specs.Leaves.{Naming}
-use Rattle.hal_grammar.specs.Statements.{Statement, Labelled, Basic, Null, Assignment, If, Do, DoCase, DoLoop, DoFor, Exit, Repeat, Return, Call, Read, Write, Update, Scheduled, Cancel, Terminate, Wait, WaitUntil, WaitForDependent, WaitFor, Event, UpdatePriority, OnErrorStatement, OnErrorResponse, OffError, SendError, Alternative, NoAlternative, Otherwise, Group, Groups, Statements, NoStatements, MoreStatements}
+use Rattle.hal_grammar.specs.Statements.{Statement, Labelled, Basic, Null, Assignment, If, Do, DoLoop, Exit, Repeat, Return, Call, Read, Write, Update, Cancel, Terminate, Wait, WaitUntil, WaitForDependent, WaitFor, Event, OnErrorStatement, OnErrorResponse, OffError, SendError, Alternative, NoAlternative, Otherwise, Group, Groups, Statements, NoStatements, MoreStatements}
 use Rattle.hal_values.specs.declared.plan.Pause.TheVariants as pause
 use Rattle.hal_values.specs.declared.request.Request.TheVariants as request
 use Rattle.hal_values.specs.Answers.{error}
 use Rattle.hal_states.specs.Numbers.{holds}
 use Rattle.hal_meaning.specs.Marks.{after_statement}
-use Rattle.hal_meaning.specs.States.{State, state, Gives, bind, Normal, Leaves, Repeats}
+use Rattle.hal_meaning.specs.States.{State, state, Gives, Normal, Leaves, Repeats}
 use Rattle.hal_meaning.specs.Access.{Here, updating, request_made}
 use Rattle.hal_meaning.specs.RealTime.{time, stated_at_mark}
-use Rattle.hal_meaning.specs.Expressions.{expression}
 use Rattle.hal_meaning.specs.Variables.{name_meant}
-use Rattle.hal_meaning.specs.Statements.{all_received, written, group_left, turn_if, label_name, looping, goes_on, goes_behind, one_of, statement, basic_statement, otherwise, grouped, settled, update_left, update_groups, entered_update, statements}
+use Rattle.hal_meaning.specs.Statements.{all_received, group_left, turn_if, label_name, looping, goes_on, goes_behind, one_of, statement, basic_statement, otherwise, grouped, settled, update_left, update_groups, entered_update, statements}
 use Rattle.hal_meaning.specs.Tasks.{Meaning, Tested}
 use Rattle.hal_code.specs.declared.instr.Instr.TheVariants as instr
-use Rattle.hal_code.specs.Cores.{core, Goes, Opens, Moves}
+use Rattle.hal_code.specs.Cores.{core, Goes, Opens}
 use Rattle.hal_agreement.specs.Codes.{Code}
 use Rattle.hal_agreement.specs.Sites.{site_of}
 use Rattle.hal_agreement.specs.PlacedStatements.{opened, exit_of, again_of, NoReturn, Exits, within_group, of_block, CalledAt, StatementAt, BasicAt, AlternativeAt, GroupAt, StatementsAt}
@@ -27,7 +26,7 @@ use Rattle.hal_agreement.proofs.Asking.{read_stated, event_reaches, named_or_own
 use Rattle.hal_agreement.proofs.Entering.{handler_leads, response_leads, off_leads}
 use Rattle.hal_agreement.proofs.Reaching.{Nest, setting, core_at, bind_on, acts}
 use Rattle.hal_agreement.proofs.Raising.{Standing, bind_bind, asks_then, raised_reaches}
-use Rattle.hal_agreement.proofs.Settling.{around, updated, stands_above, update_plain, settled_holds, updated_holds, update_ends}
+use Rattle.hal_agreement.proofs.Settling.{around, updated, stands_above, settled_holds, updated_holds, update_ends}
 use Rattle.hal_agreement.proofs.Stating.{FlowsAt, Begins, still, normal, goes_on_reaches, final, valued, all_received_reaches, written_reaches, condition_reaches, first_test_reaches, turn_reaches, group_reaches, behind_reaches, exit_reaches, returned_reaches, call_meant, either_reaches, over_reaches}
 
 module _ (code : Code) (begin : ℕ) (rec : Meaning) (sound : Sound code begin rec) where

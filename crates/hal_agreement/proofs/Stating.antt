@@ -1,10 +1,10 @@
 -- The code of statements does what the tree says.
-use Rattle.std.specs.Prelude.{◌≡◌, ℕ, zero, suc, nat_lt, length, take, Bool, true, false, not, List, [], ◌∷◌, ◌++◌, pos, ℤ, Option, Some, None, slice_get, if◌then◌else◌}
+use Rattle.std.specs.Prelude.{◌≡◌, ℕ, suc, nat_lt, length, take, Bool, true, false, not, List, [], ◌∷◌, ◌++◌, Option, Some, None, if◌then◌else◌}
 use Rattle.std.proofs.Common.{refl, sym, ap, subst, ◌∙◌, append_assoc, append-nil}
 use Rattle.hal_base.specs.declared.limits.TheConstants.{LINE_LIMIT}
-use Rattle.hal_grammar.specs.Leaves.{Naming, LiteralValue, Integer}
-use Rattle.hal_grammar.specs.Expressions.{Expression, Expressions, NoExpressions, MoreExpressions, Literal, Reference, Refers, Subscript, Unsubscripted, ByName, ByInteger, ByParts}
-use Rattle.hal_grammar.specs.Statements.{Guard, While, Until, Statement, Labelled, Basic, Null, Assignment, If, Do, DoCase, DoLoop, DoFor, Exit, Repeat, Return, Call, Read, Write, Update, Scheduled, Cancel, Terminate, Wait, WaitUntil, WaitForDependent, WaitFor, Event, UpdatePriority, OnErrorStatement, OnErrorResponse, OffError, SendError, Alternative, NoAlternative, Otherwise, Group, Groups, Statements, NoStatements, MoreStatements}
+use Rattle.hal_grammar.specs.Leaves.{Naming, Integer}
+use Rattle.hal_grammar.specs.Expressions.{Expression, Expressions, NoExpressions, MoreExpressions, Literal, Reference, Refers, Unsubscripted, ByName, ByInteger, ByParts}
+use Rattle.hal_grammar.specs.Statements.{Guard, While, Until, Return, Alternative, NoAlternative, Otherwise}
 use Rattle.hal_grammar.specs.Declarations.{IntegerKind, BooleanKind, EventKind, BitKind, CharacterKind, StructureKind}
 use Rattle.hal_grammar.specs.Units.{Head, Program, Compool, Task, Procedure, Function, NoKind, HasKind}
 use Rattle.hal_operations.specs.declared.operation.Op1.TheVariants as op1
@@ -13,38 +13,36 @@ use Rattle.hal_values.specs.declared.request.Request.TheVariants as request
 use Rattle.hal_values.specs.declared.value.Value.{Value}
 use Rattle.hal_values.specs.declared.value.Value.TheVariants as value
 use Rattle.hal_values.specs.Answers.{Answered, error}
-use Rattle.hal_operations.specs.Stores.{stored, mended_store}
-use Rattle.hal_states.specs.Spots.{Spot, further}
-use Rattle.hal_states.specs.Modes.{are_spent}
+use Rattle.hal_operations.specs.Stores.{stored}
+use Rattle.hal_states.specs.Spots.{further}
 use Rattle.hal_states.specs.Lines.{line_of, item_of}
 use Rattle.hal_states.specs.Numbers.{holds}
 use Rattle.hal_meaning.specs.Elements.{chosen, offset}
-use Rattle.hal_meaning.specs.Marks.{after_statement, handling_in}
 use Rattle.hal_meaning.specs.States.{State, Evaluated, Gives, Asks, Caught, Restarts, Lost, bind, Flow, Normal, Leaves, Repeats, Returned}
 use Rattle.hal_meaning.specs.Bodies.{Body}
 use Rattle.hal_meaning.specs.Calls.{inputs_of, returned_by, call}
 use Rattle.hal_meaning.specs.Sets.{body_at}
-use Rattle.hal_meaning.specs.Access.{Here, raise, turn, store, request_made}
+use Rattle.hal_meaning.specs.Access.{Here, raise, turn, request_made}
 use Rattle.hal_meaning.specs.Variables.{Meant, MeantData, MeantConstant, MeantEvent, MeantBlock, MeantBuiltin, MeantNothing, name_meant, kind_of_first}
-use Rattle.hal_meaning.specs.Expressions.{Located, inputs_at, expression, values, passed, chosen_data, data_chosen, meant_chosen, literal_value}
-use Rattle.hal_meaning.specs.Statements.{goes_on, returned_in, called, received_by, is_array_named, received, all_received, channel_of, line_fitting, written, is_meant, group_left, After, NextTurn, Ended, after_turn, goes_round, turn_made, turn_if, guard_holds, first_holds, label_name, looping, goes_behind, one_of, statement, basic_statement, otherwise, grouped, statements}
-use Rattle.hal_meaning.specs.Tasks.{Looping, Meaning, Tested, Resuming, Cycling}
+use Rattle.hal_meaning.specs.Expressions.{Located, inputs_at, expression, values, passed, data_chosen, meant_chosen}
+use Rattle.hal_meaning.specs.Statements.{goes_on, returned_in, called, received_by, is_array_named, received, all_received, line_fitting, written, is_meant, group_left, NextTurn, Ended, after_turn, goes_round, turn_made, turn_if, guard_holds, first_holds, goes_behind, one_of}
+use Rattle.hal_meaning.specs.Tasks.{Meaning}
 use Rattle.hal_code.specs.declared.choice.Choice.TheVariants as choice
 use Rattle.hal_code.specs.declared.instr.Instr.{Instr}
 use Rattle.hal_code.specs.declared.instr.Instr.TheVariants as instr
-use Rattle.hal_code.specs.Cores.{Operand, Val, At, Goes, Asks, Then, Setting, Step, Waits, Moves}
+use Rattle.hal_code.specs.Cores.{Operand, Val, At, Goes, Asks, Then, Step, Waits, Moves}
 use Rattle.hal_code.specs.Raising.{raised_before}
 use Rattle.hal_code.specs.Addressing.{stored_at}
 use Rattle.hal_code.specs.Machine.{act}
 use Rattle.hal_agreement.specs.Codes.{Code}
-use Rattle.hal_agreement.specs.Sites.{Site, site_of}
-use Rattle.hal_agreement.specs.PlacedExpressions.{Has, One, AddressAt, ExpressionAt}
-use Rattle.hal_agreement.specs.PlacedStatements.{Opened, opened, exit_of, again_of, Leaving, ToFinish, ByResult, NoReturn, Exits, within_group, of_block, KeptAt, ReceiverAt, ReceiversAt, ChannelAt, ItemsAt, ConditionAt, FirstTestAt, TestAt, ReturnAt, ResultBy, ResultAt, CalledAt, StatementAt, BasicAt, AlternativeAt, GroupAt, StatementsAt}
+use Rattle.hal_agreement.specs.Sites.{site_of}
+use Rattle.hal_agreement.specs.PlacedExpressions.{Has, One, ExpressionAt}
+use Rattle.hal_agreement.specs.PlacedStatements.{opened, exit_of, again_of, ByResult, Exits, within_group, KeptAt, ReceiverAt, ReceiversAt, ChannelAt, ItemsAt, ConditionAt, FirstTestAt, TestAt, ResultBy, ResultAt, CalledAt, AlternativeAt}
 use Rattle.hal_agreement.proofs.Leading.{Leads, stays, through, acts_to}
-use Rattle.hal_agreement.proofs.Reaching.{Nest, behind, setting, core_at, Arrives, Holds, Reaches, OnStep, before, bind_reaches, bind_on, asks_reaches, acts}
+use Rattle.hal_agreement.proofs.Reaching.{Nest, setting, core_at, Arrives, Holds, Reaches, OnStep, before, bind_reaches, bind_on, asks_reaches, acts}
 use Rattle.hal_agreement.proofs.Calling.{args_step, on_step, inputs_same, call_reaches}
-use Rattle.hal_agreement.proofs.Knowing.{going_to, Out, flow_to, Marks, Leads_out, Sound}
-use Rattle.hal_agreement.proofs.Raising.{Standing, bind_bind, asks_then, raised_reaches, store_reaches, turned_reaches}
+use Rattle.hal_agreement.proofs.Knowing.{going_to, Out, flow_to, Leads_out, Sound}
+use Rattle.hal_agreement.proofs.Raising.{Standing, bind_bind, raised_reaches, store_reaches, turned_reaches}
 use Rattle.hal_agreement.proofs.Expressing.{name_same, expression_reaches, passed_reaches}
 use Rattle.hal_agreement.proofs.Viewing.{address_reaches}
 

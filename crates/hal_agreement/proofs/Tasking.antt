@@ -1,27 +1,25 @@
 -- Tasks do what their code does: the next turns of loops, statements of ON ERROR, and the cycles of processes.
-use Rattle.std.specs.Prelude.{◌≡◌, ℕ, zero, suc, ◌≤◌, map, Bool, true, false, List, [], ◌∷◌, Option, Some, None}
+use Rattle.std.specs.Prelude.{◌≡◌, ℕ, zero, suc, map, false, List, [], ◌∷◌, Option, Some, None}
 use Rattle.std.proofs.Common.{refl, sym, subst, arith}
-use Rattle.hal_grammar.specs.Statements.{Guard}
 use Rattle.hal_values.specs.declared.request.Request.TheVariants as request
-use Rattle.hal_values.specs.Answers.{Answered, error}
+use Rattle.hal_values.specs.Answers.{Answered}
 use Rattle.hal_values.specs.Answers as answered
 use Rattle.hal_states.specs.Spots.{Kept}
-use Rattle.hal_states.specs.Modes.{asking, are_spent}
+use Rattle.hal_states.specs.Modes.{asking}
 use Rattle.hal_meaning.specs.Marks.{Handling, handling_in}
-use Rattle.hal_meaning.specs.States.{State, state, with_places, Evaluated, Gives, Asks, Caught, Restarts, Lost, bind, Flow, Normal, Leaves, Repeats, Returned}
+use Rattle.hal_meaning.specs.States.{State, state, with_places, Evaluated, Gives, Asks, Caught, Restarts, Lost, Flow, Normal, Leaves, Repeats, Returned}
 use Rattle.hal_meaning.specs.Access.{Here}
 use Rattle.hal_meaning.specs.Bodies.{Body}
 use Rattle.hal_meaning.specs.Calls as calls
 use Rattle.hal_meaning.specs.Calls.{entering, is_function}
 use Rattle.hal_values.specs.declared.environment.Entry.{Entry}
 use Rattle.hal_meaning.specs.Statements.{turn_if, goes_behind, grouped, statement, statements}
-use Rattle.hal_meaning.specs.Tasks.{Meaning, Tested, Entering, Resuming, Cycling}
+use Rattle.hal_meaning.specs.Tasks.{Meaning, Tested, Entering, Cycling}
 use Rattle.hal_meaning.specs.Runs.{held_first, in_function, ended, to_end, handled, restarted, finished, finished_behind, cycle, task, more_tasks, no_tasks, tasks}
 use Rattle.hal_code.specs.declared.instr.Instr.TheVariants as instr
 use Rattle.hal_code.specs.declared.row.Block.{Block}
 use Rattle.hal_code.specs.Addressing.{cleared}
-use Rattle.hal_code.specs.Cores.{core, Goes, Then, Renews, Step, Waits, Moves}
-use Rattle.hal_code.specs.Raising.{stuck}
+use Rattle.hal_code.specs.Cores.{core, Goes, Then, Renews, Step, Moves}
 use Rattle.hal_code.specs.Machine.{begun}
 use Rattle.hal_agreement.specs.Codes.{Code}
 use Rattle.hal_agreement.specs.Sites.{site_of}
@@ -30,7 +28,7 @@ use Rattle.hal_agreement.specs.PlacedBlocks.{ProcessAt, ClearsAt, cleared_by, le
 use Rattle.hal_agreement.proofs.Knowing.{Out, flow_to, Marks, Leads_out, Ending, Sound}
 use Rattle.hal_agreement.proofs.Handling.{HandledAt, each_handled}
 use Rattle.hal_agreement.proofs.Leading.{Leads, stays, through, acts_to}
-use Rattle.hal_agreement.proofs.Reaching.{Nest, nest, behind, setting, core_at, Arrives, Holds, Reaches, OnStep, before, bind_on, acts}
+use Rattle.hal_agreement.proofs.Reaching.{Nest, nest, behind, setting, core_at, Holds, Reaches, OnStep, before, bind_on, acts}
 use Rattle.hal_agreement.proofs.Raising.{Standing, asks_then}
 use Rattle.hal_agreement.proofs.Settling.{end_reaches}
 use Rattle.hal_agreement.proofs.Stating.{FlowsAt, Begins, still, test_reaches, turn_reaches, passes, behind_reaches}

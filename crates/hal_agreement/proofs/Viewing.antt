@@ -1,5 +1,5 @@
 -- CELL with a view of one cell leaves its address.
-use Rattle.std.specs.Prelude.{◌≡◌, ℕ, suc, ◌+◌, List, [], ◌∷◌, Option, Some, None, slice_get}
+use Rattle.std.specs.Prelude.{◌≡◌, ℕ, suc, List, [], ◌∷◌, Option, Some, None, slice_get}
 use Rattle.std.proofs.Common.{refl, sym, ap, subst, ◌∙◌, arith}
 use Rattle.hal_values.specs.declared.value.Kind.{Kind}
 use Rattle.hal_states.specs.Spots.{Spot, Shared, Own, Nowhere, further}

@@ -1,5 +1,5 @@
 -- Where the code of statements stands: from an instruction to the one at which control goes on.
-use Rattle.std.specs.Prelude.{◌≡◌, ℕ, zero, suc, ◌==◌, nat_lt, length, Bool, true, false, List, [], ◌∷◌, pos, Option, Some, None, if◌then◌else◌}
+use Rattle.std.specs.Prelude.{◌≡◌, ℕ, suc, ◌==◌, nat_lt, length, true, false, List, [], ◌∷◌, Option, Some, None, if◌then◌else◌}
 use Rattle.hal_grammar.specs.Leaves.{Naming, Integer}
 use Rattle.hal_grammar.specs.Expressions.{Expression, Literal, Decimal, Expressions, NoExpressions, MoreExpressions, Reference, Refers, Unsubscripted}
 use Rattle.hal_grammar.specs.Statements as statements
