@@ -66,9 +66,9 @@ fn push_item(
     push_cells(into, group, &kinds, &values)
 }
 
-/// Adds the cells of what a phrase declares.
+/// Adds the shared cells of what a phrase declares (language document, Places).
 #[tactic(auto, using(hal_elements::proofs::Repeated::none_behind))]
-fn push_phrase(
+pub fn push_cells_at(
     alloc: Global,
     into: &mut Vec<Cell>,
     names: &Names<'_>,
@@ -99,7 +99,7 @@ pub fn cells_of(alloc: Global, names: &Names<'_>, known: &Known) -> Result<Vec<C
     let mut list = Vec::new(alloc);
     let phrases = names.phrases();
     for phrase in phrases {
-        push_phrase(alloc, &mut list, names, known, phrase)?;
+        push_cells_at(alloc, &mut list, names, known, phrase)?;
     }
     Ok(list)
 }

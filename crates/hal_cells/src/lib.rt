@@ -7,6 +7,6 @@ mod sharing;
 mod storing;
 mod storings;
 
-pub use cells::cells_of;
+pub use cells::{cells_of, push_cells_at};
 pub use storing::Storing;
 pub use storings::{is_in_unit, parameter, storing_of};

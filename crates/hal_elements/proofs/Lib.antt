@@ -2,3 +2,4 @@ pub mod Attributes
 pub mod Repeated
 pub mod Shaped
 pub mod Parted
+pub mod Capped

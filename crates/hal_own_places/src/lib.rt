@@ -8,3 +8,4 @@ mod sole;
 
 pub use owning::own_places;
 pub use place::{OwnPlaces, Place};
+pub use sole::is_sole;

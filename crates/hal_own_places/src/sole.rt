@@ -13,8 +13,8 @@ pub(crate) fn are_several(reaching: &[usize]) -> bool
     }
 }
 
-/// Whether one process alone reaches a block; one that none reaches counts as the first one's.
-pub(crate) fn is_sole(all: &[usize], process: usize, reaching: &[usize]) -> bool
+/// Whether one process alone reaches a block; one that none reaches counts as the first one's (language document, Places).
+pub fn is_sole(all: &[usize], process: usize, reaching: &[usize]) -> bool
     ensures { result ≡ places.is_sole all.now process reaching.now }
 {
     match reaching {
