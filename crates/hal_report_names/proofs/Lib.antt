@@ -1,0 +1,6 @@
+pub mod Lists
+pub mod Sized
+pub mod Placed
+pub mod Shown
+pub mod RowsAlike
+pub mod Roomy
