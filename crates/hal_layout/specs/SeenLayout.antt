@@ -1,5 +1,6 @@
 -- What each layout of the program is.
-use Rattle.std.specs.Prelude.{map}
+use Rattle.std.specs.Prelude.{ℕ, List, Vec, map}
+use Rattle.std.specs.declared.alloc.Global.{Global}
 use Rattle.hal_event_expressions.specs.SeenStated.{seen_stated}
 use Rattle.hal_own_places.specs.SeenPlaces.{seen_own}
 use Rattle.hal_processes.specs.SeenPaths.{seen_path}
@@ -14,4 +15,9 @@ seen_layout l = record {
   first = l.first;
   events = l.events.items;
   expressions = map seen_stated l.expressions.items;
+  names = l.names.items;
 }
+
+-- texts are seen as their bytes
+abbrev pub seen_texts : Vec (List ℕ) Global → List (List ℕ)
+seen_texts texts = texts.items

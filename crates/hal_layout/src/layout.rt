@@ -2,7 +2,7 @@
 
 use hal_event_expressions::Stated;
 use hal_own_places::OwnPlaces;
-use hal_values::{Cell, EventStart};
+use hal_values::{Cell, EventStart, ReportName};
 
 /// The layout of a set of files.
 #[derive(Drop)]
@@ -19,4 +19,6 @@ pub struct Layout {
     pub events: Vec<EventStart>,
     /// The event expressions, in the order in which they stand.
     pub expressions: Vec<Stated>,
+    /// The names that the report shows, in the order of the declarations.
+    pub names: Vec<ReportName>,
 }
