@@ -1,5 +1,5 @@
 -- Data have as many cells or places as their shape has elements.
-use Rattle.std.proofs.Common.{◌≡◌, ◌∙◌, ◌≤◌, ◌+◌, ◌*◌, ◌&&◌, ℕ, zero, suc, pos, negsuc, Bool, true, false, nat_le, List, [], ◌∷◌, ◌++◌, Option, Some, None, length, map, flat_map, unwrap_or, if◌then◌else◌, refl, ap, arith, length-append}
+use Rattle.std.proofs.Common.{◌≡◌, ◌∙◌, ◌≤◌, ◌*◌, ◌&&◌, ℕ, zero, suc, pos, negsuc, Bool, true, false, nat_le, List, [], ◌∷◌, ◌++◌, Option, Some, None, length, map, flat_map, unwrap_or, if◌then◌else◌, refl, ap, arith, length-append}
 use Rattle.std.specs.Option.{option_map}
 use Rattle.std.proofs.lemmas.Bool.{leb-true}
 use Rattle.std.proofs.lemmas.List.{length-replicate}
