@@ -20,7 +20,7 @@ pub enum Found {
 }
 
 /// Whether two selectors are the same.
-fn are_same(one: Selector, other: Selector) -> bool
+pub(crate) fn are_same(one: Selector, other: Selector) -> bool
     ensures { result ≡ searching.same_selector one other }
 {
     match (one, other) {

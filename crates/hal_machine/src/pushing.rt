@@ -1,11 +1,10 @@
 //! Instructions that put values on the stack or take them off, and jumps.
 
-ghost use Rattle.std.specs.Prelude.{◌≡◌, ◌<◌, ◌^◌, ◌-◌, pos};
+ghost use Rattle.std.specs.Prelude.{◌<◌, ◌^◌, ◌-◌, pos};
 ghost use Rattle.hal_values.specs.declared.value.Value.TheVariants as value;
 ghost use Rattle.hal_code.specs.Addressing.{pushed};
-ghost use Rattle.hal_code.specs.Computing.{act_dup, act_drop};
-ghost use Rattle.hal_code.specs.Cores.{going, Moves};
-ghost use Rattle.hal_machine.specs.Seen.{core_seen, stack_seen, step_seen, Does};
+ghost use Rattle.hal_code.specs.Computing.{act_drop};
+ghost use Rattle.hal_machine.specs.Seen.{core_seen, stack_seen, Does};
 
 use crate::machine::{Machine, Setting};
 use crate::operands::Slot;
@@ -88,13 +87,5 @@ impl Machine {
         }
         self.at += 1;
         Ok(Stepped::Moves)
-    }
-
-    /// JUMP.
-    pub(crate) fn jump(&mut self, setting: &Setting<'_>, target: usize) -> Stepped
-        ensures { step_seen setting.now.image.now result self.new ≡ Moves (going target (stack_seen self.old.operands) (core_seen self.old)) }
-    {
-        self.at = target;
-        Stepped::Moves
     }
 }
