@@ -153,6 +153,30 @@ impl Machine {
             .retain(|entry: &Entry| !are_same(selector, entry.selector));
     }
 
+    /// The entry is the latest one.
+    fn set_entry(&mut self, entry: Entry) -> Result<(), AllocError>
+        ensures { OnOk result (core_seen self.new ≡ with_entries (with_entry entry self.old.entries.items) (core_seen self.old)) }
+    {
+        self.without_entry(entry.selector);
+        self.entries.insert(0, entry)?;
+        Ok(())
+    }
+
+    /// ON, of an entry.
+    pub(crate) fn on(
+        &mut self,
+        setting: &Setting<'_>,
+        selector: Selector,
+        act: Act,
+    ) -> Result<Stepped, AllocError>
+        requires { self.old.at < 2 ^ 64 - 1 }
+        ensures { Does setting.now.image.now result self.new (Moves (with_entries (with_entry (record { selector = selector; act = act }) self.old.entries.items) (going (suc self.old.at) (stack_seen self.old.operands) (core_seen self.old)))) }
+    {
+        self.set_entry(Entry { selector, act })?;
+        self.at += 1;
+        Ok(Stepped::Moves)
+    }
+
     /// OFF.
     pub(crate) fn off(&mut self, setting: &Setting<'_>, group: u8, number: u8) -> Stepped
         requires { self.old.at < 2 ^ 64 - 1 }

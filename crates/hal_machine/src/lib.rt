@@ -2,6 +2,7 @@
 //! definitions, by which each instruction does what the definitions say.
 #![tactic(auto)]
 
+mod asking;
 mod controlling;
 mod errors;
 mod found;
