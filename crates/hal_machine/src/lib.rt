@@ -10,6 +10,7 @@ mod machine;
 mod operands;
 mod pushing;
 mod step;
+mod values;
 
 pub use machine::{Frame, Held, Machine, Return, Setting};
 pub use operands::{Operands, Place, Slot};
