@@ -52,7 +52,7 @@ impl Machine {
     }
 
     /// What an error meets in all blocks that are entered.
-    fn search(&self, error: ErrNo) -> Found
+    pub(crate) fn search(&self, error: ErrNo) -> Found
         ensures { found_seen result ≡ searching.search (are_spent self.now.groups self.now.turns) (all_entered (core_seen self.now).entries (core_seen self.now).frames) error }
     {
         found_from(
@@ -85,7 +85,7 @@ impl Machine {
     }
 
     /// What is asked to change an event before SYSTEM or IGNORE takes effect.
-    fn change(&self, setting: &Setting<'_>, side: Side) -> Option<Request>
+    pub(crate) fn change(&self, setting: &Setting<'_>, side: Side) -> Option<Request>
         ensures { (w : cores.Wait) (otherwise : cores.Step) (c : cores.Core) → raising.sided (setting_seen setting.now) self.now.groups side w otherwise c ≡ asks_or result w otherwise c }
     {
         match self.groups {
@@ -103,7 +103,7 @@ impl Machine {
     }
 
     /// The error ends the process.
-    fn ended(&self, setting: &Setting<'_>, error: ErrNo, side: Side) -> Stepped
+    pub(crate) fn ended(&self, setting: &Setting<'_>, error: ErrNo, side: Side) -> Stepped
         ensures { step_seen setting.now.image.now result self.now ≡ raising.sided (setting_seen setting.now) self.now.groups side (cores.Halts error) (cores.Waits (Request.Stop error) (cores.Halts error) (core_seen self.now)) (core_seen self.now) }
     {
         match self.change(setting, side) {
@@ -113,7 +113,7 @@ impl Machine {
     }
 
     /// A statement of ON ERROR is entered, which is a turn.
-    fn entered(&mut self, setting: &Setting<'_>, level: usize, target: u64) -> Stepped
+    pub(crate) fn entered(&mut self, setting: &Setting<'_>, level: usize, target: u64) -> Stepped
         ensures { step_seen setting.now.image.now result self.new ≡ raising.entered_at (raising.cut level target (core_seen self.old).frames (core_seen self.old)) }
     {
         self.cut(level, target as usize);

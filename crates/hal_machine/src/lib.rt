@@ -2,6 +2,7 @@
 //! definitions, by which each instruction does what the definitions say.
 #![tactic(auto)]
 
+mod addressing;
 mod asking;
 mod controlling;
 mod errors;
@@ -9,6 +10,7 @@ mod found;
 mod machine;
 mod operands;
 mod pushing;
+mod putting;
 mod step;
 mod values;
 

@@ -1,5 +1,7 @@
 //! What the machine holds of a process.
 
+ghost use Rattle.std.specs.Prelude.{◌≤◌, length};
+
 use crate::operands::{Operands, Place};
 use hal_code::{Choice, ImageParts, ResultKind};
 use hal_values::{Cell, Entry, ErrNo, Value};
@@ -61,4 +63,5 @@ pub struct Setting<'a> {
     pub begin: usize,
     /// How many turns an UPDATE block has.
     pub turns: u32,
+    ghost few_cells: { length cells.now ≤ 65536 },
 }
