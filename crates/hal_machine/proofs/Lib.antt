@@ -1,2 +1,3 @@
 mod Finding
 mod Mapping
+mod Stuck

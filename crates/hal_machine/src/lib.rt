@@ -4,6 +4,7 @@
 
 mod addressing;
 mod asking;
+mod computing;
 mod controlling;
 mod errors;
 mod found;
