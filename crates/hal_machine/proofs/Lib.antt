@@ -1,3 +1,4 @@
 mod Finding
 mod Mapping
 mod Stuck
+mod Depths
