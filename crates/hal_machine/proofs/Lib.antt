@@ -2,3 +2,6 @@ mod Finding
 mod Mapping
 mod Stuck
 mod Depths
+mod TakenTops
+mod Texts
+mod Spreads

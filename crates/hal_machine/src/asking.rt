@@ -1,6 +1,6 @@
 //! Instructions that ask.
 
-ghost use Rattle.std.specs.Prelude.{◌≡◌, ◌<◌, ◌≤◌, ◌-◌, ◌^◌, nat_lt, length, suc, []};
+ghost use Rattle.std.specs.Prelude.{◌≡◌, ◌<◌, ◌-◌, ◌^◌, nat_lt, suc, []};
 ghost use Rattle.hal_values.specs.declared.request.Request.TheVariants as request;
 ghost use Rattle.hal_values.specs.declared.request.Spot.TheVariants as asked;
 ghost use Rattle.hal_values.specs.declared.value.Kind.TheVariants as kind;
@@ -12,7 +12,7 @@ ghost use Rattle.hal_machine.specs.Seen.{core_seen, stack_seen, setting_seen, st
 
 use crate::machine::{Machine, Setting};
 use crate::step::{Rest, Stepped, Wait};
-use hal_values::{Kind, Line, Request, Spot};
+use hal_values::{Kind, Request, Spot};
 use std::alloc::AllocError;
 
 /// In a process's place this is the process itself.
@@ -37,16 +37,6 @@ impl Setting<'_> {
             process
         }
     }
-}
-
-/// The line of these bytes.
-fn line_of(bytes: &[u8]) -> Line
-    requires { length bytes.now ≤ 1000 }
-    ensures { result ≡ bytes.now }
-{
-    let mut line = Line::new();
-    let _fits = line.append(bytes);
-    line
 }
 
 impl Machine {
@@ -183,17 +173,5 @@ impl Machine {
         } else {
             self.bits(setting, 1, 0)
         }
-    }
-
-    /// A line that fits is printed.
-    fn print_line(&mut self, setting: &Setting<'_>, channel: u8) -> Stepped
-        requires at { self.old.at < 2 ^ 64 - 1 }
-        requires fits { length self.old.line.items ≤ 1000 }
-        ensures { step_seen setting.now.image.now result self.new ≡ cores.Waits (request.Print channel self.old.line.items) (cores.Then cores.Goes) (with_line [] (going (suc self.old.at) (stack_seen self.old.operands) (core_seen self.old))) }
-    {
-        let line = line_of(self.line.as_slice());
-        self.line.clear();
-        self.at += 1;
-        Stepped::Waits(Request::Print(channel, line), Wait::Then(Rest::Nothing))
     }
 }

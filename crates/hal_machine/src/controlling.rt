@@ -1,14 +1,16 @@
 //! Instructions that say where control goes on, calls, and entries for errors.
 
-ghost use Rattle.std.specs.Prelude.{◌≡◌, ◌<◌, ◌-◌, ◌^◌, suc, [], ◌∷◌, OnOk, if◌then◌else◌};
+ghost use Rattle.std.specs.Prelude.{◌≡◌, ◌<◌, ◌-◌, ◌^◌, suc, [], ◌∷◌, Some, OnOk, if◌then◌else◌};
+ghost use Rattle.hal_values.specs.declared.value.Value.{Value};
 ghost use Rattle.hal_values.specs.Answers.{error};
 ghost use Rattle.hal_values.specs.Searching.{with_entry, without};
-ghost use Rattle.hal_code.specs.Controlling.{zero_of, with_result, calling, act_jump_not, act_turn, called, act_return, selector_of, side_of, act_of, act_on, act_off};
+ghost use Rattle.hal_code.specs.declared.choice.Choice.TheVariants as choice;
+ghost use Rattle.hal_code.specs.Controlling.{zero_of, with_result, calling, returned, act_jump_not, act_turn, called, act_return, selector_of, side_of, act_of, act_on, act_off};
 ghost use Rattle.hal_code.specs.Asking.{act_open, act_close};
 ghost use Rattle.hal_code.specs.Cores as cores;
 ghost use Rattle.hal_code.specs.Cores.{going, with_entries, Moves};
 ghost use Rattle.hal_code.specs.Raising.{raised};
-ghost use Rattle.hal_machine.specs.Seen.{core_seen, stack_seen, setting_seen, step_seen, Does};
+ghost use Rattle.hal_machine.specs.Seen.{core_seen, stack_seen, setting_seen, return_seen, step_seen, with_frame, Does};
 
 use crate::found::are_same;
 use crate::machine::{Frame, Machine, Return, Setting};
@@ -273,6 +275,103 @@ impl Machine {
                 self.turns -= 1;
                 Ok(Stepped::Counts)
             }
+        }
+    }
+
+    /// Control goes back to the block below, which has these entries.
+    fn go_back(&mut self, entries: Vec<Entry>, back: Return)
+        ensures { core_seen self.new ≡ cores.core back.at (stack_seen back.operands) back.line.items entries.items (core_seen self.old).frames (core_seen self.old).kept (core_seen self.old).mode }
+    {
+        self.at = back.at;
+        self.operands = back.operands;
+        self.line = back.line;
+        self.entries = entries;
+    }
+
+    /// Control goes back with this result, where one is wanted.
+    #[tactic(auto, using(crate::proofs::Stuck::no_result))]
+    fn return_value(
+        &mut self,
+        setting: &Setting<'_>,
+        entries: Vec<Entry>,
+        back: Return,
+    ) -> Result<Stepped, AllocError>
+        ensures { (wanted : Value) → Does setting.now.image.now result self.new (returned (Some wanted) (stack_seen self.old.operands) (return_seen back) entries.items (core_seen self.old).frames (with_frame (record { entries = entries.items; back = Some (return_seen back) }) (core_seen self.old))) }
+    {
+        let mut back = back;
+        match self.operands.take()? {
+            None => {
+                self.frames.push(Frame {
+                    entries,
+                    back: Some(back),
+                })?;
+                Ok(self.stuck(setting))
+            }
+            Some(one) => {
+                back.operands.push(one)?;
+                self.go_back(entries, back);
+                Ok(Stepped::Moves)
+            }
+        }
+    }
+
+    /// Control goes back, where a result of this kind is wanted.
+    fn return_kind(
+        &mut self,
+        setting: &Setting<'_>,
+        kind: ResultKind,
+        entries: Vec<Entry>,
+        back: Return,
+    ) -> Result<Stepped, AllocError>
+        ensures { Does setting.now.image.now result self.new (returned (zero_of (choice.Known kind)) (stack_seen self.old.operands) (return_seen back) entries.items (core_seen self.old).frames (with_frame (record { entries = entries.items; back = Some (return_seen back) }) (core_seen self.old))) }
+    {
+        match kind {
+            ResultKind::Nothing => {
+                self.go_back(entries, back);
+                Ok(Stepped::Moves)
+            }
+            ResultKind::Integer => self.return_value(setting, entries, back),
+            ResultKind::Bits => self.return_value(setting, entries, back),
+            ResultKind::Text => self.return_value(setting, entries, back),
+        }
+    }
+
+    /// Control goes back, where this result is wanted.
+    fn return_to(
+        &mut self,
+        setting: &Setting<'_>,
+        wanted: Choice<ResultKind>,
+        entries: Vec<Entry>,
+        back: Return,
+    ) -> Result<Stepped, AllocError>
+        ensures { Does setting.now.image.now result self.new (returned (zero_of wanted) (stack_seen self.old.operands) (return_seen back) entries.items (core_seen self.old).frames (with_frame (record { entries = entries.items; back = Some (return_seen back) }) (core_seen self.old))) }
+    {
+        match wanted {
+            Choice::Known(kind) => self.return_kind(setting, kind, entries, back),
+            Choice::Other(_) => {
+                self.go_back(entries, back);
+                Ok(Stepped::Moves)
+            }
+        }
+    }
+
+    /// RETURN.
+    pub(crate) fn return_back(&mut self, setting: &Setting<'_>) -> Result<Stepped, AllocError>
+        ensures { Does setting.now.image.now result self.new (act_return (core_seen self.old).frames (core_seen self.old)) }
+    {
+        let Some(frame) = self.frames.pop() else {
+            return Ok(self.stuck(setting));
+        };
+        let Frame { entries, back } = frame;
+        match back {
+            None => {
+                self.frames.push(Frame {
+                    entries,
+                    back: None,
+                })?;
+                Ok(self.stuck(setting))
+            }
+            Some(back) => self.return_to(setting, back.result, entries, back),
         }
     }
 }

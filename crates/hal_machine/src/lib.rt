@@ -10,10 +10,15 @@ mod errors;
 mod found;
 mod machine;
 mod operands;
+mod printing;
 mod pushing;
 mod putting;
+mod scheduling;
 mod step;
+mod taking;
+mod times;
 mod values;
+mod viewing;
 
 pub use machine::{Frame, Held, Machine, Return, Setting};
 pub use operands::{Operands, Place, Slot};
