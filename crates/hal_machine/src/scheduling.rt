@@ -4,6 +4,8 @@ ghost use Rattle.std.specs.Prelude.{◌≡◌, ◌<◌, ◌-◌, ◌^◌, ℤ, d
 ghost use Rattle.hal_code.specs.Asking as asking;
 ghost use Rattle.hal_code.specs.Cores.{going};
 ghost use Rattle.hal_values.specs.declared.plan.When.{When};
+ghost use Rattle.hal_values.specs.declared.plan.Guard.{Guard};
+ghost use Rattle.hal_code.specs.declared.choice.Choice.TheVariants as choice;
 ghost use Rattle.hal_machine.specs.Fitting.{taken_seen};
 ghost use Rattle.hal_machine.specs.Tops.{prioritized_by};
 ghost use Rattle.hal_machine.specs.Seen.{core_seen, stack_seen, setting_seen, step_seen, again_seen, Does};
@@ -11,8 +13,8 @@ ghost use Rattle.hal_machine.specs.Seen.{core_seen, stack_seen, setting_seen, st
 use crate::machine::{Machine, Setting};
 use crate::step::{Again, Rest, Stepped, Wait};
 use crate::times::{cycle_of, is_priority, nearest_priority};
-use hal_code::{Choice, Delay, Start};
-use hal_values::{ErrNo, Plan, Request, When};
+use hal_code::{Choice, Delay, Limit, Round, Start};
+use hal_values::{Cycle, ErrNo, Guard, Plan, Request, When};
 use std::alloc::AllocError;
 
 /// A priority is outside its range.
@@ -20,6 +22,16 @@ const WRONG_PRIORITY: ErrNo = ErrNo {
     group: 2,
     number: 4,
 };
+
+/// What SCHEDULE says of a process.
+#[derive(Clone, Copy)]
+pub(crate) struct Written {
+    pub(crate) start: Start,
+    pub(crate) priority: Choice<bool>,
+    pub(crate) dependent: Choice<bool>,
+    pub(crate) round: Round,
+    pub(crate) limit: Limit,
+}
 
 impl Machine {
     /// The operands above this depth are taken off, and the instruction is done.
@@ -167,6 +179,71 @@ impl Machine {
                 let priority = self.operands.priority_at(priority, depth);
                 self.schedule_with(setting, draft, start, again, priority)
             }
+        }
+    }
+
+    /// SCHEDULE, with the limit as it is found.
+    fn schedule_until(
+        &mut self,
+        setting: &Setting<'_>,
+        process: u8,
+        plan: Written,
+        dependent: bool,
+        limit: Option<(Guard, usize)>,
+    ) -> Result<Stepped, AllocError>
+        requires { self.old.at < 2 ^ 64 - 1 }
+        ensures { Does setting.now.image.now result self.new (asking.with_limit (setting_seen setting.now) process plan.start plan.priority (choice.Known dependent) plan.round (taken_seen (λ (one : Guard). one) (stack_seen self.old.operands) limit) (core_seen self.old)) }
+    {
+        match limit {
+            None => Ok(self.stuck(setting)),
+            Some((guard, depth)) => {
+                let again = self.operands.round_at(plan.round, depth);
+                let draft = Plan {
+                    process,
+                    when: When::Now,
+                    priority: 0,
+                    dependent,
+                    cycle: Cycle::Once,
+                    guard,
+                };
+                self.schedule_again(setting, draft, plan.start, plan.priority, again)
+            }
+        }
+    }
+
+    /// SCHEDULE, of a process that is there.
+    fn schedule_there(
+        &mut self,
+        setting: &Setting<'_>,
+        process: u8,
+        plan: Written,
+    ) -> Result<Stepped, AllocError>
+        requires { self.old.at < 2 ^ 64 - 1 }
+        ensures { Does setting.now.image.now result self.new (asking.with_limit (setting_seen setting.now) process plan.start plan.priority plan.dependent plan.round (asking.limit_taken (setting_seen setting.now).tables plan.limit (stack_seen self.old.operands)) (core_seen self.old)) }
+    {
+        match plan.dependent {
+            Choice::Known(dependent) => {
+                let limit = self.operands.limit_at(setting, plan.limit, 0);
+                self.schedule_until(setting, process, plan, dependent, limit)
+            }
+            Choice::Other(_) => Ok(self.stuck(setting)),
+        }
+    }
+
+    /// SCHEDULE.
+    pub(crate) fn schedule(
+        &mut self,
+        setting: &Setting<'_>,
+        process: u8,
+        plan: Written,
+    ) -> Result<Stepped, AllocError>
+        requires { self.old.at < 2 ^ 64 - 1 }
+        ensures { Does setting.now.image.now result self.new (asking.act_schedule (setting_seen setting.now) process plan.start plan.priority plan.dependent plan.round plan.limit (core_seen self.old)) }
+    {
+        if setting.has_process(process) {
+            self.schedule_there(setting, process, plan)
+        } else {
+            Ok(self.stuck(setting))
         }
     }
 }
