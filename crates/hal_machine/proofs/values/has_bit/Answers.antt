@@ -1,4 +1,4 @@
-use Rattle.std.proofs.Common.{ℕ, sym, ap, ◌∙◌, ◌^◌, ◌%◌, ◌==◌, lt_of_lt_of_le, pow_mono}
+use Rattle.std.proofs.Common.{ℕ, sym, ap, ◌∙◌, ◌%◌, ◌==◌, lt_of_lt_of_le, pow_mono}
 use Rattle.std.proofs.lemmas.Bool.{le-ltb}
 use Rattle.std.proofs.Math.Nat.{div-eq_of_lt}
 use Rattle.hal_machine.proofs.values.has_bit.Goals as goal
