@@ -36,7 +36,7 @@ use Rattle.hal_operations.specs.Stores.{stored, mended_store}
 use Rattle.hal_states.specs.Spots.{Spot, Shared, Own, Nowhere, Kept, further}
 use Rattle.hal_states.specs.OfKinds.{told}
 use Rattle.hal_states.specs.Modes.{closed}
-use Rattle.hal_states.specs.Numbers.{holds, is_past}
+use Rattle.hal_states.specs.Numbers.{integer_of, holds, is_past}
 use Rattle.hal_states.specs.Times.{nearest_priority, is_priority, Again, Every, After, cycle_of, plan_of}
 use Rattle.hal_states.proofs.Timing.{limited_is, IsAgain, cycle_is}
 use Rattle.hal_code.specs.declared.choice.Choice.{Choice}
@@ -81,9 +81,7 @@ time_is : (t : Time) (stack : List Operand) → IsTaken IsTime (time_taken t sta
 time_is time.Absent stack = tt
 time_is (time.Milliseconds n) stack = limited_is (pos n)
 time_is time.Seconds [] = tt
-time_is time.Seconds (Val (value.Int n) ∷ stack) = limited_is (n *ℤ pos 1000)
-time_is time.Seconds (Val (value.Bits len word) ∷ stack) = tt
-time_is time.Seconds (Val (value.Text text) ∷ stack) = tt
+time_is time.Seconds (Val v ∷ stack) = limited_is (integer_of v *ℤ pos 1000)
 time_is time.Seconds (At at k ∷ stack) = tt
 time_is time.Seconds (Area at shape ∷ stack) = tt
 
@@ -312,19 +310,14 @@ module _ (P : Landing) (s : Setting) (own : s.process < process_count s.tables) 
   Sound-counted_on false before next stack c writes lands = moves P s.tables _ writes lands
 
   Sound-next : (stack : List Operand) (c : Core) → Writes s.tables c.mode → P (suc c.at) c.frames → Sound s.tables P (act_next stack c)
-  Sound-next (Val (value.Int last) ∷ Val (value.Int step) ∷ Val (value.Int before) ∷ stack) c writes lands = Sound-counted_on (is_past step last (before +ℤ step)) before (before +ℤ step) stack c writes lands
-  Sound-next (Val (value.Int last) ∷ Val (value.Int step) ∷ Val (value.Bits len word) ∷ stack) c writes lands = sticks P s.tables c writes
-  Sound-next (Val (value.Int last) ∷ Val (value.Int step) ∷ Val (value.Text text) ∷ stack) c writes lands = sticks P s.tables c writes
-  Sound-next (Val (value.Int last) ∷ Val (value.Int step) ∷ At at k ∷ stack) c writes lands = sticks P s.tables c writes
-  Sound-next (Val (value.Int last) ∷ Val (value.Int step) ∷ Area at shape ∷ stack) c writes lands = sticks P s.tables c writes
-  Sound-next (Val (value.Int last) ∷ Val (value.Int step) ∷ []) c writes lands = sticks P s.tables c writes
-  Sound-next (Val (value.Int last) ∷ Val (value.Bits len word) ∷ stack) c writes lands = sticks P s.tables c writes
-  Sound-next (Val (value.Int last) ∷ Val (value.Text text) ∷ stack) c writes lands = sticks P s.tables c writes
-  Sound-next (Val (value.Int last) ∷ At at k ∷ stack) c writes lands = sticks P s.tables c writes
-  Sound-next (Val (value.Int last) ∷ Area at shape ∷ stack) c writes lands = sticks P s.tables c writes
-  Sound-next (Val (value.Int last) ∷ []) c writes lands = sticks P s.tables c writes
-  Sound-next (Val (value.Bits len word) ∷ stack) c writes lands = sticks P s.tables c writes
-  Sound-next (Val (value.Text text) ∷ stack) c writes lands = sticks P s.tables c writes
+  Sound-next (Val last ∷ Val step ∷ Val before ∷ stack) c writes lands =
+      Sound-counted_on (is_past (integer_of step) (integer_of last) (integer_of before +ℤ integer_of step)) (integer_of before) (integer_of before +ℤ integer_of step) stack c writes lands
+  Sound-next (Val last ∷ Val step ∷ At at k ∷ stack) c writes lands = sticks P s.tables c writes
+  Sound-next (Val last ∷ Val step ∷ Area at shape ∷ stack) c writes lands = sticks P s.tables c writes
+  Sound-next (Val last ∷ Val step ∷ []) c writes lands = sticks P s.tables c writes
+  Sound-next (Val last ∷ At at k ∷ stack) c writes lands = sticks P s.tables c writes
+  Sound-next (Val last ∷ Area at shape ∷ stack) c writes lands = sticks P s.tables c writes
+  Sound-next (Val last ∷ []) c writes lands = sticks P s.tables c writes
   Sound-next (At at k ∷ stack) c writes lands = sticks P s.tables c writes
   Sound-next (Area at shape ∷ stack) c writes lands = sticks P s.tables c writes
   Sound-next [] c writes lands = sticks P s.tables c writes
@@ -409,10 +402,8 @@ module _ (P : Landing) (s : Setting) (own : s.process < process_count s.tables) 
 
   Sound-priority : (p : ℕ) (stack : List Operand) (c : Core) → Writes s.tables c.mode → P (suc c.at) c.frames → Sound s.tables P (act_priority s p stack c)
   Sound-priority p [] c writes lands = sticks P s.tables c writes
-  Sound-priority p (Val (value.Int n) ∷ stack) c writes lands =
-      either P s.tables (nat_lt (named s p) (process_count s.tables)) _ _ (λ has. Sound-prioritized (named s p) n _ (ltb-true (named s p) (process_count s.tables) has) writes lands) (λ has. sticks P s.tables c writes)
-  Sound-priority p (Val (value.Bits len word) ∷ stack) c writes lands = sticks P s.tables c writes
-  Sound-priority p (Val (value.Text text) ∷ stack) c writes lands = sticks P s.tables c writes
+  Sound-priority p (Val v ∷ stack) c writes lands =
+      either P s.tables (nat_lt (named s p) (process_count s.tables)) _ _ (λ has. Sound-prioritized (named s p) (integer_of v) _ (ltb-true (named s p) (process_count s.tables) has) writes lands) (λ has. sticks P s.tables c writes)
   Sound-priority p (At at k ∷ stack) c writes lands = sticks P s.tables c writes
   Sound-priority p (Area at shape ∷ stack) c writes lands = sticks P s.tables c writes
 

@@ -1,19 +1,18 @@
 -- What comes of the steps of code whose jumps go on is what the machine asks.
-use Rattle.std.specs.Prelude.{ℕ, zero, suc, ◌≤◌, ◌<◌, ◌≡◌, List, [], ◌∷◌, Some, None}
+use Rattle.std.specs.Prelude.{ℕ, zero, suc, ◌≤◌, ◌<◌, ◌≡◌, List, [], ◌∷◌, Some}
 use Rattle.std.proofs.Common.{refl, sym, ap, subst, ◌∙◌, arith}
 use Rattle.hal_values.specs.Answers.{Answered}
-use Rattle.hal_values.specs.Answers as answered
 use Rattle.hal_values.specs.Tables.{process_count}
 use Rattle.hal_states.specs.Spots.{Kept}
 use Rattle.hal_code.specs.Cores.{Setting, Core, Step, Waits, Moves, Counts}
 use Rattle.hal_code.specs.Machine.{stepped, begun, after_answer}
-use Rattle.hal_code.specs.Courses.{rank, Asked, asked, moving, counting, settled, asked_after}
+use Rattle.hal_code.specs.Courses.{rank, Asked, moving, counting, settled, asked_after}
 use Rattle.hal_code.specs.Executions.{execution, Comes}
 use Rattle.hal_code.specs.Forward.{IsForward}
 use Rattle.hal_code.proofs.Orderly.{Writes, Sound}
 use Rattle.hal_code.proofs.Acting.{Anywhere, Sound-stepped, Sound-begun, Sound-answer}
 use Rattle.hal_code.proofs.Falling.{moves_lower}
-use Rattle.hal_code.proofs.Turning.{Turns, Left, Turns-stepped}
+use Rattle.hal_code.proofs.Turning.{Turns, Turns-stepped}
 
 module _ (s : Setting) (forward : IsForward s.image.code) (own : s.process < process_count s.tables) where
   -- more moves than the rank make no difference

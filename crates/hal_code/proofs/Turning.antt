@@ -11,10 +11,8 @@ use Rattle.hal_values.specs.declared.plan.Plan.{Plan}
 use Rattle.hal_values.specs.declared.plan.When.{When}
 use Rattle.hal_values.specs.declared.request.Request.{Request}
 use Rattle.hal_values.specs.declared.request.Request.TheVariants as request
-use Rattle.hal_values.specs.declared.request.Spot.TheVariants as asked
 use Rattle.hal_values.specs.declared.tables.Cell.{Cell}
 use Rattle.hal_values.specs.declared.value.Kind.{Kind}
-use Rattle.hal_values.specs.declared.value.Kind.TheVariants as kind
 use Rattle.hal_values.specs.declared.value.Value.{Value}
 use Rattle.hal_values.specs.declared.value.Value.TheVariants as value
 use Rattle.hal_values.specs.Answers.{error}
@@ -29,8 +27,8 @@ use Rattle.hal_operations.specs.Parts.{picked, mended_pick, patched, mended_patc
 use Rattle.hal_operations.specs.Stores.{stored, mended_store}
 use Rattle.hal_states.specs.Spots.{Spot, Shared, Own, Nowhere, held_in, further}
 use Rattle.hal_states.specs.OfKinds.{nothing, of_kind}
-use Rattle.hal_states.specs.Modes.{Mode, mode, closed, are_spent, has_bit, noted}
-use Rattle.hal_states.specs.Numbers.{holds, is_past}
+use Rattle.hal_states.specs.Modes.{Mode, mode, closed, are_spent, has_bit}
+use Rattle.hal_states.specs.Numbers.{integer_of, is_past}
 use Rattle.hal_states.specs.Times.{nearest_priority, is_priority, Again, is_again, cycle_of, plan_of}
 use Rattle.hal_code.specs.declared.choice.Choice.{Choice}
 use Rattle.hal_code.specs.declared.choice.Choice.TheVariants as choice
@@ -45,7 +43,7 @@ use Rattle.hal_code.specs.declared.operand.Start.{Start}
 use Rattle.hal_code.specs.declared.row.Block.{Block}
 use Rattle.hal_code.specs.declared.row.View.{View}
 use Rattle.hal_code.specs.Images.{kinds_of}
-use Rattle.hal_code.specs.Cores.{Operand, Val, At, Area, Setting, Core, core, Frame, Return, going, with_line, with_mode, all_entered, Rest, Goes, Puts, Asks, Tries, Plans, Wait, Then, Pushes, Tried, Step, Waits, Moves, Counts}
+use Rattle.hal_code.specs.Cores.{Operand, Val, At, Area, Setting, Core, core, Frame, Return, going, with_line, all_entered, Rest, Goes, Puts, Asks, Tries, Plans, Wait, Then, Tried, Step, Waits, Moves, Counts}
 use Rattle.hal_code.specs.Raising.{stuck, made_if, changed_event, sided, cut, turned_in, turned, entered_at, meets, failing, raised_to, raised, put_cell, put, tried_plan, planned, rested, raised_before}
 use Rattle.hal_code.specs.Addressing.{popped, all_inside, cells_before, spot_of, operand_of, addressed, viewed, is_of_cell, cell_viewed, area_viewed, pushed, fetched_cell, fetched, stored_at, placed, copied_cell, copied, act_fetch, act_peek, act_keep, act_bind, act_copy}
 use Rattle.hal_code.specs.Computing.{tested, act_dup, act_drop, act_one, act_two, counted_places, part_taken, part_picked, act_pick, replaced, part_patched, act_patch, counted_on, act_next}
@@ -256,7 +254,8 @@ module _ (s : Setting) where
   Turns-counted_on false before next stack c = record { is = refl }
 
   Turns-next : (stack : List Operand) (c : Core) → Turns c.mode.turns (act_next stack c)
-  Turns-next (Val (value.Int last) ∷ Val (value.Int step) ∷ Val (value.Int before) ∷ stack) c = Turns-counted_on (is_past step last (before +ℤ step)) before (before +ℤ step) stack c
+  Turns-next (Val last ∷ Val step ∷ Val before ∷ stack) c =
+      Turns-counted_on (is_past (integer_of step) (integer_of last) (integer_of before +ℤ integer_of step)) (integer_of before) (integer_of before +ℤ integer_of step) stack c
   Turns-next stack c = record { is = tt }
 
   Turns-jump_not : (target : ℕ) (stack : List Operand) (c : Core) → Turns c.mode.turns (act_jump_not target stack c)
@@ -312,7 +311,7 @@ module _ (s : Setting) where
   Turns-prioritized p n c = either (is_priority n) _ _ (λ e. record { is = tt }) (λ e. Turns-raised_before s (error 2 4) (Tries (request.Priority p (nearest_priority n))) c)
 
   Turns-priority : (p : ℕ) (stack : List Operand) (c : Core) → Turns c.mode.turns (act_priority s p stack c)
-  Turns-priority p (Val (value.Int n) ∷ stack) c = either (nat_lt (named s p) (process_count s.tables)) _ _ (λ has. Turns-prioritized (named s p) n _) (λ has. record { is = tt })
+  Turns-priority p (Val v ∷ stack) c = either (nat_lt (named s p) (process_count s.tables)) _ _ (λ has. Turns-prioritized (named s p) (integer_of v) _) (λ has. record { is = tt })
   Turns-priority p stack c = record { is = tt }
 
   Turns-waited : (taken : Taken Pause) (c : Core) → Turns c.mode.turns (waited taken c)

@@ -1,0 +1,4 @@
+pub mod Seen
+pub mod Fitting
+pub mod Tops
+pub mod Spreading

@@ -1,0 +1,145 @@
+//! What errors come to.
+
+ghost use Rattle.std.specs.Prelude.{◌≡◌, ◌<◌, ◌^◌, nat_lt, Some, None};
+ghost use Rattle.hal_values.specs.Searching as searching;
+ghost use Rattle.hal_states.specs.Modes.{are_spent};
+ghost use Rattle.hal_values.specs.Tables.{event_count};
+ghost use Rattle.hal_values.specs.Answers as answers;
+ghost use Rattle.hal_code.specs.Cores as cores;
+ghost use Rattle.hal_code.specs.Cores.{all_entered};
+ghost use Rattle.hal_code.specs.Raising as raising;
+ghost use Rattle.hal_machine.specs.Seen.{core_seen, setting_seen, found_seen, step_seen, asks_or, Does};
+
+use crate::found::{Found, found_from};
+use crate::machine::{Machine, Setting};
+use crate::step::{Rest, Stepped, Wait};
+use hal_values::{ErrNo, Request, Side};
+use std::alloc::AllocError;
+
+/// The error of a process that finds no instruction or none that fits its operands.
+const NO_ERROR: ErrNo = ErrNo {
+    group: 0,
+    number: 0,
+};
+
+impl Setting<'_> {
+    /// Whether there is an event with this number.
+    #[tactic(auto, using(crate::proofs::Mapping::length_map))]
+    pub(crate) fn has_event(&self, event: u16) -> bool
+        ensures { result ≡ nat_lt event (event_count (setting_seen self.now).tables) }
+    {
+        usize::from(event)
+            < self.image.processes.as_slice().len() + self.image.events.as_slice().len()
+    }
+}
+
+impl Machine {
+    /// No instruction is there that fits the operands.
+    pub(crate) fn stuck(&self, setting: &Setting<'_>) -> Stepped
+        ensures { step_seen setting.now.image.now result self.now ≡ raising.stuck (core_seen self.now) }
+    {
+        Stepped::Waits(Request::Stop(NO_ERROR), Wait::Halts(NO_ERROR))
+    }
+
+    /// Whether an UPDATE block is entered whose turns are used up.
+    fn is_spent(&self) -> bool
+        ensures { result ≡ are_spent self.now.groups self.now.turns }
+    {
+        match self.groups {
+            None => false,
+            Some(_) => self.turns == 0,
+        }
+    }
+
+    /// What an error meets in all blocks that are entered.
+    pub(crate) fn search(&self, error: ErrNo) -> Found
+        ensures { found_seen result ≡ searching.search (are_spent self.now.groups self.now.turns) (all_entered (core_seen self.now).entries (core_seen self.now).frames) error }
+    {
+        found_from(
+            self.is_spent(),
+            0,
+            self.entries.as_slice(),
+            self.frames.as_slice(),
+            error,
+        )
+    }
+
+    /// So many later blocks are left, and control goes on at the target.
+    fn cut(&mut self, level: usize, target: usize)
+        ensures { core_seen self.new ≡ raising.cut level target (core_seen self.old).frames (core_seen self.old) }
+    {
+        self.at = target;
+        self.operands.clear();
+        self.line.clear();
+        if level == 0 {
+            return;
+        }
+        let Some(frame) = self.frames.pop() else {
+            return;
+        };
+        if frame.back.is_none() {
+            self.groups = None;
+        }
+        self.entries = frame.entries;
+        self.cut(level - 1, target);
+    }
+
+    /// What is asked to change an event before SYSTEM or IGNORE takes effect.
+    pub(crate) fn change(&self, setting: &Setting<'_>, side: Side) -> Option<Request>
+        ensures { (w : cores.Wait) (otherwise : cores.Step) (c : cores.Core) → raising.sided (setting_seen setting.now) self.now.groups side w otherwise c ≡ asks_or result w otherwise c }
+    {
+        match self.groups {
+            Some(_) => None,
+            None => match side {
+                Side::Nothing => None,
+                Side::Signal(event) if setting.has_event(event) => Some(Request::Signal(event)),
+                Side::Signal(_) => None,
+                Side::Set(event) if setting.has_event(event) => Some(Request::Set(event)),
+                Side::Set(_) => None,
+                Side::Reset(event) if setting.has_event(event) => Some(Request::Reset(event)),
+                Side::Reset(_) => None,
+            },
+        }
+    }
+
+    /// The error ends the process.
+    pub(crate) fn ended(&self, setting: &Setting<'_>, error: ErrNo, side: Side) -> Stepped
+        ensures { step_seen setting.now.image.now result self.now ≡ raising.sided (setting_seen setting.now) self.now.groups side (cores.Halts error) (cores.Waits (Request.Stop error) (cores.Halts error) (core_seen self.now)) (core_seen self.now) }
+    {
+        match self.change(setting, side) {
+            Some(request) => Stepped::Waits(request, Wait::Halts(error)),
+            None => Stepped::Waits(Request::Stop(error), Wait::Halts(error)),
+        }
+    }
+
+    /// A statement of ON ERROR is entered, which is a turn.
+    pub(crate) fn entered(&mut self, setting: &Setting<'_>, level: usize, target: u64) -> Stepped
+        ensures { step_seen setting.now.image.now result self.new ≡ raising.entered_at (raising.cut level target (core_seen self.old).frames (core_seen self.old)) }
+    {
+        self.cut(level, target as usize);
+        match self.groups {
+            None => Stepped::Waits(Request::Pass, Wait::Then(Rest::Nothing)),
+            Some(_) if self.turns == 0 => self.stuck(setting),
+            Some(_) => {
+                self.turns -= 1;
+                Stepped::Counts
+            }
+        }
+    }
+
+    /// An error arises.
+    pub(crate) fn raised(&mut self, setting: &Setting<'_>, error: ErrNo) -> Stepped
+        ensures { step_seen setting.now.image.now result self.new ≡ raising.raised (setting_seen setting.now) error (core_seen self.old) }
+    {
+        let found = self.search(error);
+        self.last = error;
+        match found {
+            Found::BySystem(side) => self.ended(setting, error, side),
+            Found::Ignored(side) => match self.change(setting, side) {
+                Some(request) => Stepped::Waits(request, Wait::Then(Rest::Nothing)),
+                None => Stepped::Moves,
+            },
+            Found::ByStatement { level, target } => self.entered(setting, level, target),
+        }
+    }
+}
