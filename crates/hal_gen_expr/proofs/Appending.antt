@@ -16,7 +16,7 @@ use Rattle.hal_meaning.specs.Variables.{is_whole}
 use Rattle.hal_code.specs.declared.instr.Instr.{Instr}
 use Rattle.hal_agreement.specs.PlacedExpressions.{pushes, two, stay}
 use Rattle.hal_agreement.specs.Sites.{Site}
-use Rattle.hal_gen_expr.specs.Emitting.{Emitted, onwards, emit}
+use Rattle.hal_gen_expr.specs.Emitting.{Emitted, onwards, emit, length_of}
 use Rattle.hal_gen_expr.specs.ExpressionCode.{emit_one, one, sign_code, reference_code, called_code, expression_code, folded_code, terms_code, built_code, arguments_code}
 use Rattle.hal_gen_expr.specs.Leaves.{value_of, call_of}
 use Rattle.hal_gen_expr.specs.Numbering.{Numbering}
@@ -139,10 +139,6 @@ module _ (n : Numbering) (site : Site) (front : List Instr) where
 length_both : (before is : List Instr) → length (before ++ is) ≡ length before + length is
 length_both [] is = omega arith
 length_both (i ∷ before) is = omega (arith, length_both before is)
-
-abbrev length_of : Emitted → ℕ
-length_of (Ok code) = length code
-length_of (Err place) = 0
 
 -- what is emitted is as long as alone
 pub grows_by : (r there : Emitted) (before after : List Instr) → there ≡ behind before r → there ≡ Ok after → length after ≡ length before + length_of r

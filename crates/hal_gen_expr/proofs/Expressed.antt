@@ -173,7 +173,7 @@ module _ (code : Code) (n : Numbering) (site : Site) (numbered : IsNumbered code
     built_at trees operation.Size place before after is begins = absurd (cc)
     built_at trees operation.Nothing place before after is begins = absurd (cc)
 
-    arguments_at : (trees : Expressions) (unit : ℕ) (names : List Naming) (place : Place) (before after : List Instr) → arguments_code n site before place unit names trees ≡ Ok after
+    pub arguments_at : (trees : Expressions) (unit : ℕ) (names : List Naming) (place : Place) (before after : List Instr) → arguments_code n site before place unit names trees ≡ Ok after
         → Begins after code.image.code → Placed code before after (λ from to. ArgumentsAt code site unit names trees from to)
     arguments_at NoExpressions unit [] place before after is begins = none_placed code before after (ok_is before after is) begins
     arguments_at (MoreExpressions first others) unit (name ∷ names) place before after is begins =

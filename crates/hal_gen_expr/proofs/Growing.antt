@@ -55,12 +55,19 @@ module _ (code : Code) where
       }
 
   -- two phrases, one after the other
+  pub both_there : {A B : ℕ → ℕ → Type 0} (r : Emitted) (next : List Instr → Emitted) (before after : List Instr) → onwards r next ≡ Ok after
+      → ((middle : List Instr) → r ≡ Ok middle → Begins middle code.image.code → Placed code before middle A)
+      → ((middle : List Instr) → r ≡ Ok middle → next middle ≡ Ok after → Placed code middle after B) → Placed code before after (λ from to. (middle : ℕ) × A from middle × B middle to)
+  both_there (Ok middle) next before after is first second =
+      let late = second middle refl is in
+      let early = first middle refl late.begins in
+      record { at = (length middle, early.at, late.at); begins = early.begins }
+  both_there (Err place) next before after is first second = absurd (cc)
+
   pub both_placed : {A B : ℕ → ℕ → Type 0} (r : Emitted) (next : List Instr → Emitted) (before after : List Instr) → onwards r next ≡ Ok after
       → ((middle : List Instr) → r ≡ Ok middle → Begins middle code.image.code → Placed code before middle A) → ((middle : List Instr) → next middle ≡ Ok after → Placed code middle after B)
       → Placed code before after (λ from to. (middle : ℕ) × A from middle × B middle to)
-  both_placed (Ok middle) next before after is first second =
-      let late = second middle is in let early = first middle refl late.begins in record { at = (length middle, early.at, late.at); begins = early.begins }
-  both_placed (Err place) next before after is first second = absurd (cc)
+  both_placed r next before after is first second = both_there r next before after is first (λ middle there. second middle)
 
 -- what is emitted, where anything is
 pub emitted : (before : List Instr) (place : Place) (o : Option (List Instr)) (after : List Instr) → emit before place o ≡ Ok after → (is : List Instr) × (o ≡ Some is) × (before ++ is ≡ after)

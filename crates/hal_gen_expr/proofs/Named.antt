@@ -27,12 +27,12 @@ use Rattle.hal_gen_expr.proofs.Growing.{append_append, one_by_one, one_placed, n
 use Rattle.hal_gen_expr.proofs.Numbered.{below_is, mapped_is, then_is, address_at}
 use Rattle.hal_gen_expr.proofs.Referring.{meaning_of}
 
-nil_is : {X : Type 0} (xs : List X) → is_nil xs ≡ true → xs ≡ []
+pub nil_is : {X : Type 0} (xs : List X) → is_nil xs ≡ true → xs ≡ []
 nil_is [] is = refl
 nil_is (x ∷ xs) is = absurd (cc)
 
 -- what holds where something is given under a condition
-given_is : {X : Type 0} (b : Bool) (o : Option X) (x : X) → (if b then o else None) ≡ Some x → (b ≡ true) × (o ≡ Some x)
+pub given_is : {X : Type 0} (b : Bool) (o : Option X) (x : X) → (if b then o else None) ≡ Some x → (b ≡ true) × (o ≡ Some x)
 given_is true o x is = (refl, is)
 given_is false o x is = absurd (cc)
 
@@ -52,7 +52,7 @@ module _ (code : Code) (n : Numbering) (site : Site) (numbered : IsNumbered code
       first_placed code before after i (one_placed code (before ++ (i ∷ [])) after j (sym (one_by_one before i (j ∷ [])) ∙ is) begins)
 
   -- an address that is given for one element
-  element_at : (path : List Naming) (k : ℕ) (stored : Storing) (shape : Shape) (i : Instr) (from : ℕ) (held : List Held) → element_of n site path k stored shape ≡ Some i → Has code from i
+  pub element_at : (path : List Naming) (k : ℕ) (stored : Storing) (shape : Shape) (i : Instr) (from : ℕ) (held : List Held) → element_of n site path k stored shape ≡ Some i → Has code from i
       → AddressAt code held (kind_of_first (chosen path shape.components)) (further (offset path shape.components) (spot_of (here_at site) held k stored)) from
   element_at path k stored shape i from held is has =
       address_at code n site numbered k stored (offset path shape.components) (kind_of_first (chosen path shape.components)) i from held
