@@ -1,0 +1,201 @@
+-- The code of statements stands where it was put.
+use Rattle.std.specs.Prelude.{◌≡◌, ℕ, suc, ◌+◌, List, [], ◌∷◌, ◌++◌, length, Option, Some, None, Ok}
+use Rattle.std.specs.Option.{option_map}
+use Rattle.std.proofs.Common.{refl, sym, ap, subst, arith}
+use Rattle.hal_base.specs.declared.refusal.Place.{Place}
+use Rattle.hal_grammar.specs.Leaves.{Naming}
+use Rattle.hal_grammar.specs.Statements.{Guard, Statement, Labelled, Basic, Null, Assignment, If, Do, DoCase, DoLoop, DoFor, Exit, Repeat, Return, Call, Read, Write, Cancel, Terminate, Wait, WaitUntil, WaitForDependent, WaitFor, Event, Scheduled, UpdatePriority, Update, OnErrorStatement, OnErrorResponse, OffError, SendError, Alternative, NoAlternative, Otherwise, Group, Groups, Statements, NoStatements, MoreStatements}
+use Rattle.hal_meaning.specs.Marks.{after_statement}
+use Rattle.hal_meaning.specs.RealTime.{stated_at_mark}
+use Rattle.hal_meaning.specs.Statements.{label_name, update_groups}
+use Rattle.hal_code.specs.declared.instr.Instr.{Instr}
+use Rattle.hal_code.specs.declared.instr.Instr.TheVariants as instr
+use Rattle.hal_code.specs.declared.operand.Delay.TheVariants as delay
+use Rattle.hal_agreement.specs.Codes.{Code}
+use Rattle.hal_agreement.specs.PlacedExpressions.{Has, One}
+use Rattle.hal_agreement.specs.PlacedStatements.{NoReturn, Exits, exit_of, again_of, opened, within_group, of_block, LeadsOut, FirstTestAt, TestAt, StatementAt, BasicAt, AlternativeAt, GroupAt, StatementsAt}
+use Rattle.hal_agreement.specs.Sites.{Site, here_at}
+use Rattle.hal_gen_expr.specs.Emitting.{Emitted, onwards, emit}
+use Rattle.hal_gen_expr.specs.ExpressionCode.{emit_one, expression_code}
+use Rattle.hal_gen_expr.specs.Numbering.{Numbering, below}
+use Rattle.hal_gen_expr.specs.Standing.{Begins, IsNumbered, Placed}
+use Rattle.hal_gen_expr.proofs.Expressed.{ok_is, expression_at}
+use Rattle.hal_gen_expr.proofs.Growing.{length_of_one_more, weaker, one_placed, none_placed, first_placed, both_there, both_placed}
+use Rattle.hal_gen_expr.proofs.Numbered.{below_is}
+use Rattle.hal_gen.specs.Leaves.{channel_of}
+use Rattle.hal_gen.specs.Sizes.{jump_size, statement_size, basic_size, group_size, statements_size}
+use Rattle.hal_gen.specs.StatementCode.{receivers_code, items_code, with_channel, first_test_code, test_code, statement_code, basic_code, alternative_code, group_code, statements_code}
+use Rattle.hal_gen.proofs.Measured.{later, statement_longer, basic_longer, group_longer, statements_longer}
+use Rattle.hal_gen.proofs.Simple.{single_placed, receivers_at, channel_at, items_at, first_test_at, test_at, reads_at, plain_return_at, value_return_at, procedure_at, pause_at, event_pause_at, named_or_own_at, raise_at, response_at, off_at, event_change_at}
+
+channel_given : (place : Place) (o : Option ℕ) (go : ℕ → Emitted) (after : List Instr) → with_channel place o go ≡ Ok after → (number : ℕ) × (o ≡ Some number) × (go number ≡ Ok after)
+channel_given place None go after e = absurd (cc)
+channel_given place (Some number) go after e = (number, refl, e)
+
+module _ (code : Code) (n : Numbering) (site : Site) (numbered : IsNumbered code n) where
+  pub opens_at : (groups : ℕ) (place : Place) (before after : List Instr) → emit before place (option_map (λ g. instr.Open g ∷ []) (below 65536 groups)) ≡ Ok after → Begins after code.image.code
+      → Placed code before after (λ from to. One code from (instr.Open groups) to)
+  opens_at groups place before after e begins =
+      let given = single_placed code n site numbered instr.Open (below 65536 groups) place before after e begins in
+      weaker code before after (λ from to at. subst (λ g. One code from (instr.Open g) to) (sym (below_is 65536 groups given.0 given.1)) at) given.2
+
+  -- the code of these stands where it was put
+  abbrev StatementStands : Statement → Type 0
+  StatementStands tree = (exits : Exits) (m : ℕ) (before after : List Instr) → statement_code n site before exits m tree ≡ Ok after → Begins after code.image.code
+      → Placed code before after (λ from to. StatementAt code site exits m tree from to)
+
+  abbrev ElseStands : Alternative → Type 0
+  ElseStands alternative = (exits : Exits) (m other : ℕ) (before after : List Instr) → alternative_code n site before exits m alternative ≡ Ok after → other ≡ length before + jump_size alternative
+      → Begins after code.image.code → Placed code before after (λ from to. AlternativeAt code site exits m alternative from other to)
+
+  abbrev GroupStands : Group → Type 0
+  GroupStands group = (exits : Exits) (m : ℕ) (before after : List Instr) → group_code n site before exits m group ≡ Ok after → Begins after code.image.code
+      → Placed code before after (λ from to. GroupAt code site exits m group from to)
+
+  abbrev ListStands : Statements → Type 0
+  ListStands list = (exits : Exits) (m : ℕ) (before after : List Instr) → statements_code n site before exits m list ≡ Ok after → Begins after code.image.code
+      → Placed code before after (λ from to. StatementsAt code site exits m list from to)
+
+  -- a consequence behind its test, and what stands after ELSE
+  chosen_at : (consequence : Statement) (alternative : Alternative) (exits : Exits) (m : ℕ) (tested after : List Instr)
+      → StatementStands consequence → ElseStands alternative → onwards (statement_code n site (tested ++ (instr.JumpNot (suc (length tested) + (statement_size n site consequence + jump_size alternative)) ∷ [])) exits m consequence)
+      (λ middle. alternative_code n site middle exits (after_statement m consequence) alternative) ≡ Ok after → Begins after code.image.code
+      → Placed code tested after (λ from to. (other : ℕ) × (end : ℕ) × Has code from (instr.JumpNot other) × StatementAt code site exits m consequence (suc from) end
+      × AlternativeAt code site exits (after_statement m consequence) alternative end other to)
+  chosen_at consequence alternative exits m tested after one two e begins =
+      let other = suc (length tested) + (statement_size n site consequence + jump_size alternative) in
+      let test = tested ++ (instr.JumpNot other ∷ []) in
+      weaker code tested after (λ from to at. (other, at.1.0, at.0, at.1.1, at.1.2))
+      (first_placed code tested after (instr.JumpNot other)
+      (both_there code (statement_code n site test exits m consequence) _ test after e (λ middle there begun. one exits m test middle there begun)
+      (λ middle there rest. two exits (after_statement m consequence) other middle after rest
+      (let longer = later tested middle (instr.JumpNot other) (statement_size n site consequence) (statement_longer n site consequence exits m test middle there) in omega (arith, longer)) begins)))
+
+  -- the group of a loop whose test begins where the group ends
+  repeated_at : (group : Group) (labels : List Naming) (exits : Exits) (m exit again : ℕ) (before after : List Instr)
+      → GroupStands group → group_code n site before (within_group (opened labels exit (Some again)) exits) (suc m) group ≡ Ok after → again ≡ length after → Begins after code.image.code
+      → Placed code before after (λ from to. GroupAt code site (within_group (opened labels exit (Some to)) exits) (suc m) group from to)
+  repeated_at group labels exits m exit again before after whole e is begins =
+      let there = whole (within_group (opened labels exit (Some again)) exits) (suc m) before after e begins in
+      record { at = subst (λ a. GroupAt code site (within_group (opened labels exit (Some a)) exits) (suc m) group (length before) (length after)) is there.at; begins = there.begins }
+
+  -- the turns of a loop that ends at this address
+  turns_at : (g : Guard) (group : Group) (labels : List Naming) (exits : Exits) (m exit : ℕ) (tested after : List Instr)
+      → GroupStands group → onwards (group_code n site (tested ++ (instr.Turn exit ∷ [])) (within_group (opened labels exit (Some (suc (length tested) + group_size n site group))) exits) (suc m) group)
+      (λ middle. test_code n site middle g (length tested) exit) ≡ Ok after → exit ≡ length after → Begins after code.image.code
+      → Placed code tested after (λ from to. (again : ℕ) × Has code from (instr.Turn exit) × GroupAt code site (within_group (opened labels exit (Some again)) exits) (suc m) group (suc from) again
+      × TestAt code site g again from to)
+  turns_at g group labels exits m exit tested after whole e ends begins =
+      let again = suc (length tested) + group_size n site group in
+      let start = tested ++ (instr.Turn exit ∷ []) in
+      let there = first_placed code tested after (instr.Turn exit)
+      (both_placed code {A = λ from to. GroupAt code site (within_group (opened labels exit (Some to)) exits) (suc m) group from to}
+      (group_code n site start (within_group (opened labels exit (Some again)) exits) (suc m) group) (λ middle. test_code n site middle g (length tested) exit) start after e
+      (λ middle got begun. repeated_at group labels exits m exit again start middle whole got
+      (let longer = group_longer n site group (within_group (opened labels exit (Some again)) exits) (suc m) start middle got in let one = length_of_one_more tested (instr.Turn exit) in omega (arith, longer, one)) begun)
+      (λ middle got. test_at code n site numbered g (length tested) exit middle after got ends begins))
+      in record { at = (there.at.1.0, there.at.0, there.at.1.1, there.at.1.2); begins = there.begins }
+
+  -- the statements of an UPDATE block, and CLOSE
+  updated_at : (body : Statements) (m : ℕ) (begun after : List Instr) (place : Place)
+      → ListStands body → onwards (statements_code n site begun (of_block NoReturn (λ mark. length begun + statements_size n site body)) (suc m) body) (λ middle. emit_one middle place instr.Close) ≡ Ok after → Begins after code.image.code
+      → Placed code begun after (λ from to. (handler : ℕ → ℕ) × (last : ℕ) × StatementsAt code site (of_block NoReturn handler) (suc m) body from last × LeadsOut handler (suc m) body last × One code last instr.Close to)
+  updated_at body m begun after place whole e begins =
+      let handler = λ (mark : ℕ). length begun + statements_size n site body in
+      weaker code begun after (λ from to at. (handler, at.0, at.1, at.2.0, at.2.1))
+      (both_there code {B = λ from to. LeadsOut handler (suc m) body from × One code from instr.Close to} (statements_code n site begun (of_block NoReturn handler) (suc m) body) (λ middle. emit_one middle place instr.Close) begun after e
+      (λ middle there starts. whole (of_block NoReturn handler) (suc m) begun middle there starts)
+      (λ middle there late. let closed = one_placed code middle after instr.Close (ok_is _ after late) begins in
+      record { at = ((λ mark none. sym (statements_longer n site body (of_block NoReturn handler) (suc m) begun middle there)), closed.at); begins = closed.begins }))
+
+  mutual
+    pub statement_at : (tree : Statement) → StatementStands tree
+    statement_at (Labelled labels basic) exits m before after e begins = basic_at basic labels exits m before after e begins
+
+    pub basic_at : (basic : Basic) (labels : List Naming) (exits : Exits) (m : ℕ) (before after : List Instr) → basic_code n site before exits m labels basic ≡ Ok after → Begins after code.image.code
+        → Placed code before after (λ from to. BasicAt code site exits m labels basic from to)
+    basic_at (Null place) labels exits m before after e begins = none_placed code before after (ok_is before after e) begins
+    basic_at (Assignment place receivers tree) labels exits m before after e begins =
+        both_placed code (expression_code n site before tree) (λ middle. receivers_code n site middle place receivers) before after e
+        (λ middle there begun. expression_at code n site numbered tree before middle there begun) (λ middle there. receivers_at code n site numbered receivers place middle after there begins)
+    basic_at (If place condition consequence alternative) labels exits m before after e begins =
+        weaker code before after (λ from to at. (at.2.0, suc at.0, at.2.1, (at.0, at.1, (at.2.2, refl)), at.2.3, at.2.4))
+        (both_placed code (expression_code n site before condition) _ before after e (λ tested there begun. expression_at code n site numbered condition before tested there begun)
+        (λ tested there. chosen_at consequence alternative exits m tested after (statement_at consequence) (alternative_at alternative) there begins))
+    basic_at (Do place group) labels exits m before after e begins =
+        let exit = length before + group_size n site group in
+        let there = group_at group (within_group (opened labels exit None) exits) (suc m) before after e begins in
+        let ends = sym (group_longer n site group (within_group (opened labels exit None) exits) (suc m) before after e) in
+        record { at = subst (λ to. GroupAt code site (within_group (opened labels to None) exits) (suc m) group (length before) (length after)) ends there.at; begins = there.begins }
+    basic_at (DoLoop place g group) labels exits m before after e begins =
+        let exit = length before + basic_size n site (DoLoop place g group) in
+        let ends : exit ≡ length after = sym (basic_longer n site (DoLoop place g group) labels exits m before after e) in
+        let there = both_placed code (first_test_code n site before g exit) _ before after e (λ tested first begun. first_test_at code n site numbered g exit before tested first begun)
+        (λ tested rest. turns_at g group labels exits m exit tested after (group_at group) rest ends begins)
+        in record {
+          at = subst (λ to. (turn : ℕ) × (again : ℕ) × FirstTestAt code site g (length before) to turn × Has code turn (instr.Turn to)
+              × GroupAt code site (within_group (opened labels to (Some again)) exits) (suc m) group (suc turn) again × TestAt code site g again turn (length after)) ends
+              (there.at.0, there.at.2.0, there.at.1, there.at.2.1, there.at.2.2, there.at.2.3);
+          begins = there.begins;
+        }
+    basic_at (Exit place label) labels exits m before after e begins =
+        let given = single_placed code n site numbered instr.Jump (exit_of exits.groups (label_name label)) place before after e begins in weaker code before after (λ from to at. (given.0, given.1, at)) given.2
+    basic_at (Repeat place label) labels exits m before after e begins =
+        let given = single_placed code n site numbered instr.Jump (again_of exits.groups (label_name label)) place before after e begins in weaker code before after (λ from to at. (given.0, given.1, at)) given.2
+    basic_at (Return place None) labels exits m before after e begins = plain_return_at code n site numbered exits place before after e begins
+    basic_at (Return place (Some tree)) labels exits m before after e begins = value_return_at code n site numbered exits place tree before after e begins
+    basic_at (Call place name arguments []) labels exits m before after e begins = procedure_at code n site numbered name.name arguments place before after e begins
+    basic_at (Call place name arguments (receiver ∷ receivers)) labels exits m before after e begins = absurd (cc)
+    basic_at (Read place channel receivers) labels exits m before after e begins =
+        let given = channel_given place (channel_of channel) _ after e in
+        weaker code before after (λ from to at. (given.0, channel_at code n site numbered channel given.0 given.1, at)) (reads_at code n site numbered given.0 receivers before after given.2 begins)
+    basic_at (Write place channel items) labels exits m before after e begins =
+        let given = channel_given place (channel_of channel) _ after e in
+        weaker code before after (λ from to at. (given.0, at.0, channel_at code n site numbered channel given.0 given.1, at.1, at.2))
+        (both_placed code (items_code n site before items) (λ middle. emit_one middle place (instr.Print given.0)) before after given.2 (λ middle there begun. items_at code n site numbered items before middle there begun)
+        (λ middle there. one_placed code middle after (instr.Print given.0) (ok_is _ after there) begins))
+    basic_at (Event one) labels exits m before after e begins = event_change_at code n site numbered one before after e begins
+    basic_at (Cancel place names) labels exits m before after e begins = named_or_own_at code n site numbered instr.Cancel names place before after e begins
+    basic_at (Terminate place names) labels exits m before after e begins = named_or_own_at code n site numbered instr.Terminate names place before after e begins
+    basic_at (Wait place tree) labels exits m before after e begins = pause_at code n site numbered delay.For tree place before after e begins
+    basic_at (WaitUntil place tree) labels exits m before after e begins = pause_at code n site numbered delay.Until tree place before after e begins
+    basic_at (WaitForDependent place) labels exits m before after e begins = one_placed code before after (instr.Wait delay.Dependents) (ok_is _ after e) begins
+    basic_at (WaitFor place tree) labels exits m before after e begins = event_pause_at code n site numbered (stated_at_mark (here_at site) m) place before after e begins
+    basic_at (Update place body close) labels exits m before after e begins =
+        weaker code before after (λ from to at. (at.2.0, at.2.1, at.1.0, subst (λ b. StatementsAt code site (of_block NoReturn at.2.0) (suc m) body b at.2.1) (sym at.1.1) at.2.2, at.2.3, at.2.4))
+        (both_placed code (emit before place (option_map (λ groups. instr.Open groups ∷ []) (below 65536 (update_groups (here_at site) m)))) _ before after e
+        (λ begun there starts. opens_at (update_groups (here_at site) m) place before begun there starts) (λ begun there. updated_at body m begun after place (statements_at body) there begins))
+    basic_at (SendError place at group its number) labels exits m before after e begins = raise_at code n site numbered group number place before after e begins
+    basic_at (OnErrorResponse place s r one) labels exits m before after e begins = response_at code n site numbered s r one place before after e begins
+    basic_at (OffError place s) labels exits m before after e begins = off_at code n site numbered s place before after e begins
+    basic_at (DoCase place selector _ group) labels exits m before after e begins = absurd (cc)
+    basic_at (DoFor place temporary variable span guard group) labels exits m before after e begins = absurd (cc)
+    basic_at (Scheduled place schedule) labels exits m before after e begins = absurd (cc)
+    basic_at (UpdatePriority place name priority) labels exits m before after e begins = absurd (cc)
+    basic_at (OnErrorStatement place selector handler) labels exits m before after e begins = absurd (cc)
+
+    -- what stands after ELSE, to which the condition leads at this address
+    alternative_at : (alternative : Alternative) → ElseStands alternative
+    alternative_at NoAlternative exits m other before after e is begins =
+        let same = ap length (ok_is before after e) in
+        let there = none_placed code before after (ok_is before after e) begins in
+        record { at = (there.at, omega (arith, is, same)); begins = there.begins }
+    alternative_at (Otherwise one) exits m other before after e is begins =
+        let jump = suc (length before) + statement_size n site one in
+        let there = first_placed code before after (instr.Jump jump) (statement_at one exits m (before ++ (instr.Jump jump ∷ [])) after e begins) in
+        let longer = later before after (instr.Jump jump) (statement_size n site one) (statement_longer n site one exits m (before ++ (instr.Jump jump ∷ [])) after e) in
+        let ends : jump ≡ length after = omega (arith, longer) in
+        let begin : suc (length before) ≡ other = omega (arith, is) in
+        record {
+          at = (subst (λ to. Has code (length before) (instr.Jump to)) ends there.at.0, subst (λ from. StatementAt code site exits m one from (length after)) begin there.at.1);
+          begins = there.begins;
+        }
+
+    group_at : (group : Group) → GroupStands group
+    group_at (Groups list close) exits m before after e begins = statements_at list exits m before after e begins
+
+    pub statements_at : (list : Statements) → ListStands list
+    statements_at NoStatements exits m before after e begins = none_placed code before after (ok_is before after e) begins
+    statements_at (MoreStatements first others) exits m before after e begins =
+        both_placed code (statement_code n site before exits m first) (λ middle. statements_code n site middle exits (after_statement m first) others) before after e
+        (λ middle there begun. statement_at first exits m before middle there begun) (λ middle there. statements_at others exits (after_statement m first) middle after there begins)

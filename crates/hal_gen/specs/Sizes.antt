@@ -1,0 +1,102 @@
+-- How many instructions statements have: so targets are known before the code that stands in between.
+use Rattle.std.specs.Prelude.{ℕ, ◌+◌, false, List, [], ◌∷◌, length, Option, Some, None, unwrap_or}
+use Rattle.hal_base.specs.declared.refusal.Place.{Place}
+use Rattle.hal_grammar.specs.Leaves.{Naming}
+use Rattle.hal_grammar.specs.Expressions.{Expression, Expressions, NoExpressions, MoreExpressions, Reference}
+use Rattle.hal_grammar.specs.Statements.{Guard, While, Until, Statement, Labelled, Basic, Assignment, If, Do, DoLoop, Exit, Repeat, Return, Call, Read, Write, Cancel, Terminate, Wait, WaitUntil, WaitForDependent, WaitFor, Event, Update, OnErrorResponse, OffError, SendError, Alternative, NoAlternative, Otherwise, Group, Groups, Statements, NoStatements, MoreStatements}
+use Rattle.hal_meaning.specs.Expressions.{inputs_at}
+use Rattle.hal_meaning.specs.Sets.{body_at}
+use Rattle.hal_agreement.specs.Sites.{Site}
+use Rattle.hal_gen_expr.specs.Emitting.{length_of}
+use Rattle.hal_gen_expr.specs.ExpressionCode.{expression_code, arguments_code}
+use Rattle.hal_gen_expr.specs.Leaves.{call_of}
+use Rattle.hal_gen_expr.specs.Numbering.{Numbering}
+use Rattle.hal_gen_expr.specs.Referents.{Referent, BlockOf, referent}
+use Rattle.hal_gen.specs.Leaves.{as_result}
+
+abbrev pub expression_size : Numbering → Site → Expression → ℕ
+expression_size n site tree = length_of (expression_code n site [] tree)
+
+-- each item of WRITE is added to the line
+abbrev pub items_size : Numbering → Site → Expressions → ℕ
+items_size n site NoExpressions = 0
+items_size n site (MoreExpressions first others) = (expression_size n site first + 1) + items_size n site others
+
+-- CELL and KEEP for each receiver, and a copy before all but the last one
+abbrev pub receivers_size : List Reference → ℕ
+receivers_size [] = 0
+receivers_size (one ∷ []) = 2
+receivers_size (one ∷ next ∷ others) = 3 + receivers_size (next ∷ others)
+
+-- INPUT, CELL and KEEP for each receiver of READ
+abbrev pub reads_size : List Reference → ℕ
+reads_size [] = 0
+reads_size (one ∷ others) = 3 + reads_size others
+
+-- the first test of a loop, and the others
+abbrev pub first_test_size : Numbering → Site → Guard → ℕ
+first_test_size n site (While place condition) = expression_size n site condition + 1
+first_test_size n site (Until place condition) = 0
+
+abbrev pub test_size : Numbering → Site → Guard → ℕ
+test_size n site (While place condition) = expression_size n site condition + 2
+test_size n site (Until place condition) = expression_size n site condition + 1
+
+-- a jump over what stands after ELSE
+abbrev pub jump_size : Alternative → ℕ
+jump_size NoAlternative = 0
+jump_size (Otherwise one) = 1
+
+abbrev pub names_size : List Naming → ℕ
+names_size [] = 1
+names_size (name ∷ names) = length (name ∷ names)
+
+abbrev pub listed_size : Option (List Naming) → ℕ
+listed_size None = 0
+listed_size (Some names) = length names
+
+-- CALL of what a name refers to
+abbrev pub call_size : Numbering → Site → Expressions → Place → Referent → ℕ
+call_size n site arguments place (BlockOf unit) = length_of (arguments_code n site [] place unit (inputs_at site.set unit) arguments) + length (unwrap_or (call_of n site false unit) [])
+call_size n site arguments place other = 0
+
+abbrev mutual
+  pub statement_size : Numbering → Site → Statement → ℕ
+  statement_size n site (Labelled labels basic) = basic_size n site basic
+
+  pub basic_size : Numbering → Site → Basic → ℕ
+  basic_size n site (Assignment place receivers tree) = expression_size n site tree + receivers_size receivers
+  basic_size n site (If place condition consequence alternative) =
+      (expression_size n site condition + 1) + (statement_size n site consequence + (jump_size alternative + alternative_size n site alternative))
+  basic_size n site (Do place group) = group_size n site group
+  basic_size n site (DoLoop place g group) = (first_test_size n site g + 1) + (group_size n site group + test_size n site g)
+  basic_size n site (Exit place label) = 1
+  basic_size n site (Repeat place label) = 1
+  basic_size n site (Return place None) = 1
+  basic_size n site (Return place (Some tree)) = expression_size n site tree + (length (as_result (body_at site.set site.unit)) + 1)
+  basic_size n site (Call place name arguments receivers) = call_size n site arguments place (referent site name.name)
+  basic_size n site (Read place channel receivers) = reads_size receivers
+  basic_size n site (Write place channel items) = items_size n site items + 1
+  basic_size n site (Cancel place names) = names_size names
+  basic_size n site (Terminate place names) = names_size names
+  basic_size n site (Wait place tree) = 1
+  basic_size n site (WaitUntil place tree) = 1
+  basic_size n site (WaitForDependent place) = 1
+  basic_size n site (WaitFor place tree) = 1
+  basic_size n site (Event e) = 1
+  basic_size n site (Update place body close) = statements_size n site body + 2
+  basic_size n site (OnErrorResponse place s r e) = 1
+  basic_size n site (OffError place s) = 1
+  basic_size n site (SendError place group_at group number_at number) = 1
+  basic_size n site other = 0
+
+  pub alternative_size : Numbering → Site → Alternative → ℕ
+  alternative_size n site NoAlternative = 0
+  alternative_size n site (Otherwise one) = statement_size n site one
+
+  pub group_size : Numbering → Site → Group → ℕ
+  group_size n site (Groups list close) = statements_size n site list
+
+  pub statements_size : Numbering → Site → Statements → ℕ
+  statements_size n site NoStatements = 0
+  statements_size n site (MoreStatements first others) = statement_size n site first + statements_size n site others

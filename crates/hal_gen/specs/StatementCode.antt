@@ -1,0 +1,143 @@
+-- The code of statements, behind the code so far.
+use Rattle.std.specs.Prelude.{ℕ, suc, ◌+◌, false, List, [], ◌∷◌, ◌++◌, length, Option, Some, None, Ok, Err}
+use Rattle.std.specs.Option.{option_map}
+use Rattle.hal_base.specs.declared.refusal.Place.{Place}
+use Rattle.hal_grammar.specs.Leaves.{Naming}
+use Rattle.hal_grammar.specs.Expressions.{Expression, Expressions, NoExpressions, MoreExpressions, Reference, Refers}
+use Rattle.hal_grammar.specs.Statements.{Guard, While, Until, Statement, Labelled, Basic, Null, Assignment, If, Do, DoCase, DoLoop, DoFor, Exit, Repeat, Return, Call, Read, Write, Cancel, Terminate, Wait, WaitUntil, WaitForDependent, WaitFor, Event, Scheduled, UpdatePriority, Update, OnErrorStatement, OnErrorResponse, OffError, SendError, Alternative, NoAlternative, Otherwise, Group, Groups, Statements, NoStatements, MoreStatements}
+use Rattle.hal_meaning.specs.Expressions.{inputs_at}
+use Rattle.hal_meaning.specs.Marks.{after_statement}
+use Rattle.hal_meaning.specs.RealTime.{stated_at_mark}
+use Rattle.hal_meaning.specs.Sets.{body_at}
+use Rattle.hal_meaning.specs.Statements.{label_name, update_groups}
+use Rattle.hal_code.specs.declared.instr.Instr.{Instr}
+use Rattle.hal_code.specs.declared.instr.Instr.TheVariants as instr
+use Rattle.hal_code.specs.declared.operand.Delay.TheVariants as delay
+use Rattle.hal_agreement.specs.PlacedStatements.{exit_of, again_of, opened, NoReturn, Exits, within_group, of_block}
+use Rattle.hal_agreement.specs.Sites.{Site, here_at}
+use Rattle.hal_gen_expr.specs.Emitting.{Emitted, onwards, emit}
+use Rattle.hal_gen_expr.specs.ExpressionCode.{emit_one, expression_code, arguments_code}
+use Rattle.hal_gen_expr.specs.Leaves.{call_of}
+use Rattle.hal_gen_expr.specs.Numbering.{Numbering, below}
+use Rattle.hal_gen_expr.specs.Referents.{Referent, BlockOf, referent}
+use Rattle.hal_gen.specs.Leaves.{receiver_of, kind_of_receiver, channel_of, return_of, result_of, event_change_of, pause_of, event_pause_of, named_or_own_of, response_code, off_of, raise_of}
+use Rattle.hal_gen.specs.Sizes.{statement_size, group_size, statements_size, jump_size, basic_size}
+
+abbrev pub place_of_reference : Reference → Place
+place_of_reference (Refers place name path subscript) = place
+
+-- receivers get the value on the stack from left to right, each but the last one from a copy
+abbrev pub receiver_code : Numbering → Site → List Instr → Reference → Emitted
+receiver_code n site before receiver = emit before (place_of_reference receiver) (receiver_of n site receiver)
+
+abbrev pub receivers_code : Numbering → Site → List Instr → Place → List Reference → Emitted
+receivers_code n site before place [] = Err place
+receivers_code n site before place (receiver ∷ []) = receiver_code n site before receiver
+receivers_code n site before place (receiver ∷ next ∷ others) =
+    onwards (receiver_code n site (before ++ (instr.Dup ∷ [])) receiver) (λ middle. receivers_code n site middle place (next ∷ others))
+
+-- items, each added to the line
+abbrev pub items_code : Numbering → Site → List Instr → Expressions → Emitted
+items_code n site before NoExpressions = Ok before
+items_code n site before (MoreExpressions first others) = onwards (expression_code n site before first) (λ middle. items_code n site (middle ++ (instr.Item ∷ [])) others)
+
+-- something is done with a channel
+abbrev pub with_channel : Place → Option ℕ → (ℕ → Emitted) → Emitted
+with_channel place None go = Err place
+with_channel place (Some channel) go = go channel
+
+-- receivers of READ: for each INPUT of its kind, behind which control goes to the next one where there is no datum, and its store
+abbrev pub reads_code : Numbering → Site → List Instr → ℕ → List Reference → Emitted
+reads_code n site before channel [] = Ok before
+reads_code n site before channel (receiver ∷ receivers) =
+    onwards (receiver_code n site (before ++ (instr.Input channel (kind_of_receiver site receiver) (length before + 3) ∷ [])) receiver)
+    (λ middle. reads_code n site middle channel receivers)
+
+-- a condition, behind which control goes on where it holds, and else to a target
+abbrev pub condition_code : Numbering → Site → List Instr → Place → Expression → ℕ → Emitted
+condition_code n site before place condition target = onwards (expression_code n site before condition) (λ middle. emit_one middle place (instr.JumpNot target))
+
+-- the first test of a loop, from which control goes to its end; each later one, from which control goes to its TURN or to its end
+abbrev pub first_test_code : Numbering → Site → List Instr → Guard → ℕ → Emitted
+first_test_code n site before (While place condition) exit = condition_code n site before place condition exit
+first_test_code n site before (Until place condition) exit = Ok before
+
+abbrev pub test_code : Numbering → Site → List Instr → Guard → ℕ → ℕ → Emitted
+test_code n site before (While place condition) turn exit =
+    onwards (expression_code n site before condition) (λ middle. emit middle place (Some (instr.JumpNot exit ∷ instr.Jump turn ∷ [])))
+test_code n site before (Until place condition) turn exit = condition_code n site before place condition turn
+
+-- a jump
+abbrev pub jump_to : Option ℕ → Option (List Instr)
+jump_to target = option_map (λ at. instr.Jump at ∷ []) target
+
+-- CALL of a PROCEDURE without ASSIGN arguments
+abbrev pub procedure_code : Numbering → Site → List Instr → Place → Expressions → Referent → Emitted
+procedure_code n site before place arguments (BlockOf unit) =
+    onwards (arguments_code n site before place unit (inputs_at site.set unit) arguments) (λ middle. emit middle place (call_of n site false unit))
+procedure_code n site before place arguments other = Err place
+
+abbrev pub returning_code : Numbering → Site → List Instr → Exits → Place → Option Expression → Emitted
+returning_code n site before exits place None = emit before place (return_of exits.leaving)
+returning_code n site before exits place (Some tree) =
+    onwards (expression_code n site before tree) (λ middle. emit middle place (result_of exits.leaving (body_at site.set site.unit)))
+
+abbrev mutual
+  pub statement_code : Numbering → Site → List Instr → Exits → ℕ → Statement → Emitted
+  statement_code n site before exits m (Labelled labels basic) = basic_code n site before exits m labels basic
+
+  -- a statement with these labels, before which the next mark has this number
+  pub basic_code : Numbering → Site → List Instr → Exits → ℕ → List Naming → Basic → Emitted
+  basic_code n site before exits m labels (Null place) = Ok before
+  basic_code n site before exits m labels (Assignment place receivers tree) = onwards (expression_code n site before tree) (λ middle. receivers_code n site middle place receivers)
+  basic_code n site before exits m labels (If place condition consequence alternative) =
+      onwards (expression_code n site before condition)
+      (λ tested. onwards (statement_code n site (tested ++ (instr.JumpNot (suc (length tested) + (statement_size n site consequence + jump_size alternative)) ∷ [])) exits m consequence)
+      (λ middle. alternative_code n site middle exits (after_statement m consequence) alternative))
+  basic_code n site before exits m labels (Do place group) = group_code n site before (within_group (opened labels (length before + group_size n site group) None) exits) (suc m) group
+  basic_code n site before exits m labels (DoLoop place g group) =
+      onwards (first_test_code n site before g (length before + basic_size n site (DoLoop place g group)))
+      (λ tested. onwards (group_code n site (tested ++ (instr.Turn (length before + basic_size n site (DoLoop place g group)) ∷ []))
+      (within_group (opened labels (length before + basic_size n site (DoLoop place g group)) (Some (suc (length tested) + group_size n site group))) exits) (suc m) group)
+      (λ middle. test_code n site middle g (length tested) (length before + basic_size n site (DoLoop place g group))))
+  basic_code n site before exits m labels (Exit place label) = emit before place (jump_to (exit_of exits.groups (label_name label)))
+  basic_code n site before exits m labels (Repeat place label) = emit before place (jump_to (again_of exits.groups (label_name label)))
+  basic_code n site before exits m labels (Return place value) = returning_code n site before exits place value
+  basic_code n site before exits m labels (Call place name arguments []) = procedure_code n site before place arguments (referent site name.name)
+  basic_code n site before exits m labels (Read place channel receivers) = with_channel place (channel_of channel) (λ number. reads_code n site before number receivers)
+  basic_code n site before exits m labels (Write place channel items) =
+      with_channel place (channel_of channel) (λ number. onwards (items_code n site before items) (λ middle. emit_one middle place (instr.Print number)))
+  basic_code n site before exits m labels (Event e) = emit before e.place (event_change_of site e)
+  basic_code n site before exits m labels (Cancel place names) = emit before place (named_or_own_of site instr.Cancel names)
+  basic_code n site before exits m labels (Terminate place names) = emit before place (named_or_own_of site instr.Terminate names)
+  basic_code n site before exits m labels (Wait place tree) = emit before place (pause_of delay.For tree)
+  basic_code n site before exits m labels (WaitUntil place tree) = emit before place (pause_of delay.Until tree)
+  basic_code n site before exits m labels (WaitForDependent place) = emit_one before place (instr.Wait delay.Dependents)
+  basic_code n site before exits m labels (WaitFor place tree) = emit before place (event_pause_of site (stated_at_mark (here_at site) m))
+  basic_code n site before exits m labels (Update place body close) =
+      onwards (emit before place (option_map (λ groups. instr.Open groups ∷ []) (below 65536 (update_groups (here_at site) m))))
+      (λ begun. onwards (statements_code n site begun (of_block NoReturn (λ mark. length begun + statements_size n site body)) (suc m) body) (λ middle. emit_one middle place instr.Close))
+  basic_code n site before exits m labels (SendError place group_at group number_at number) = emit before place (raise_of group number)
+  basic_code n site before exits m labels (OnErrorResponse place s r e) = emit before place (response_code site s r e)
+  basic_code n site before exits m labels (OffError place s) = emit before place (off_of s)
+  basic_code n site before exits m labels (Call place name arguments (receiver ∷ receivers)) = Err place
+  basic_code n site before exits m labels (DoCase place selector _ group) = Err place
+  basic_code n site before exits m labels (DoFor place temporary variable span guard group) = Err place
+  basic_code n site before exits m labels (Scheduled place schedule) = Err place
+  basic_code n site before exits m labels (UpdatePriority place name priority) = Err place
+  basic_code n site before exits m labels (OnErrorStatement place selector handler) = Err place
+
+  -- what stands after ELSE, with a jump over it behind the consequence
+  pub alternative_code : Numbering → Site → List Instr → Exits → ℕ → Alternative → Emitted
+  alternative_code n site before exits m NoAlternative = Ok before
+  alternative_code n site before exits m (Otherwise one) =
+      statement_code n site (before ++ (instr.Jump (suc (length before) + statement_size n site one) ∷ [])) exits m one
+
+  pub group_code : Numbering → Site → List Instr → Exits → ℕ → Group → Emitted
+  group_code n site before exits m (Groups list close) = statements_code n site before exits m list
+
+  -- statements one after another
+  pub statements_code : Numbering → Site → List Instr → Exits → ℕ → Statements → Emitted
+  statements_code n site before exits m NoStatements = Ok before
+  statements_code n site before exits m (MoreStatements first others) =
+      onwards (statement_code n site before exits m first) (λ middle. statements_code n site middle exits (after_statement m first) others)

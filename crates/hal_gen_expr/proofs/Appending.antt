@@ -1,0 +1,159 @@
+-- Code goes by what stands before it in nothing but its place: so its length is its own.
+use Rattle.std.specs.Prelude.{◌≡◌, ℕ, ◌+◌, Bool, true, false, ◌||◌, List, [], ◌∷◌, ◌++◌, length, Option, Some, None, Ok, Err, if◌then◌else◌}
+use Rattle.std.proofs.Common.{refl, sym, ap, ◌∙◌, append-nil, arith}
+use Rattle.hal_base.specs.declared.refusal.Place.{Place}
+use Rattle.hal_grammar.specs.Leaves.{Naming, Sign, Plus, Minus}
+use Rattle.hal_grammar.specs.Expressions.{Expression, Or, And, Compare, Cat, Sum, Product, Power, Not, Literal, Decimal, Referred, Called, Convert, Parenthesis, Expressions, NoExpressions, MoreExpressions, Terms, NoTerms, MoreTerms, Reference, Refers, Unsubscripted, ByName, ByInteger, ByParts}
+use Rattle.hal_operations.specs.declared.operation.Op2.{Op2}
+use Rattle.hal_operations.specs.declared.operation.Op1.TheVariants as op1
+use Rattle.hal_operations.specs.declared.operation.Op2.TheVariants as op2
+use Rattle.hal_constants.specs.declared.operation.Operation.{Operation}
+use Rattle.hal_constants.specs.declared.operation.Operation.TheVariants as operation
+use Rattle.hal_constants.specs.Naming.{operation_of}
+use Rattle.hal_meaning.specs.Calls.{parameter_named}
+use Rattle.hal_meaning.specs.Expressions.{literal_value, is_condition, are_conditions, exponent_of, operation_of_relation, operation_of_sign, operation_of_conversion, is_size, inputs_at}
+use Rattle.hal_meaning.specs.Variables.{is_whole}
+use Rattle.hal_code.specs.declared.instr.Instr.{Instr}
+use Rattle.hal_agreement.specs.PlacedExpressions.{pushes, two, stay}
+use Rattle.hal_agreement.specs.Sites.{Site}
+use Rattle.hal_gen_expr.specs.Emitting.{Emitted, onwards, emit, length_of}
+use Rattle.hal_gen_expr.specs.ExpressionCode.{emit_one, one, sign_code, reference_code, called_code, expression_code, folded_code, terms_code, built_code, arguments_code}
+use Rattle.hal_gen_expr.specs.Leaves.{value_of, call_of}
+use Rattle.hal_gen_expr.specs.Numbering.{Numbering}
+use Rattle.hal_gen_expr.specs.Referents.{Referent, DataOf, ConstantOf, EventOf, BlockOf, BuiltinOf, Unmeant, referent}
+use Rattle.hal_gen_expr.proofs.Growing.{append_append}
+
+-- the same with more before it
+abbrev pub behind : List Instr → Emitted → Emitted
+behind front (Ok code) = Ok (front ++ code)
+behind front (Err place) = Err place
+
+pub emit_behind : (front before : List Instr) (place : Place) (o : Option (List Instr)) → emit (front ++ before) place o ≡ behind front (emit before place o)
+emit_behind front before place None = refl
+emit_behind front before place (Some is) = ap Ok (append_append front before is)
+
+pub onwards_behind : (front : List Instr) (r there : Emitted) (next later : List Instr → Emitted) → there ≡ behind front r
+    → ((code : List Instr) → later (front ++ code) ≡ behind front (next code)) → onwards there later ≡ behind front (onwards r next)
+onwards_behind front (Ok code) there next later is each = ap (λ r. onwards r later) is ∙ each code
+onwards_behind front (Err place) there next later is each = ap (λ r. onwards r later) is
+
+if_behind : (b : Bool) (front : List Instr) (r there : Emitted) (place : Place) → there ≡ behind front r → (if b then there else Err place) ≡ behind front (if b then r else Err place)
+if_behind true front r there place is = is
+if_behind false front r there place is = refl
+
+unless_behind : (b : Bool) (front : List Instr) (r there : Emitted) (place : Place) → there ≡ behind front r → (if b then Err place else there) ≡ behind front (if b then Err place else r)
+unless_behind true front r there place is = refl
+unless_behind false front r there place is = is
+
+module _ (n : Numbering) (site : Site) (front : List Instr) where
+  sign_behind : (opening : Option Sign) (before : List Instr) (place : Place) → sign_code (front ++ before) place opening ≡ behind front (sign_code before place opening)
+  sign_behind (Some Minus) before place = emit_behind front before place (Some (one op1.Minus ∷ []))
+  sign_behind (Some Plus) before place = refl
+  sign_behind None before place = refl
+
+  reference_behind : (reference : Reference) (before : List Instr) → reference_code n site (front ++ before) reference ≡ behind front (reference_code n site before reference)
+  reference_behind (Refers place name path Unsubscripted) before = emit_behind front before place (value_of n site path (referent site name))
+  reference_behind (Refers place name path (ByName at name_there)) before = refl
+  reference_behind (Refers place name path (ByInteger at mark number)) before = refl
+  reference_behind (Refers place name path (ByParts at copies arrays components)) before = refl
+
+  called_behind : (r : Referent) (before : List Instr) (place : Place) (folded : List Instr → Emitted) (built built_there : Operation → Emitted) (arguments arguments_there : ℕ → Emitted)
+      → ((code : List Instr) → folded (front ++ code) ≡ behind front (folded code)) → ((op : Operation) → built_there op ≡ behind front (built op)) → ((unit : ℕ) → arguments_there unit ≡ behind front (arguments unit))
+      → called_code n site (front ++ before) place folded built_there arguments_there r ≡ behind front (called_code n site before place folded built arguments r)
+  called_behind (DataOf k kept shape) before place folded built built_there arguments arguments_there f b a =
+      onwards_behind front (emit before place (value_of n site [] (DataOf k kept shape))) _ folded folded (emit_behind front before place (value_of n site [] (DataOf k kept shape))) f
+  called_behind (ConstantOf v) before place folded built built_there arguments arguments_there f b a =
+      onwards_behind front (emit before place (value_of n site [] (ConstantOf v))) _ folded folded (emit_behind front before place (value_of n site [] (ConstantOf v))) f
+  called_behind (EventOf e) before place folded built built_there arguments arguments_there f b a = refl
+  called_behind (BlockOf unit) before place folded built built_there arguments arguments_there f b a =
+      onwards_behind front (arguments unit) (arguments_there unit) _ _ (a unit) (λ code. emit_behind front code place (call_of n site true unit))
+  called_behind (BuiltinOf one) before place folded built built_there arguments arguments_there f b a =
+      unless_behind (is_size one) front (built (operation_of one)) (built_there (operation_of one)) place (b (operation_of one))
+  called_behind Unmeant before place folded built built_there arguments arguments_there f b a = refl
+
+  mutual
+    pub expression_behind : (tree : Expression) (before : List Instr) → expression_code n site (front ++ before) tree ≡ behind front (expression_code n site before tree)
+    expression_behind (Or place first others) before =
+        if_behind (stay (is_condition first || are_conditions others) (MoreExpressions first others)) front _ _ place
+        (onwards_behind front (expression_code n site before first) _ _ _ (expression_behind first before) (λ code. folded_behind others place op2.Or code))
+    expression_behind (And place first others) before =
+        if_behind (stay (is_condition first || are_conditions others) (MoreExpressions first others)) front _ _ place
+        (onwards_behind front (expression_code n site before first) _ _ _ (expression_behind first before) (λ code. folded_behind others place op2.And code))
+    expression_behind (Compare place left relation right) before =
+        onwards_behind front (expression_code n site before left) _ _ _ (expression_behind left before)
+        (λ code. onwards_behind front (expression_code n site code right) _ _ _ (expression_behind right code) (λ late. emit_behind front late place (Some (two (operation_of_relation relation) ∷ []))))
+    expression_behind (Cat place first others) before = onwards_behind front (expression_code n site before first) _ _ _ (expression_behind first before) (λ code. folded_behind others place op2.Cat code)
+    expression_behind (Sum place opening first others) before =
+        onwards_behind front (expression_code n site before first) _ _ _ (expression_behind first before)
+        (λ code. onwards_behind front (sign_code code place opening) _ _ _ (sign_behind opening code place) (λ late. terms_behind others late))
+    expression_behind (Product place first others) before = onwards_behind front (expression_code n site before first) _ _ _ (expression_behind first before) (λ code. folded_behind others place op2.Product code)
+    expression_behind (Power place base exponent) before =
+        onwards_behind front (expression_code n site before base) _ _ _ (expression_behind base before) (λ code. emit_behind front code place (Some (pushes (exponent_of exponent) ∷ two op2.Power ∷ [])))
+    expression_behind (Not place operand) before = onwards_behind front (expression_code n site before operand) _ _ _ (expression_behind operand before) (λ code. emit_behind front code place (Some (one op1.Not ∷ [])))
+    expression_behind (Literal place literal) before = emit_behind front before place (Some (pushes (literal_value literal) ∷ []))
+    expression_behind (Decimal place number) before = refl
+    expression_behind (Referred reference) before = reference_behind reference before
+    expression_behind (Called place name arguments) before =
+        called_behind (referent site name) before place (λ middle. folded_code n site middle place op2.Product arguments) (λ op. built_code n site before place op arguments) (λ op. built_code n site (front ++ before) place op arguments)
+        (λ unit. arguments_code n site before place unit (inputs_at site.set unit) arguments) (λ unit. arguments_code n site (front ++ before) place unit (inputs_at site.set unit) arguments)
+        (λ code. folded_behind arguments place op2.Product code) (λ op. built_behind arguments op place before) (λ unit. arguments_behind arguments unit (inputs_at site.set unit) place before)
+    expression_behind (Convert place conversion operand) before =
+        onwards_behind front (expression_code n site before operand) _ _ _ (expression_behind operand before) (λ code. emit_behind front code place (Some (one (operation_of_conversion conversion) ∷ [])))
+    expression_behind (Parenthesis place inner) before = expression_behind inner before
+
+    folded_behind : (trees : Expressions) (place : Place) (op : Op2) (before : List Instr) → folded_code n site (front ++ before) place op trees ≡ behind front (folded_code n site before place op trees)
+    folded_behind NoExpressions place op before = refl
+    folded_behind (MoreExpressions first others) place op before =
+        onwards_behind front (expression_code n site before first) _ _ _ (expression_behind first before)
+        (λ code. onwards_behind front (emit_one code place (two op)) _ (λ late. folded_code n site late place op others) (λ late. folded_code n site late place op others) (emit_behind front code place (Some (two op ∷ []))) (λ late. folded_behind others place op late))
+
+    terms_behind : (terms : Terms) (before : List Instr) → terms_code n site (front ++ before) terms ≡ behind front (terms_code n site before terms)
+    terms_behind NoTerms before = refl
+    terms_behind (MoreTerms place sign term others) before =
+        onwards_behind front (expression_code n site before term) _ _ _ (expression_behind term before)
+        (λ code. onwards_behind front (emit_one code place (two (operation_of_sign sign))) _ (λ late. terms_code n site late others) (λ late. terms_code n site late others) (emit_behind front code place (Some (two (operation_of_sign sign) ∷ []))) (λ late. terms_behind others late))
+
+    built_behind : (trees : Expressions) (op : Operation) (place : Place) (before : List Instr) → built_code n site (front ++ before) place op trees ≡ behind front (built_code n site before place op trees)
+    built_behind (MoreExpressions operand NoExpressions) (operation.One op) place before =
+        onwards_behind front (expression_code n site before operand) _ _ _ (expression_behind operand before) (λ code. emit_behind front code place (Some (one op ∷ [])))
+    built_behind (MoreExpressions left (MoreExpressions right NoExpressions)) (operation.Two op) place before =
+        onwards_behind front (expression_code n site before left) _ _ _ (expression_behind left before)
+        (λ code. onwards_behind front (expression_code n site code right) _ _ _ (expression_behind right code) (λ late. emit_behind front late place (Some (two op ∷ []))))
+    built_behind NoExpressions (operation.One op) place before = refl
+    built_behind (MoreExpressions operand (MoreExpressions next others)) (operation.One op) place before = refl
+    built_behind NoExpressions (operation.Two op) place before = refl
+    built_behind (MoreExpressions left NoExpressions) (operation.Two op) place before = refl
+    built_behind (MoreExpressions left (MoreExpressions right (MoreExpressions next others))) (operation.Two op) place before = refl
+    built_behind trees operation.Size place before = refl
+    built_behind trees operation.Nothing place before = refl
+
+    pub arguments_behind : (trees : Expressions) (unit : ℕ) (names : List Naming) (place : Place) (before : List Instr)
+        → arguments_code n site (front ++ before) place unit names trees ≡ behind front (arguments_code n site before place unit names trees)
+    arguments_behind NoExpressions unit [] place before = refl
+    arguments_behind (MoreExpressions first others) unit (name ∷ names) place before =
+        unless_behind (is_whole (parameter_named site.set unit name).shape) front _ _ place
+        (onwards_behind front (expression_code n site before first) _ _ _ (expression_behind first before) (λ code. arguments_behind others unit names place code))
+    arguments_behind NoExpressions unit (name ∷ names) place before = refl
+    arguments_behind (MoreExpressions first others) unit [] place before = refl
+
+length_both : (before is : List Instr) → length (before ++ is) ≡ length before + length is
+length_both [] is = omega arith
+length_both (i ∷ before) is = omega (arith, length_both before is)
+
+-- what is emitted is as long as alone
+pub grows_by : (r there : Emitted) (before after : List Instr) → there ≡ behind before r → there ≡ Ok after → length after ≡ length before + length_of r
+grows_by (Ok code) there before after is given = ap length (let same : before ++ code ≡ after = cc in sym same) ∙ length_both before code
+grows_by (Err place) there before after is given = absurd (cc)
+
+-- the code of an expression, and of arguments
+pub expression_grows : (n : Numbering) (site : Site) (tree : Expression) (before after : List Instr) → expression_code n site before tree ≡ Ok after
+    → length after ≡ length before + length_of (expression_code n site [] tree)
+expression_grows n site tree before after is =
+    grows_by (expression_code n site [] tree) (expression_code n site (before ++ []) tree) before after (expression_behind n site before tree [])
+    (ap (λ l. expression_code n site l tree) (append-nil before) ∙ is)
+
+pub arguments_grow : (n : Numbering) (site : Site) (trees : Expressions) (unit : ℕ) (names : List Naming) (place : Place) (before after : List Instr) → arguments_code n site before place unit names trees ≡ Ok after
+    → length after ≡ length before + length_of (arguments_code n site [] place unit names trees)
+arguments_grow n site trees unit names place before after is =
+    grows_by (arguments_code n site [] place unit names trees) (arguments_code n site (before ++ []) place unit names trees) before after (arguments_behind n site before trees unit names place [])
+    (ap (λ l. arguments_code n site l place unit names trees) (append-nil before) ∙ is)

@@ -1,0 +1,6 @@
+pub mod Growing
+pub mod Referring
+pub mod Numbered
+pub mod Named
+pub mod Expressed
+pub mod Appending

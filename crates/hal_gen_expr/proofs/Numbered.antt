@@ -1,0 +1,118 @@
+-- Views and blocks by their numbers.
+use Rattle.std.specs.Prelude.{◌≡◌, ℕ, suc, ◌+◌, ◌==◌, nat_lt, Bool, true, false, ◌&&◌, List, [], ◌∷◌, Option, Some, None, slice_get, if◌then◌else◌}
+use Rattle.std.specs.Option.{option_map, option_and_then}
+use Rattle.std.proofs.lemmas.Bool.{eqb-true, and_parts}
+use Rattle.std.proofs.Common.{refl, sym, ap, subst, ◌∙◌}
+use Rattle.hal_values.specs.declared.value.Kind.{Kind}
+use Rattle.hal_values.specs.declared.value.Kind.TheVariants as kind
+use Rattle.hal_states.specs.Spots.{Spot, Held, further}
+use Rattle.hal_code.specs.declared.instr.Instr.{Instr}
+use Rattle.hal_code.specs.declared.instr.Instr.TheVariants as instr
+use Rattle.hal_code.specs.declared.row.Base.{Base}
+use Rattle.hal_code.specs.declared.row.Base.TheVariants as base
+use Rattle.hal_code.specs.declared.row.Dimension.{Dimension}
+use Rattle.hal_code.specs.declared.row.Target.{Target}
+use Rattle.hal_code.specs.declared.row.Target.TheVariants as target
+use Rattle.hal_code.specs.declared.row.View.{View}
+use Rattle.hal_code.specs.Addressing as machine
+use Rattle.hal_code.specs.Sorts.{same_kind}
+use Rattle.hal_meaning.specs.Places.{Storing, InCells, InPlaces, ByReference, Unstored}
+use Rattle.hal_meaning.specs.ReportNames.{first_cell, first_place}
+use Rattle.hal_meaning.specs.Variables as tree
+use Rattle.hal_agreement.specs.Codes.{Code}
+use Rattle.hal_agreement.specs.PlacedExpressions.{Has, IsPlain, AddressAt}
+use Rattle.hal_agreement.specs.Sites.{Site, here_at}
+use Rattle.hal_gen_expr.specs.Standing.{IsNumbered}
+use Rattle.hal_gen_expr.specs.Numbering.{Numbering, below, most, base_of, same_base, has_none, gives_cell, is_cell_view, first_where, view_number}
+use Rattle.hal_gen_expr.specs.Leaves.{address_of}
+
+pub below_is : (limit n m : ℕ) → below limit n ≡ Some m → n ≡ m
+below_is limit n m = by (nat_lt n limit) where
+  by : (b : Bool) → (if b then Some n else None) ≡ Some m → n ≡ m
+  by true is = cc
+  by false is = absurd (cc)
+
+-- a number that was found
+pub mapped_is : {X Y : Type 0} (f : X → Y) (o : Option X) (y : Y) → option_map f o ≡ Some y → (x : X) × (o ≡ Some x) × (f x ≡ y)
+mapped_is f None y is = absurd (cc)
+mapped_is f (Some x) y is = (x, refl, cc)
+
+pub then_is : {X Y : Type 0} (f : X → Option Y) (o : Option X) (y : Y) → option_and_then f o ≡ Some y → (x : X) × (o ≡ Some x) × (f x ≡ Some y)
+then_is f None y is = absurd (cc)
+then_is f (Some x) y is = (x, refl, is)
+
+found_here : {X : Type 0} (is : X → Bool) (x : X) (xs : List X) (k : ℕ) (b : Bool) → is x ≡ b → ((later : ℕ) → first_where is xs ≡ Some later → (one : X) × (slice_get xs later ≡ Some one) × (is one ≡ true))
+    → (if b then Some 0 else option_map suc (first_where is xs)) ≡ Some k → (one : X) × (slice_get (x ∷ xs) k ≡ Some one) × (is one ≡ true)
+found_here {X} is x xs k true holds others there =
+    subst (λ m. (one : X) × (slice_get (x ∷ xs) m ≡ Some one) × (is one ≡ true)) (let zero_is : 0 ≡ k = cc in zero_is) (x, refl, holds)
+found_here {X} is x xs k false fails others there =
+    let later = mapped_is suc (first_where is xs) k there in
+    subst (λ m. (one : X) × (slice_get (x ∷ xs) m ≡ Some one) × (is one ≡ true)) later.2 (others later.0 later.1)
+
+pub first_is : {X : Type 0} (is : X → Bool) (xs : List X) (k : ℕ) → first_where is xs ≡ Some k → (x : X) × (slice_get xs k ≡ Some x) × (is x ≡ true)
+first_is is [] k found = absurd (cc)
+first_is is (x ∷ xs) k found = found_here is x xs k (is x) refl (λ later there. first_is is xs later there) found
+
+kind_same : (k l : Kind) → same_kind k l ≡ true → k ≡ l
+kind_same kind.Single kind.Single is = refl
+kind_same kind.Double kind.Double is = refl
+kind_same (kind.Bits m) (kind.Bits n) is = ap kind.Bits (eqb-true m n is)
+kind_same (kind.Text m) (kind.Text n) is = ap kind.Text (eqb-true m n is)
+kind_same other one is = absurd (cc)
+
+base_same : (a b : Base) → same_base a b ≡ true → a ≡ b
+base_same (base.Shared n) (base.Shared m) is = ap base.Shared (eqb-true n m is)
+base_same (base.Own n) (base.Own m) is = ap base.Own (eqb-true n m is)
+base_same (base.Through at n) (base.Through other m) is =
+    ap (λ p. base.Through p n) (eqb-true at other ((and_parts (at == other) (n == m) is).0)) ∙ ap (base.Through other) (eqb-true n m ((and_parts (at == other) (n == m) is).1))
+base_same one other is = absurd (cc)
+
+none_is : (ds : List Dimension) → has_none ds ≡ true → ds ≡ []
+none_is [] is = refl
+none_is (d ∷ ds) is = absurd (cc)
+
+target_is : (k : Kind) (t : Target) → gives_cell k t ≡ true → t ≡ target.Cell k
+target_is k (target.Cell other) is = ap target.Cell (kind_same other k is)
+target_is k (target.Shape shape) is = absurd (cc)
+
+plain : (from : Base) (k : Kind) (row : View) (held : List Held) (at : Spot) → is_cell_view from k row ≡ true → machine.spot_of from held ≡ at → IsPlain row held k at
+plain from k row held at is there =
+    let late = (and_parts (same_base row.base from) (has_none row.dimensions && gives_cell k row.target) is).1 in
+    record {
+      dimensions = none_is row.dimensions ((and_parts (has_none row.dimensions) (gives_cell k row.target) late).0);
+      target = target_is k row.target ((and_parts (has_none row.dimensions) (gives_cell k row.target) late).1);
+      base = ap (λ b. machine.spot_of b held) (base_same row.base from ((and_parts (same_base row.base from) (has_none row.dimensions && gives_cell k row.target) is).0)) ∙ there;
+    }
+
+module _ (code : Code) (n : Numbering) (site : Site) (numbered : IsNumbered code n) where
+  -- a base leads where the data lie
+  base_leads : (k at : ℕ) (stored : Storing) (from : Base) (held : List Held) → base_of site k at stored ≡ Some from
+      → machine.spot_of from held ≡ further at (tree.spot_of (here_at site) held k stored)
+  base_leads k at (InCells group) from held is =
+      let low = mapped_is base.Shared (below most (first_cell site.set.phrases site.set.constants k + at)) from is in
+      ap (λ b. machine.spot_of b held) (sym low.2 ∙ ap base.Shared (sym (below_is most (first_cell site.set.phrases site.set.constants k + at) low.0 low.1)))
+  base_leads k at InPlaces from held is =
+      let low = mapped_is base.Own (below most (first_place site.places k + at)) from is in
+      ap (λ b. machine.spot_of b held) (sym low.2 ∙ ap base.Own (sym (below_is most (first_place site.places k + at) low.0 low.1)))
+  base_leads k at ByReference from held is =
+      let place = then_is (λ p. option_map (base.Through p) (below most at)) (below most (first_place site.places k)) from is in
+      let low = mapped_is (base.Through place.0) (below most at) from place.2
+      in ap (λ b. machine.spot_of b held)
+      (sym low.2 ∙ (ap (base.Through place.0) (sym (below_is most at low.0 low.1)) ∙ ap (λ p. base.Through p at) (sym (below_is most (first_place site.places k) place.0 place.1))))
+  base_leads k at Unstored from held is = absurd (cc)
+
+  -- CELL with the number of a view
+  pub address_at : (k : ℕ) (stored : Storing) (at : ℕ) (kind : Kind) (i : Instr) (from : ℕ) (held : List Held) → address_of n site k stored at kind ≡ Some i → Has code from i
+      → AddressAt code held kind (further at (tree.spot_of (here_at site) held k stored)) from
+  address_at k stored at kind i from held is has =
+      let there = then_is (λ b. option_map instr.Cell (view_number n kind b)) (base_of site k at stored) i is in
+      let named = mapped_is instr.Cell (view_number n kind there.0) i there.2 in
+      let low = then_is (below most) (first_where (is_cell_view there.0 kind) n.views) named.0 named.1 in
+      let row = first_is (is_cell_view there.0 kind) n.views low.0 low.1
+      in record {
+        number = named.0;
+        view = row.0;
+        cell = subst (λ one. Has code from one) (sym named.2) has;
+        row = ap (λ views. slice_get views named.0) numbered.views ∙ (ap (λ m. slice_get n.views m) (sym (below_is most low.0 named.0 low.2)) ∙ row.1);
+        plain = plain there.0 kind row.0 held (further at (tree.spot_of (here_at site) held k stored)) row.2 (base_leads k at stored there.0 held there.1);
+      }

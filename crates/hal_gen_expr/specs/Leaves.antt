@@ -1,0 +1,82 @@
+-- The code of names: None where there is none yet.
+use Rattle.std.specs.Prelude.{ℕ, Bool, true, false, not, ◌&&◌, List, [], ◌∷◌, ◌++◌, Option, Some, None, if◌then◌else◌}
+use Rattle.std.specs.Option.{option_map, option_and_then, is_some}
+use Rattle.hal_grammar.specs.Leaves.{Naming}
+use Rattle.hal_scope.specs.declared.builtin.Builtin.{Builtin}
+use Rattle.hal_scope.specs.declared.builtin.Builtin.TheVariants as builtin
+use Rattle.hal_values.specs.declared.value.Kind.{Kind}
+use Rattle.hal_code.specs.declared.instr.Instr.{Instr}
+use Rattle.hal_code.specs.declared.instr.Instr.TheVariants as instr
+use Rattle.hal_meaning.specs.Bodies.{Body}
+use Rattle.hal_meaning.specs.Calls.{Parameter, parameter_named, inputs_of, outputs_of, is_function}
+use Rattle.hal_meaning.specs.Elements.{Component, Shape, chosen, offset}
+use Rattle.hal_meaning.specs.Expressions.{inputs_at}
+use Rattle.hal_meaning.specs.Places.{Storing, InPlaces}
+use Rattle.hal_meaning.specs.Sets.{body_at}
+use Rattle.hal_meaning.specs.Variables.{kind_of_first}
+use Rattle.hal_agreement.specs.PlacedExpressions.{pushes}
+use Rattle.hal_agreement.specs.Sites.{Site}
+use Rattle.hal_gen_expr.specs.Numbering.{Numbering, below, base_of, view_number, block_number}
+use Rattle.hal_gen_expr.specs.Referents.{Referent, DataOf, ConstantOf, EventOf, BlockOf, BuiltinOf, Unmeant}
+
+abbrev pub is_nil : {X : Type 0} → List X → Bool
+is_nil [] = true
+is_nil (x ∷ xs) = false
+
+-- whether a component is one element
+abbrev pub is_one : List Component → Bool
+is_one (c ∷ []) = is_nil c.sizes
+is_one other = false
+
+-- CELL of an element that lies there
+abbrev pub address_of : Numbering → Site → ℕ → Storing → ℕ → Kind → Option Instr
+address_of n site k stored at kind = option_and_then (λ from. option_map instr.Cell (view_number n kind from)) (base_of site k at stored)
+
+-- the same of the one element to which names lead
+abbrev pub element_of : Numbering → Site → List Naming → ℕ → Storing → Shape → Option Instr
+element_of n site path k stored shape =
+    if not (is_some shape.copies) && is_one (chosen path shape.components)
+    then address_of n site k stored (offset path shape.components) (kind_of_first (chosen path shape.components))
+    else None
+
+-- built-in functions without a list
+abbrev pub alone_of : Builtin → Option Instr
+alone_of builtin.Errgrp = Some instr.ErrGrp
+alone_of builtin.Errnum = Some instr.ErrNum
+alone_of builtin.Runtime = Some instr.Now
+alone_of other = None
+
+-- the stores of input parameters of a unit, from the last to the first
+abbrev pub parameter_of : Numbering → Site → Parameter → Option Instr
+parameter_of n site p = address_of n site p.number InPlaces 0 (kind_of_first p.shape.components)
+
+abbrev pub and_kept : Option (List Instr) → Option Instr → Option (List Instr)
+and_kept stores address = option_and_then (λ is. option_map (λ i. is ++ (i ∷ instr.Keep ∷ [])) address) stores
+
+abbrev pub parameters_of : Numbering → Site → ℕ → List Naming → Option (List Instr)
+parameters_of n site unit [] = Some []
+parameters_of n site unit (name ∷ names) = and_kept (parameters_of n site unit names) (parameter_of n site (parameter_named site.set unit name))
+
+-- a call of a unit behind its arguments: of a FUNCTION, or of a PROCEDURE, without ASSIGN parameters
+abbrev pub same_form : Bool → Bool → Bool
+same_form true b = b
+same_form false b = not b
+
+abbrev pub call_with : Numbering → Site → Body → ℕ → Option (List Instr)
+call_with n site body number = option_map (λ is. is ++ (instr.Call number ∷ [])) (parameters_of n site body.number (inputs_of body.head))
+
+abbrev pub call_to : Numbering → Site → Bool → ℕ → Body → Option (List Instr)
+call_to n site function unit body =
+    if same_form function (is_function body.head) && is_nil (outputs_of body.head) then option_and_then (call_with n site body) (block_number n unit) else None
+
+abbrev pub call_of : Numbering → Site → Bool → ℕ → Option (List Instr)
+call_of n site function unit = option_and_then (call_to n site function unit) (body_at site.set unit)
+
+-- the value of what a name refers to, without subscripts
+abbrev pub value_of : Numbering → Site → List Naming → Referent → Option (List Instr)
+value_of n site path (DataOf k stored shape) = option_map (λ i. i ∷ instr.Fetch ∷ []) (element_of n site path k stored shape)
+value_of n site path (ConstantOf v) = Some (pushes v ∷ [])
+value_of n site path (EventOf e) = option_map (λ number. instr.Event number ∷ []) (below 65536 e)
+value_of n site path (BlockOf unit) = if is_nil (inputs_at site.set unit) then call_of n site true unit else None
+value_of n site path (BuiltinOf b) = option_map (λ i. i ∷ []) (alone_of b)
+value_of n site path Unmeant = None

@@ -1,0 +1,69 @@
+-- How the code of a set numbers its views and blocks.
+use Rattle.std.specs.Prelude.{ℕ, suc, ◌+◌, ◌==◌, nat_lt, Bool, true, false, ◌&&◌, List, [], ◌∷◌, Option, Some, None, if◌then◌else◌}
+use Rattle.std.specs.Option.{option_map, option_and_then}
+use Rattle.hal_values.specs.declared.value.Kind.{Kind}
+use Rattle.hal_code.specs.declared.row.Base.{Base}
+use Rattle.hal_code.specs.declared.row.Base.TheVariants as base
+use Rattle.hal_code.specs.declared.row.Dimension.{Dimension}
+use Rattle.hal_code.specs.declared.row.Target.{Target}
+use Rattle.hal_code.specs.declared.row.Target.TheVariants as target
+use Rattle.hal_code.specs.declared.row.View.{View}
+use Rattle.hal_code.specs.Sorts.{same_kind}
+use Rattle.hal_meaning.specs.Places.{Storing, InCells, InPlaces, ByReference, Unstored}
+use Rattle.hal_meaning.specs.ReportNames.{first_cell, first_place}
+use Rattle.hal_agreement.specs.Sites.{Site}
+
+-- the rows of the views, and the units of the blocks that are called, each in the order of its numbers
+pub record Numbering : Type 0 where
+  pub views : List View
+  pub units : List ℕ
+
+-- a number below a limit
+abbrev pub below : ℕ → ℕ → Option ℕ
+below limit n = if nat_lt n limit then Some n else None
+
+-- the numbers of 32 bits
+abbrev pub most : ℕ
+most = 4294967296
+
+-- where the element so many elements behind the first one of a declaration's data lies
+abbrev pub base_of : Site → ℕ → ℕ → Storing → Option Base
+base_of site k n (InCells group) = option_map base.Shared (below most (first_cell site.set.phrases site.set.constants k + n))
+base_of site k n InPlaces = option_map base.Own (below most (first_place site.places k + n))
+base_of site k n ByReference = option_and_then (λ at. option_map (base.Through at) (below most n)) (below most (first_place site.places k))
+base_of site k n Unstored = None
+
+abbrev pub same_base : Base → Base → Bool
+same_base (base.Shared n) (base.Shared m) = n == m
+same_base (base.Own n) (base.Own m) = n == m
+same_base (base.Through at n) (base.Through other m) = (at == other) && (n == m)
+same_base one other = false
+
+-- the view of a cell of this kind there
+abbrev pub cell_view : Base → Kind → View
+cell_view from kind = record { base = from; dimensions = []; target = target.Cell kind }
+
+abbrev pub has_none : List Dimension → Bool
+has_none [] = true
+has_none (d ∷ ds) = false
+
+abbrev pub gives_cell : Kind → Target → Bool
+gives_cell kind (target.Cell other) = same_kind other kind
+gives_cell kind (target.Shape shape) = false
+
+-- whether a row is this view
+abbrev pub is_cell_view : Base → Kind → View → Bool
+is_cell_view from kind row = same_base row.base from && (has_none row.dimensions && gives_cell kind row.target)
+
+-- the place of the first one that is so
+abbrev pub first_where : {X : Type 0} → (X → Bool) → List X → Option ℕ
+first_where is [] = None
+first_where is (x ∷ xs) = if is x then Some 0 else option_map suc (first_where is xs)
+
+-- the number of the view of a cell
+abbrev pub view_number : Numbering → Kind → Base → Option ℕ
+view_number n kind from = option_and_then (below most) (first_where (is_cell_view from kind) n.views)
+
+-- the number of the block of a unit
+abbrev pub block_number : Numbering → ℕ → Option ℕ
+block_number n unit = option_and_then (below most) (first_where (λ one. one == unit) n.units)
