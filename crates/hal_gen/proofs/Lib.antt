@@ -1,3 +1,4 @@
 pub mod Measured
 pub mod Simple
 pub mod Stated
+pub mod Forwarding

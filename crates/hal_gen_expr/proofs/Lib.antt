@@ -4,3 +4,4 @@ pub mod Numbered
 pub mod Named
 pub mod Expressed
 pub mod Appending
+pub mod Forwarding

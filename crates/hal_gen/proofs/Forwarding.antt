@@ -1,0 +1,370 @@
+-- The code of statements goes on: each jump leads forward, or back to the TURN of a loop that is left behind the jump.
+use Rattle.std.specs.Prelude.{◌≡◌, ◌≤◌, ◌<◌, ℕ, suc, ◌+◌, Bool, true, false, List, [], ◌∷◌, ◌++◌, length, Option, Some, None, slice_get, Result, Ok, Err, if◌then◌else◌}
+use Rattle.std.specs.Option.{option_map}
+use Rattle.std.proofs.Common.{refl, sym, ap, subst, ◌∙◌, inl, inr, arith}
+use Rattle.hal_base.specs.declared.refusal.Place.{Place}
+use Rattle.hal_grammar.specs.Leaves.{Naming}
+use Rattle.hal_grammar.specs.Declarations.{IntegerKind, BooleanKind, EventKind, BitKind, CharacterKind, StructureKind}
+use Rattle.hal_grammar.specs.Expressions.{Expression, Decimal, Expressions, NoExpressions, MoreExpressions, Reference, Refers, Unsubscripted, ByName, ByInteger, ByParts}
+use Rattle.hal_grammar.specs.Statements.{Guard, While, Until, EventAction, Signal, Set, Reset, Statement, Labelled, Basic, Null, Assignment, If, Do, DoCase, DoLoop, DoFor, Exit, Repeat, Return, Call, Read, Write, Cancel, Terminate, Wait, WaitUntil, WaitForDependent, WaitFor, Event, Scheduled, UpdatePriority, Update, OnErrorStatement, OnErrorResponse, OffError, SendError, Alternative, NoAlternative, Otherwise, Group, Groups, Statements, NoStatements, MoreStatements}
+use Rattle.hal_grammar.specs.Units.{Head, Program, Task, Compool, Procedure, Function, HasKind, NoKind}
+use Rattle.hal_meaning.specs.Bodies.{Body}
+use Rattle.hal_meaning.specs.Events.{event_named}
+use Rattle.hal_meaning.specs.Expressions.{inputs_at}
+use Rattle.hal_meaning.specs.Marks.{after_statement}
+use Rattle.hal_meaning.specs.RealTime.{stated_at_mark}
+use Rattle.hal_meaning.specs.Sets.{body_at}
+use Rattle.hal_meaning.specs.Statements.{is_meant, label_name, update_groups}
+use Rattle.hal_meaning.specs.Variables.{Meant, MeantData, MeantConstant, MeantEvent, MeantBlock, MeantBuiltin, MeantNothing, name_meant}
+use Rattle.hal_code.specs.declared.instr.Instr.{Instr}
+use Rattle.hal_code.specs.declared.instr.Instr.TheVariants as instr
+use Rattle.hal_code.specs.declared.operand.Delay.{Delay}
+use Rattle.hal_code.specs.declared.operand.Delay.TheVariants as delay
+use Rattle.hal_code.specs.declared.operand.Time.{Time}
+use Rattle.hal_code.specs.Forward.{GoesOn}
+use Rattle.hal_agreement.specs.Codes.{Code}
+use Rattle.hal_agreement.specs.PlacedExpressions.{Has, One}
+use Rattle.hal_agreement.specs.PlacedStatements.{Leaving, ToFinish, ByReturn, ByResult, NoReturn, Opened, Exits, exit_of, again_of, opened, within_group, of_block, KeptAt, ReceiverAt, ReceiversAt, ItemsAt, FirstTestAt, TestAt, ReturnAt, ResultBy, ResultAt, CalledAt, ReadsAt, changes, PauseAt, EventAt, EachAt, NamedOrOwnAt, BasicAt}
+use Rattle.hal_agreement.specs.Sites.{Site, here_at}
+use Rattle.hal_gen_expr.specs.Emitting.{Emitted, onwards, emit}
+use Rattle.hal_gen_expr.specs.ExpressionCode.{emit_one, expression_code}
+use Rattle.hal_gen_expr.specs.Numbering.{Numbering, below}
+use Rattle.hal_gen_expr.specs.Standing.{Begins, IsNumbered, Placed}
+use Rattle.hal_gen_expr.proofs.Expressed.{ok_is, expression_at}
+use Rattle.hal_gen_expr.proofs.Forwarding.{Goes, none_goes, one_goes, joined_goes, first_goes, call_goes, expression_goes, arguments_go}
+use Rattle.hal_gen_expr.proofs.Growing.{length_of_one_more, weaker, has_there, one_placed, none_placed, first_placed}
+use Rattle.hal_gen.specs.Leaves.{return_of}
+use Rattle.hal_gen.specs.Sizes.{jump_size, alternative_size, statement_size, basic_size, group_size, statements_size, test_size}
+use Rattle.hal_gen.specs.StatementCode.{first_test_code, test_code, statement_code, basic_code, alternative_code, group_code, statements_code}
+use Rattle.hal_gen.proofs.Measured.{later, first_test_longer, test_longer, statement_longer, basic_longer, alternative_longer, group_longer, statements_longer}
+use Rattle.hal_gen.proofs.Simple.{first_test_at, test_at}
+use Rattle.hal_gen.proofs.Stated.{opens_at, basic_at}
+
+-- EXIT, REPEAT and RETURN lead on from before this address
+pub record Ahead (exits : Exits) (to : ℕ) : Type 0 where
+  pub exit : (label : Option (List ℕ)) (target : ℕ) → exit_of exits.groups label ≡ Some target → to ≤ target
+  pub again : (label : Option (List ℕ)) (target : ℕ) → again_of exits.groups label ≡ Some target → to ≤ target
+  pub finish : (at : ℕ) → exits.leaving ≡ ToFinish at → to ≤ at
+
+pub earlier : (exits : Exits) (from to : ℕ) → from ≤ to → Ahead exits to → Ahead exits from
+earlier exits from to less ahead =
+    record {
+      exit = λ label target is. let far = ahead.exit label target is in omega (arith, far, less);
+      again = λ label target is. let far = ahead.again label target is in omega (arith, far, less);
+      finish = λ at is. let far = ahead.finish at is in omega (arith, far, less);
+    }
+
+chosen_exit : (b : Bool) (one : ℕ) (others : Option ℕ) (target to : ℕ) → (if b then Some one else others) ≡ Some target → to ≤ one → (others ≡ Some target → to ≤ target) → to ≤ target
+chosen_exit true one others target to is here there = let same : one ≡ target = cc in omega (arith, same, here)
+chosen_exit false one others target to is here there = there is
+
+-- a group that isn't a loop, and one that is
+in_group : (labels : List Naming) (exits : Exits) (exit to : ℕ) → to ≤ exit → Ahead exits to → Ahead (within_group (opened labels exit None) exits) to
+in_group labels exits exit to far ahead =
+    record {
+      exit = λ label target is. chosen_exit (is_meant labels label) exit (exit_of exits.groups label) target to is far (ahead.exit label target);
+      again = ahead.again;
+      finish = ahead.finish;
+    }
+
+in_loop : (labels : List Naming) (exits : Exits) (exit again to : ℕ) → to ≤ exit → to ≤ again → Ahead exits to → Ahead (within_group (opened labels exit (Some again)) exits) to
+in_loop labels exits exit again to far far_again ahead =
+    record {
+      exit = λ label target is. chosen_exit (is_meant labels label) exit (exit_of exits.groups label) target to is far (ahead.exit label target);
+      again = λ label target is. chosen_exit (is_meant labels label) again (again_of exits.groups label) target to is far_again (ahead.again label target);
+      finish = ahead.finish;
+    }
+
+-- no group is open, and no RETURN stands there
+none_open : (handler : ℕ → ℕ) (to : ℕ) → Ahead (of_block NoReturn handler) to
+none_open handler to = record { exit = λ label target is. absurd (cc); again = λ label target is. absurd (cc); finish = λ at is. absurd (cc) }
+
+module _ (code : Code) (n : Numbering) (site : Site) (numbered : IsNumbered code n) where
+  kept_goes : (path : List Naming) (m : Meant) (from to : ℕ) → KeptAt code path [] m from to → Goes code from to
+  kept_goes path (MeantData at shape) from to there = first_goes code from to _ there.0.cell tt (one_goes code (suc from) to _ there.1 tt)
+  kept_goes path (MeantConstant v) from to there = absurd there
+  kept_goes path (MeantEvent e) from to there = absurd there
+  kept_goes path (MeantBlock unit) from to there = absurd there
+  kept_goes path (MeantBuiltin b) from to there = absurd there
+  kept_goes path MeantNothing from to there = absurd there
+
+  receiver_goes : (receiver : Reference) (from to : ℕ) → ReceiverAt code site receiver from to → Goes code from to
+  receiver_goes (Refers place name path Unsubscripted) from to at = kept_goes path (name_meant (here_at site) name []) from to (at [])
+  receiver_goes (Refers place name path (ByName there one)) from to at = absurd at
+  receiver_goes (Refers place name path (ByInteger there mark number)) from to at = absurd at
+  receiver_goes (Refers place name path (ByParts there copies arrays components)) from to at = absurd at
+
+  receivers_go : (receivers : List Reference) (from to : ℕ) → ReceiversAt code site receivers from to → Goes code from to
+  receivers_go [] from to at = absurd at
+  receivers_go (receiver ∷ []) from to at = receiver_goes receiver from to at
+  receivers_go (receiver ∷ next ∷ others) from to at =
+      first_goes code from to _ at.1 tt (joined_goes code (suc from) at.0 to (receiver_goes receiver (suc from) at.0 at.2) (receivers_go (next ∷ others) at.0 to at.3))
+
+  items_go : (items : Expressions) (from to : ℕ) → ItemsAt code site items from to → Goes code from to
+  items_go NoExpressions from to at = none_goes code from to at
+  items_go (MoreExpressions first others) from to at =
+      joined_goes code from at.0 to (expression_goes code site first from at.0 at.1) (first_goes code at.0 to _ at.2 tt (items_go others (suc at.0) to at.3))
+
+  reads_go : (channel : ℕ) (receivers : List Reference) (from to : ℕ) → ReadsAt code site channel receivers from to → Goes code from to
+  reads_go channel [] from to at = none_goes code from to at
+  reads_go channel (receiver ∷ receivers) from to at =
+      first_goes code from to _ at.3 tt (joined_goes code (suc from) at.1 to (receiver_goes receiver (suc from) at.1 at.4) (reads_go channel receivers at.1 to at.5))
+
+  -- a condition that leads on to a target where it fails
+  first_test_goes : (g : Guard) (exit from to : ℕ) → FirstTestAt code site g from exit to → to ≤ exit → Goes code from to
+  first_test_goes (While place condition) exit from to at far =
+      joined_goes code from at.0 to (expression_goes code site condition from at.0 at.1) (one_goes code at.0 to _ at.2 (inl (omega (arith, at.2.1, far))))
+  first_test_goes (Until place condition) exit from to at far = none_goes code from to at
+
+  -- a test from which control goes back to a TURN that leads to its end
+  test_goes : (g : Guard) (turn exit from to : ℕ) → TestAt code site g from turn to → Has code turn (instr.Turn exit) → exit ≡ to → Goes code from to
+  test_goes (While place condition) turn exit from to at has ends =
+      joined_goes code from at.0 to (expression_goes code site condition from at.0 at.1)
+      (first_goes code at.0 to _ at.2 (inl (omega (arith, at.3.1))) (one_goes code (suc at.0) to _ at.3 (inr (exit, has, omega (arith, at.3.1, ends)))))
+  test_goes (Until place condition) turn exit from to at has ends =
+      joined_goes code from at.0 to (expression_goes code site condition from at.0 at.1) (one_goes code at.0 to _ at.2 (inr (exit, has, omega (arith, at.2.1, ends))))
+
+  result_goes : (head : Head) (from to : ℕ) → ResultBy code head from to → Goes code from to
+  result_goes (Function place inputs (HasKind (CharacterKind at size) precision) mode) from to there = one_goes code from to _ there tt
+  result_goes (Function place inputs (HasKind (IntegerKind at) precision) mode) from to there = none_goes code from to there
+  result_goes (Function place inputs (HasKind (BooleanKind at) precision) mode) from to there = none_goes code from to there
+  result_goes (Function place inputs (HasKind (EventKind at) precision) mode) from to there = none_goes code from to there
+  result_goes (Function place inputs (HasKind (BitKind at size) precision) mode) from to there = none_goes code from to there
+  result_goes (Function place inputs (HasKind (StructureKind at template copies) precision) mode) from to there = none_goes code from to there
+  result_goes (Function place inputs NoKind mode) from to there = none_goes code from to there
+  result_goes (Program place) from to there = none_goes code from to there
+  result_goes (Compool place) from to there = none_goes code from to there
+  result_goes (Task place) from to there = none_goes code from to there
+  result_goes (Procedure place inputs outputs mode) from to there = none_goes code from to there
+
+  as_result_goes : (body : Option Body) (from to : ℕ) → ResultAt code body from to → Goes code from to
+  as_result_goes None from to at = none_goes code from to at
+  as_result_goes (Some b) from to at = result_goes b.head from to at
+
+  return_goes : (l : Leaving) (from to : ℕ) → ReturnAt code l from to → ((at : ℕ) → l ≡ ToFinish at → to ≤ at) → Goes code from to
+  return_goes (ToFinish at) from to there far = let end = far at refl in one_goes code from to _ there (inl (omega (arith, there.1, end)))
+  return_goes ByReturn from to there far = one_goes code from to _ there tt
+  return_goes ByResult from to there far = absurd there
+  return_goes NoReturn from to there far = absurd there
+
+  procedure_goes : (arguments : Expressions) (m : Meant) (from to : ℕ) → CalledAt code site arguments m from to → Goes code from to
+  procedure_goes arguments (MeantBlock unit) from to at =
+      joined_goes code from at.0 to (arguments_go code site arguments unit (inputs_at site.set unit) from at.0 at.1) (call_goes code site unit false at.0 to at.2)
+  procedure_goes arguments (MeantData at shape) from to there = absurd there
+  procedure_goes arguments (MeantConstant v) from to there = absurd there
+  procedure_goes arguments (MeantEvent e) from to there = absurd there
+  procedure_goes arguments (MeantBuiltin b) from to there = absurd there
+  procedure_goes arguments MeantNothing from to there = absurd there
+
+  change_goes : (action : EventAction) (e from to : ℕ) → One code from (changes action e) to → Goes code from to
+  change_goes Signal e from to at = one_goes code from to _ at tt
+  change_goes Set e from to at = one_goes code from to _ at tt
+  change_goes Reset e from to at = one_goes code from to _ at tt
+
+  pause_goes : (delays : Time → Delay) (tree : Expression) (from to : ℕ) → PauseAt code delays tree from to → Goes code from to
+  pause_goes delays (Decimal place number) from to at = one_goes code from to _ at tt
+  pause_goes delays other from to at = absurd at
+
+  event_pause_goes : (xs : List ℕ) (from to : ℕ) → EventAt code site xs from to → Goes code from to
+  event_pause_goes [] from to at = absurd at
+  event_pause_goes (x ∷ xs) from to at = one_goes code from to _ at.1 tt
+
+  each_goes : (asks : ℕ → Instr) (names : List Naming) (from to : ℕ) → ((at number : ℕ) → GoesOn code.image.code at (asks number)) → EachAt code site asks names from to → Goes code from to
+  each_goes asks [] from to goes at = none_goes code from to at
+  each_goes asks (name ∷ names) from to goes at = first_goes code from to _ at.2 (goes from at.0) (each_goes asks names (suc from) to goes at.3)
+
+  named_go : (asks : ℕ → Instr) (names : List Naming) (from to : ℕ) → ((at number : ℕ) → GoesOn code.image.code at (asks number)) → NamedOrOwnAt code site asks names from to → Goes code from to
+  named_go asks [] from to goes at = one_goes code from to _ at (goes from 255)
+  named_go asks (name ∷ names) from to goes at = each_goes asks (name ∷ names) from to goes at
+
+  -- a statement without statements in it
+  abbrev Simply : Basic → Type 0
+  Simply basic = (labels : List Naming) (exits : Exits) (m from to : ℕ) → Ahead exits to → BasicAt code site exits m labels basic from to → Goes code from to
+
+  null_goes : (place : Place) → Simply (Null place)
+  null_goes place labels exits m from to ahead at = none_goes code from to at
+
+  assignment_goes : (place : Place) (receivers : List Reference) (tree : Expression) → Simply (Assignment place receivers tree)
+  assignment_goes place receivers tree labels exits m from to ahead at = joined_goes code from at.0 to (expression_goes code site tree from at.0 at.1) (receivers_go receivers at.0 to at.2)
+
+  exit_goes : (place : Place) (label : Option Naming) → Simply (Exit place label)
+  exit_goes place label labels exits m from to ahead at = let far = ahead.exit (label_name label) at.0 at.1 in one_goes code from to _ at.2 (inl (omega (arith, at.2.1, far)))
+
+  repeat_goes : (place : Place) (label : Option Naming) → Simply (Repeat place label)
+  repeat_goes place label labels exits m from to ahead at = let far = ahead.again (label_name label) at.0 at.1 in one_goes code from to _ at.2 (inl (omega (arith, at.2.1, far)))
+
+  returning_goes : (place : Place) (value : Option Expression) → Simply (Return place value)
+  returning_goes place None labels exits m from to ahead at = return_goes exits.leaving from to at ahead.finish
+  returning_goes place (Some tree) labels exits m from to ahead at =
+      joined_goes code from at.0 to (expression_goes code site tree from at.0 at.2)
+      (joined_goes code at.0 at.1 to (as_result_goes (body_at site.set site.unit) at.0 at.1 at.3) (one_goes code at.1 to _ at.5 tt))
+
+  write_goes : (place : Place) (channel : Expression) (items : Expressions) → Simply (Write place channel items)
+  write_goes place channel items labels exits m from to ahead at = joined_goes code from at.1 to (items_go items from at.1 at.3) (one_goes code at.1 to _ at.4 tt)
+
+  read_goes : (place : Place) (channel : Expression) (receivers : List Reference) → Simply (Read place channel receivers)
+  read_goes place channel receivers labels exits m from to ahead at = reads_go at.0 receivers from to at.2
+
+  -- a simple statement where it was put
+  simply : (basic : Basic) (labels : List Naming) (exits : Exits) (m : ℕ) (before after : List Instr) → Simply basic → basic_code n site before exits m labels basic ≡ Ok after → Ahead exits (length after)
+      → Begins after code.image.code → Placed code before after (λ from to. Goes code from to)
+  simply basic labels exits m before after goes e ahead begins =
+      let there = basic_at code n site numbered basic labels exits m before after e begins in record { at = goes labels exits m (length before) (length after) ahead there.at; begins = there.begins }
+
+  -- one instruction that goes on, with more behind it
+  behind_one : (before after : List Instr) (i : Instr) → GoesOn code.image.code (length before) i → Placed code (before ++ (i ∷ [])) after (λ from to. Goes code from to)
+      → Placed code before after (λ from to. Goes code from to)
+  behind_one before after i goes rest =
+      let there = first_placed code before after i rest in record { at = first_goes code (length before) (length after) i there.at.0 goes there.at.1; begins = there.begins }
+
+  -- two phrases, one after the other
+  both_go : (r : Emitted) (next : List Instr → Emitted) (before after : List Instr) → onwards r next ≡ Ok after
+      → ((middle : List Instr) → r ≡ Ok middle → next middle ≡ Ok after → Begins middle code.image.code → Placed code before middle (λ from to. Goes code from to))
+      → ((middle : List Instr) → r ≡ Ok middle → next middle ≡ Ok after → Placed code middle after (λ from to. Goes code from to)) → Placed code before after (λ from to. Goes code from to)
+  both_go (Ok middle) next before after is first second =
+      let late = second middle refl is in
+      let early = first middle refl is late.begins in
+      record { at = joined_goes code (length before) (length middle) (length after) early.at late.at; begins = early.begins }
+  both_go (Err place) next before after is first second = absurd (cc)
+
+  -- the code of these goes on
+  abbrev StatementGoes : Statement → Type 0
+  StatementGoes tree = (exits : Exits) (m : ℕ) (before after : List Instr) → statement_code n site before exits m tree ≡ Ok after → Ahead exits (length after) → Begins after code.image.code
+      → Placed code before after (λ from to. Goes code from to)
+
+  abbrev ElseGoes : Alternative → Type 0
+  ElseGoes alternative = (exits : Exits) (m : ℕ) (before after : List Instr) → alternative_code n site before exits m alternative ≡ Ok after → Ahead exits (length after) → Begins after code.image.code
+      → Placed code before after (λ from to. Goes code from to)
+
+  abbrev GroupGoes : Group → Type 0
+  GroupGoes group = (exits : Exits) (m : ℕ) (before after : List Instr) → group_code n site before exits m group ≡ Ok after → Ahead exits (length after) → Begins after code.image.code
+      → Placed code before after (λ from to. Goes code from to)
+
+  abbrev ListGoes : Statements → Type 0
+  ListGoes list = (exits : Exits) (m : ℕ) (before after : List Instr) → statements_code n site before exits m list ≡ Ok after → Ahead exits (length after) → Begins after code.image.code
+      → Placed code before after (λ from to. Goes code from to)
+
+  -- a consequence behind its test, and what stands after ELSE
+  chosen_goes : (consequence : Statement) (alternative : Alternative) (exits : Exits) (m : ℕ) (tested after : List Instr) → StatementGoes consequence → ElseGoes alternative
+      → onwards (statement_code n site (tested ++ (instr.JumpNot (suc (length tested) + (statement_size n site consequence + jump_size alternative)) ∷ [])) exits m consequence)
+      (λ middle. alternative_code n site middle exits (after_statement m consequence) alternative) ≡ Ok after → Ahead exits (length after) → Begins after code.image.code
+      → Placed code tested after (λ from to. Goes code from to)
+  chosen_goes consequence alternative exits m tested after one two e ahead begins =
+      let other = suc (length tested) + (statement_size n site consequence + jump_size alternative) in
+      let test = tested ++ (instr.JumpNot other ∷ []) in
+      behind_one tested after (instr.JumpNot other) (inl (omega arith))
+      (both_go (statement_code n site test exits m consequence) (λ middle. alternative_code n site middle exits (after_statement m consequence) alternative) test after e
+      (λ middle there rest begun. one exits m test middle there
+      (earlier exits (length middle) (length after) (let longer = alternative_longer n site alternative exits (after_statement m consequence) middle after rest in omega (arith, longer)) ahead) begun)
+      (λ middle there rest. two exits (after_statement m consequence) middle after rest ahead begins))
+
+  -- EXIT and REPEAT in a loop
+  loop_ahead : (g : Guard) (group : Group) (labels : List Naming) (exits : Exits) (m exit : ℕ) (tested middle after : List Instr)
+      → group_code n site (tested ++ (instr.Turn exit ∷ [])) (within_group (opened labels exit (Some (suc (length tested) + group_size n site group))) exits) (suc m) group ≡ Ok middle
+      → test_code n site middle g (length tested) exit ≡ Ok after → exit ≡ length after → Ahead exits (length after)
+      → Ahead (within_group (opened labels exit (Some (suc (length tested) + group_size n site group))) exits) (length middle)
+  loop_ahead g group labels exits m exit tested middle after there rest ends ahead =
+      let again = suc (length tested) + group_size n site group in
+      let longer = test_longer n site g (length tested) exit middle after rest in
+      let size = group_longer n site group (within_group (opened labels exit (Some again)) exits) (suc m) (tested ++ (instr.Turn exit ∷ [])) middle there in
+      let one = length_of_one_more tested (instr.Turn exit) in
+      in_loop labels exits exit again (length middle) (omega (arith, ends, longer)) (omega (arith, size, one)) (earlier exits (length middle) (length after) (omega (arith, longer)) ahead)
+
+  -- the turns of a loop that ends at this address
+  turns_go : (g : Guard) (group : Group) (labels : List Naming) (exits : Exits) (m exit : ℕ) (tested after : List Instr) → GroupGoes group
+      → onwards (group_code n site (tested ++ (instr.Turn exit ∷ [])) (within_group (opened labels exit (Some (suc (length tested) + group_size n site group))) exits) (suc m) group)
+      (λ middle. test_code n site middle g (length tested) exit) ≡ Ok after → exit ≡ length after → length tested < exit → Ahead exits (length after) → Begins after code.image.code
+      → Placed code tested after (λ from to. Goes code from to)
+  turns_go g group labels exits m exit tested after whole e ends far ahead begins =
+      let again = suc (length tested) + group_size n site group in
+      let start = tested ++ (instr.Turn exit ∷ []) in
+      let inner = within_group (opened labels exit (Some again)) exits in
+      behind_one tested after (instr.Turn exit) far
+      (both_go (group_code n site start inner (suc m) group) (λ middle. test_code n site middle g (length tested) exit) start after e
+      (λ middle there rest begun. whole inner (suc m) start middle there (loop_ahead g group labels exits m exit tested middle after there rest ends ahead) begun)
+      (λ middle there rest. let at = test_at code n site numbered g (length tested) exit middle after rest ends begins in
+      let body = whole inner (suc m) start middle there (loop_ahead g group labels exits m exit tested middle after there rest ends ahead) at.begins in
+      record { at = test_goes g (length tested) exit (length middle) (length after) at.at (has_there code tested (instr.Turn exit) body.begins) ends; begins = at.begins }))
+
+  mutual
+    pub statement_goes : (tree : Statement) → StatementGoes tree
+    statement_goes (Labelled labels basic) exits m before after e ahead begins = basic_goes basic labels exits m before after e ahead begins
+
+    basic_goes : (basic : Basic) (labels : List Naming) (exits : Exits) (m : ℕ) (before after : List Instr) → basic_code n site before exits m labels basic ≡ Ok after → Ahead exits (length after)
+        → Begins after code.image.code → Placed code before after (λ from to. Goes code from to)
+    basic_goes (If place condition consequence alternative) labels exits m before after e ahead begins =
+        both_go (expression_code n site before condition) _ before after e
+        (λ tested there rest begun. weaker code before tested (λ from to at. expression_goes code site condition from to at) (expression_at code n site numbered condition before tested there begun))
+        (λ tested there rest. chosen_goes consequence alternative exits m tested after (statement_goes consequence) (else_goes alternative) rest ahead begins)
+    basic_goes (Do place group) labels exits m before after e ahead begins =
+        let exit = length before + group_size n site group in
+        let size = group_longer n site group (within_group (opened labels exit None) exits) (suc m) before after e in
+        group_goes group (within_group (opened labels exit None) exits) (suc m) before after e (in_group labels exits exit (length after) (omega (arith, size)) ahead) begins
+    basic_goes (DoLoop place g group) labels exits m before after e ahead begins =
+        let exit = length before + basic_size n site (DoLoop place g group) in
+        let ends : exit ≡ length after = sym (basic_longer n site (DoLoop place g group) labels exits m before after e) in
+        both_go (first_test_code n site before g exit) _ before after e
+        (λ tested first rest begun. let at = first_test_at code n site numbered g exit before tested first begun in
+        let size = first_test_longer n site g exit before tested first in
+        record { at = first_test_goes g exit (length before) (length tested) at.at (omega (arith, size)); begins = at.begins })
+        (λ tested first rest. let size = first_test_longer n site g exit before tested first in
+        turns_go g group labels exits m exit tested after (group_goes group) rest ends (omega (arith, size)) ahead begins)
+    basic_goes (Update place body close) labels exits m before after e ahead begins =
+        both_go (emit before place (option_map (λ groups. instr.Open groups ∷ []) (below 65536 (update_groups (here_at site) m)))) _ before after e
+        (λ begun there rest starts. weaker code before begun (λ from to at. one_goes code from to _ at tt) (opens_at code n site numbered (update_groups (here_at site) m) place before begun there starts))
+        (λ begun there rest. both_go (statements_code n site begun (of_block NoReturn (λ mark. length begun + statements_size n site body)) (suc m) body) (λ middle. emit_one middle place instr.Close) begun after rest
+        (λ middle inner late starts. list_goes body (of_block NoReturn (λ mark. length begun + statements_size n site body)) (suc m) begun middle inner (none_open (λ mark. length begun + statements_size n site body) (length middle)) starts)
+        (λ middle inner late. weaker code middle after (λ from to at. one_goes code from to _ at tt) (one_placed code middle after instr.Close (ok_is _ after late) begins)))
+    basic_goes (Null place) labels exits m before after e ahead begins = simply (Null place) labels exits m before after (null_goes place) e ahead begins
+    basic_goes (Assignment place receivers tree) labels exits m before after e ahead begins =
+        simply (Assignment place receivers tree) labels exits m before after (assignment_goes place receivers tree) e ahead begins
+    basic_goes (Exit place label) labels exits m before after e ahead begins = simply (Exit place label) labels exits m before after (exit_goes place label) e ahead begins
+    basic_goes (Repeat place label) labels exits m before after e ahead begins = simply (Repeat place label) labels exits m before after (repeat_goes place label) e ahead begins
+    basic_goes (Return place value) labels exits m before after e ahead begins = simply (Return place value) labels exits m before after (returning_goes place value) e ahead begins
+    basic_goes (Call place name arguments []) labels exits m before after e ahead begins =
+        simply (Call place name arguments []) labels exits m before after (λ ls ex k from to far at. procedure_goes arguments (name_meant (here_at site) name.name []) from to (at [])) e ahead begins
+    basic_goes (Read place channel receivers) labels exits m before after e ahead begins = simply (Read place channel receivers) labels exits m before after (read_goes place channel receivers) e ahead begins
+    basic_goes (Write place channel items) labels exits m before after e ahead begins = simply (Write place channel items) labels exits m before after (write_goes place channel items) e ahead begins
+    basic_goes (Event one) labels exits m before after e ahead begins =
+        simply (Event one) labels exits m before after (λ ls ex k from to far at. change_goes one.action (event_named site.set.phrases site.block one.name.name) from to at) e ahead begins
+    basic_goes (Cancel place names) labels exits m before after e ahead begins =
+        simply (Cancel place names) labels exits m before after (λ ls ex k from to far at. named_go instr.Cancel names from to (λ here number. tt) at) e ahead begins
+    basic_goes (Terminate place names) labels exits m before after e ahead begins =
+        simply (Terminate place names) labels exits m before after (λ ls ex k from to far at. named_go instr.Terminate names from to (λ here number. tt) at) e ahead begins
+    basic_goes (Wait place tree) labels exits m before after e ahead begins =
+        simply (Wait place tree) labels exits m before after (λ ls ex k from to far at. pause_goes delay.For tree from to at) e ahead begins
+    basic_goes (WaitUntil place tree) labels exits m before after e ahead begins =
+        simply (WaitUntil place tree) labels exits m before after (λ ls ex k from to far at. pause_goes delay.Until tree from to at) e ahead begins
+    basic_goes (WaitForDependent place) labels exits m before after e ahead begins =
+        simply (WaitForDependent place) labels exits m before after (λ ls ex k from to far at. one_goes code from to _ at tt) e ahead begins
+    basic_goes (WaitFor place tree) labels exits m before after e ahead begins =
+        simply (WaitFor place tree) labels exits m before after (λ ls ex k from to far at. event_pause_goes (stated_at_mark (here_at site) k) from to at) e ahead begins
+    basic_goes (SendError place at group its number) labels exits m before after e ahead begins =
+        simply (SendError place at group its number) labels exits m before after (λ ls ex k from to far there. one_goes code from to _ there tt) e ahead begins
+    basic_goes (OnErrorResponse place s r one) labels exits m before after e ahead begins =
+        simply (OnErrorResponse place s r one) labels exits m before after (λ ls ex k from to far at. one_goes code from to _ at.6 tt) e ahead begins
+    basic_goes (OffError place s) labels exits m before after e ahead begins =
+        simply (OffError place s) labels exits m before after (λ ls ex k from to far at. one_goes code from to _ at.3 tt) e ahead begins
+    basic_goes (Call place name arguments (receiver ∷ receivers)) labels exits m before after e ahead begins = absurd (cc)
+    basic_goes (DoCase place selector _ group) labels exits m before after e ahead begins = absurd (cc)
+    basic_goes (DoFor place temporary variable span guard group) labels exits m before after e ahead begins = absurd (cc)
+    basic_goes (Scheduled place schedule) labels exits m before after e ahead begins = absurd (cc)
+    basic_goes (UpdatePriority place name priority) labels exits m before after e ahead begins = absurd (cc)
+    basic_goes (OnErrorStatement place selector handler) labels exits m before after e ahead begins = absurd (cc)
+
+    else_goes : (alternative : Alternative) → ElseGoes alternative
+    else_goes NoAlternative exits m before after e ahead begins = weaker code before after (λ from to at. none_goes code from to at) (none_placed code before after (ok_is before after e) begins)
+    else_goes (Otherwise one) exits m before after e ahead begins =
+        let jump = suc (length before) + statement_size n site one in
+        behind_one before after (instr.Jump jump) (inl (omega arith)) (statement_goes one exits m (before ++ (instr.Jump jump ∷ [])) after e ahead begins)
+
+    group_goes : (group : Group) → GroupGoes group
+    group_goes (Groups list close) exits m before after e ahead begins = list_goes list exits m before after e ahead begins
+
+    pub list_goes : (list : Statements) → ListGoes list
+    list_goes NoStatements exits m before after e ahead begins = weaker code before after (λ from to at. none_goes code from to at) (none_placed code before after (ok_is before after e) begins)
+    list_goes (MoreStatements first others) exits m before after e ahead begins =
+        both_go (statement_code n site before exits m first) (λ middle. statements_code n site middle exits (after_statement m first) others) before after e
+        (λ middle there rest begun. statement_goes first exits m before middle there
+        (earlier exits (length middle) (length after) (let longer = statements_longer n site others exits (after_statement m first) middle after rest in omega (arith, longer)) ahead) begun)
+        (λ middle there rest. list_goes others exits (after_statement m first) middle after rest ahead begins)
