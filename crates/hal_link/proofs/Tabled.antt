@@ -1,0 +1,82 @@
+-- The tables of the image are those of the set.
+use Rattle.std.specs.Prelude.{◌≡◌, ℕ, zero, suc, ◌+◌, List, [], ◌∷◌, ◌++◌, map, Option, Some, None, slice_get}
+use Rattle.std.proofs.Common.{refl, ap, subst, ◌∙◌, arith}
+use Rattle.hal_values.specs.declared.tables.EventStart.{EventStart}
+use Rattle.hal_values.specs.declared.value.Kind.{Kind}
+use Rattle.hal_values.specs.declared.value.Value.{Value}
+use Rattle.hal_states.specs.Spots.{Holds, Refers, Nowhere}
+use Rattle.hal_meaning.specs.Places.{Place}
+use Rattle.hal_meaning.specs.Runs as tree
+use Rattle.hal_meaning.specs.Runs.{places_of_process}
+use Rattle.hal_meaning.specs.Sets.{Set}
+use Rattle.hal_code.specs.declared.row.OwnPlace.{OwnPlace}
+use Rattle.hal_code.specs.declared.row.OwnPlace.TheVariants as place
+use Rattle.hal_code.specs.declared.row.Process.{Process}
+use Rattle.hal_code.specs.declared.row.Run.{Run}
+use Rattle.hal_code.specs.declared.row.View.{View}
+use Rattle.hal_code.specs.Images as machine
+use Rattle.hal_code.specs.Images.{expanded, start_of, tables_of, places_of}
+use Rattle.hal_link.specs.Linking.{Linked, alone, own_row, processes_from, known_start, image_with}
+
+expanded_alone : {T : Type 0} (rows : List T) → expanded (map alone rows) ≡ rows
+expanded_alone [] = refl
+expanded_alone (row ∷ rows) = ap (λ l. row ∷ l) (expanded_alone rows)
+
+starts_same : (starts : List EventStart) → map start_of (map known_start starts) ≡ starts
+starts_same [] = refl
+starts_same (one ∷ starts) = ap (λ l. one ∷ l) (starts_same starts)
+
+names_same : (s : Set) (p : ℕ) (names : List (List ℕ)) → map (λ (one : Process). one.name) (processes_from s p names) ≡ names
+names_same s p [] = refl
+names_same s p (name ∷ names) = ap (λ l. name ∷ l) (names_same s (suc p) names)
+
+pub tables_same : (s : Set) (views : List View) (one : Linked) → tables_of (image_with s views one) ≡ s.tables
+tables_same s views one =
+    subst (λ cells. tables_of (image_with s views one) ≡ (record { cells = cells; processes = s.tables.processes; first = s.tables.first; events = s.tables.events; expressions = s.tables.expressions; names = s.tables.names }))
+    (expanded_alone s.tables.cells)
+    (subst (λ names. tables_of (image_with s views one) ≡
+    (record { cells = expanded (map alone s.tables.cells); processes = names; first = s.tables.first; events = s.tables.events; expressions = s.tables.expressions; names = s.tables.names }))
+    (names_same s 0 s.tables.processes)
+    (subst (λ events. tables_of (image_with s views one) ≡
+    (record {
+      cells = expanded (map alone s.tables.cells);
+      processes = map (λ (p : Process). p.name) (processes_from s 0 s.tables.processes);
+      first = s.tables.first;
+      events = events;
+      expressions = s.tables.expressions;
+      names = s.tables.names;
+    }))
+    (starts_same s.tables.events) refl))
+
+-- the process with this number
+pub process_there : (s : Set) (q p : ℕ) (names : List (List ℕ)) (name : List ℕ) → slice_get names q ≡ Some name
+    → slice_get (processes_from s p names) q ≡ Some (record { name = name; block = p + q; places = map alone (map own_row (places_of_process s (p + q))) })
+process_there s q p [] name is = absurd (cc)
+process_there s zero p (one ∷ names) name is =
+    let same : one ≡ name = cc in
+    let number : p ≡ p + 0 = omega arith in
+    ap (λ n. Some (record { name = n; block = p; places = map alone (map own_row (places_of_process s p)) })) same
+    ∙ ap (λ k. Some (record { name = name; block = k; places = map alone (map own_row (places_of_process s k)) })) number
+process_there s (suc q) p (one ∷ names) name is =
+    let number : suc p + q ≡ p + suc q = omega arith in
+    process_there s q (suc p) names name is ∙ ap (λ k. Some (record { name = name; block = k; places = map alone (map own_row (places_of_process s k)) })) number
+
+held_by : (k : Option Kind) (v : Value) → machine.held_first (elim k [ None ↦ place.Reference 0 | Some one ↦ place.Data one v ]) ≡ (elim k [ None ↦ Refers Nowhere | Some one ↦ Holds v ])
+held_by None v = refl
+held_by (Some one) v = refl
+
+held_same : (places : List Place) → map machine.held_first (map own_row places) ≡ map tree.held_first places
+held_same [] = refl
+held_same (one ∷ places) = ap (λ l. machine.held_first (own_row one) ∷ l) (held_same places) ∙ ap (λ h. h ∷ map tree.held_first places) (held_by one.kind one.initial)
+
+abbrev no_common : List (Run OwnPlace)
+no_common = []
+
+-- its own places begin as the set says
+pub places_begin : (s : Set) (views : List View) (one : Linked) (p : ℕ) (name : List ℕ) → slice_get s.tables.processes p ≡ Some name
+    → map machine.held_first (places_of (image_with s views one) p) ≡ map tree.held_first (places_of_process s p)
+places_begin s views one p name is =
+    let there = process_there s p 0 s.tables.processes name is in
+    let number : 0 + p ≡ p = omega arith in
+    ap (λ (o : Option Process). map machine.held_first (elim o [ None ↦ [] | Some process ↦ expanded no_common ++ expanded process.places ])) there
+    ∙ (ap (map machine.held_first) (expanded_alone (map own_row (places_of_process s (0 + p)))) ∙ (held_same (places_of_process s (0 + p)) ∙ ap (λ k. map tree.held_first (places_of_process s k)) number))

@@ -1,0 +1,2 @@
+pub mod ProcessCode
+pub mod Linking
