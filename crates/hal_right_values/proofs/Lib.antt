@@ -1,0 +1,12 @@
+pub mod Rights
+pub mod Errors
+pub mod Steps
+pub mod Raising
+pub mod Addressing
+pub mod Computing
+pub mod Controlling
+pub mod Asking
+pub mod Acting
+pub mod Answering
+pub mod Grounds
+pub mod Coursing

@@ -1,0 +1,9 @@
+//! What holds of the values of a right image's processes: all that a process holds are right values, and each instruction takes the operands that it meets.
+//! `specs/` says when what a process holds is right; that it always is, is said in `laws`.
+#![tactic(auto)]
+
+mod laws;
+
+pub use laws::{
+    each_step_of_a_right_image_holds_right_values, the_processes_of_a_right_image_hold_right_values,
+};
