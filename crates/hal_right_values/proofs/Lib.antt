@@ -10,3 +10,7 @@ pub mod Acting
 pub mod Answering
 pub mod Grounds
 pub mod Coursing
+pub mod Taking
+pub mod Parting
+pub mod Rooms
+pub mod Fitting
