@@ -1,0 +1,16 @@
+pub mod Rights
+pub mod Errors
+pub mod Steps
+pub mod Raising
+pub mod Addressing
+pub mod Computing
+pub mod Controlling
+pub mod Asking
+pub mod Acting
+pub mod Answering
+pub mod Grounds
+pub mod Coursing
+pub mod Taking
+pub mod Parting
+pub mod Rooms
+pub mod Fitting

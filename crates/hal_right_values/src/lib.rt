@@ -1,0 +1,11 @@
+//! What holds of the values of a right image's processes: all that a process holds are right values, and each instruction takes the operands that it meets.
+//! `specs/` says when what a process holds is right; that it always is, is said in `laws`.
+#![tactic(auto)]
+
+mod laws;
+
+pub use laws::{
+    each_step_of_a_right_image_holds_right_values, the_operands_of_a_right_image_fit,
+    the_processes_of_a_right_image_hold_right_values,
+    the_views_of_a_right_image_lead_to_small_numbers,
+};
