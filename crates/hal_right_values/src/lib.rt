@@ -3,9 +3,11 @@
 #![tactic(auto)]
 
 mod laws;
+mod ranges;
 
 pub use laws::{
     each_step_of_a_right_image_holds_right_values, the_operands_of_a_right_image_fit,
     the_processes_of_a_right_image_hold_right_values,
     the_views_of_a_right_image_lead_to_small_numbers,
 };
+pub use ranges::is_in_range;
