@@ -1,9 +1,8 @@
 -- Each instruction holds right values.
-use Rattle.std.specs.Prelude.{ℕ, suc, ◌<◌, ◌≤◌, ◌≡◌, ◌^◌, nat_le, nat_lt, Bool, true, false, ◌&&◌, [], ◌∷◌, pos, slice_get}
-use Rattle.std.proofs.Common.{refl, arith}
+use Rattle.std.specs.Prelude.{ℕ, suc, ◌≡◌, ◌^◌, nat_le, nat_lt, true, ◌&&◌, [], ◌∷◌, pos, slice_get}
+use Rattle.std.proofs.Common.{refl}
 use Rattle.std.proofs.lemmas.Bool.{leb-true, ltb-true, and_parts}
 use Rattle.hal_base.specs.declared.limits.TheConstants.{CHANNEL_COUNT}
-use Rattle.hal_values.specs.declared.environment.ErrNo.{ErrNo}
 use Rattle.hal_values.specs.declared.request.Request.TheVariants as request
 use Rattle.hal_values.specs.declared.value.Kind.{Kind}
 use Rattle.hal_values.specs.declared.value.Kind.TheVariants as kind

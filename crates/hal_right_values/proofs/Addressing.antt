@@ -18,7 +18,7 @@ use Rattle.hal_code.specs.declared.row.Target.{Target}
 use Rattle.hal_code.specs.declared.row.Target.TheVariants as target
 use Rattle.hal_code.specs.declared.row.View.{View}
 use Rattle.hal_code.specs.Addressing.{popped, all_inside, cells_before, spot_of, operand_of, addressed, viewed, is_of_cell, cell_viewed, area_viewed, pushed, fetched_cell, fetched, stored_at, placed, copied_cell, copied, cleared, act_fetch, act_peek, act_keep, act_bind, act_copy, act_clear}
-use Rattle.hal_code.specs.Cores.{Operand, Val, At, Area, Setting, Core, going, Puts, Pushes, Copies, Step, Moves}
+use Rattle.hal_code.specs.Cores.{Operand, Val, At, Area, Setting, Core, going, Puts, Pushes, Copies, Step}
 use Rattle.hal_code.specs.Images.{kinds_of}
 use Rattle.hal_code.specs.Raising.{stuck}
 use Rattle.hal_sound_values.specs.Right.{IsRight}

@@ -1,5 +1,5 @@
 -- What is done with answers that fit holds right values.
-use Rattle.std.specs.Prelude.{ℕ, suc, ◌≡◌, ◌⊎◌, List, [], ◌∷◌, All}
+use Rattle.std.specs.Prelude.{ℕ, suc, ◌≡◌, List, [], ◌∷◌, All}
 use Rattle.std.proofs.Common.{sym, subst, inl, inr}
 use Rattle.std.proofs.lemmas.List.Elements.{All-head, All-tail}
 use Rattle.hal_values.specs.declared.request.Request.{Request}
@@ -10,13 +10,13 @@ use Rattle.hal_values.specs.declared.value.Kind.{Kind}
 use Rattle.hal_values.specs.declared.value.Value.{Value}
 use Rattle.hal_values.specs.Answers.{Answered, Ends, FitsAlive, Fits}
 use Rattle.hal_values.specs.Answers as answered
-use Rattle.hal_values.specs.Kinds.{IsKind, IsDatum}
+use Rattle.hal_values.specs.Kinds.{IsKind}
 use Rattle.hal_values.specs.Tables.{IsCell, IsSnapshot}
-use Rattle.hal_states.specs.Modes.{mode, asking, opened, snapshot_of, turns_given}
+use Rattle.hal_states.specs.Modes.{asking, opened, snapshot_of}
 use Rattle.hal_states.specs.OfKinds.{told}
 use Rattle.hal_states.specs.Spots.{Kept}
-use Rattle.hal_code.specs.Addressing.{placed, copied}
-use Rattle.hal_code.specs.Cores.{Val, Setting, Core, core, going, with_mode, Wait, Then, Goes, Pushes, Tried, Takes, Copies, Opens, Renews, Halts, Step}
+use Rattle.hal_code.specs.Addressing.{placed}
+use Rattle.hal_code.specs.Cores.{Val, Setting, Core, core, going, Wait, Then, Goes, Pushes, Tried, Takes, Copies, Opens, Renews, Halts}
 use Rattle.hal_code.specs.Machine.{begun, tried_by, taken_by, given, after_answer}
 use Rattle.hal_sound_values.specs.Right.{IsRight}
 use Rattle.hal_sound_values.proofs.KindsKept.{right_is, datum_is}

@@ -1,17 +1,15 @@
 -- A process of a right image holds right values after all fitting answers.
-use Rattle.std.specs.Prelude.{ℕ, zero, suc, ◌<◌, ◌≡◌, List, [], ◌∷◌, ◌++◌, length, Option, Some, None, All, slice_get}
+use Rattle.std.specs.Prelude.{ℕ, zero, suc, ◌<◌, ◌≡◌, List, [], ◌∷◌, ◌++◌, length, Some, None}
 use Rattle.std.proofs.Common.{refl, sym, subst, arith}
 use Rattle.std.proofs.lemmas.List.{append_assoc, append-nil}
 use Rattle.hal_values.specs.Answers.{Answered, Ends, Fits, error}
 use Rattle.hal_values.specs.Fitting.{FitAll-push}
 use Rattle.hal_values.specs.Loads as loads
-use Rattle.hal_values.specs.Tables.{IsCell}
 use Rattle.hal_states.specs.Spots.{kept}
 use Rattle.hal_code.specs.declared.image.ImageParts.{ImageParts}
 use Rattle.hal_code.specs.declared.instr.Instr.{Instr}
 use Rattle.hal_code.specs.Cores.{Setting, Core, Step, Waits, Moves, Counts}
-use Rattle.hal_code.specs.Courses.{setting_of, rank, Asked, lost, moving, counting, settled, asked_after, course, next, load_of}
-use Rattle.hal_code.specs.Images.{tables_of}
+use Rattle.hal_code.specs.Courses.{setting_of, rank, Asked, moving, counting, settled, asked_after, course, next, load_of}
 use Rattle.hal_code.specs.Machine.{act, stepped, begun, after_answer}
 use Rattle.hal_code.specs.Raising.{stuck}
 use Rattle.hal_code.specs.Right.{IsRight}
@@ -25,13 +23,13 @@ use Rattle.hal_sound_code.proofs.Grounds.{Ground, ground_of, Typed-begun}
 use Rattle.hal_sound_code.proofs.Points.{Faces, faces}
 use Rattle.hal_sound_code.proofs.Rights.{Whole, whole}
 use Rattle.hal_sound_code.proofs.Stepping.{Typed}
-use Rattle.hal_right_values.specs.Ranges.{IsInRange, IsInRangeAt, AreInRange}
-use Rattle.hal_right_values.specs.Holding.{Holding, HoldsAwaiting, HoldingStep}
+use Rattle.hal_right_values.specs.Ranges.{IsInRangeAt, AreInRange}
+use Rattle.hal_right_values.specs.Holding.{Holding, HoldsAwaiting}
 use Rattle.hal_right_values.proofs.Acting.{fine, Right-act}
 use Rattle.hal_right_values.proofs.Answering.{Right-begun, Right-answer}
 use Rattle.hal_right_values.proofs.Errors.{small}
 use Rattle.hal_right_values.proofs.Grounds.{known_of}
-use Rattle.hal_right_values.proofs.Steps.{Known, Right, sticks, found}
+use Rattle.hal_right_values.proofs.Steps.{Known, Right}
 
 -- the instruction that is next, where control stands at one that is right
 pub Right-stepped : (s : Setting) → Known s → Whole s.image → (c : Core) → IsTyped s c → IsInRangeAt s.image c.at → Holding c → Right (stepped s c)

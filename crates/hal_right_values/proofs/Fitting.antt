@@ -1,9 +1,8 @@
 -- Each instruction of a right image takes the right values that it meets.
-use Rattle.std.specs.Prelude.{◌≡◌, ℕ, ◌<◌, ◌==◌, length, true, false, not, ◌&&◌, ◌||◌, List, [], ◌∷◌, ℤ, Option, Some, slice_get}
+use Rattle.std.specs.Prelude.{◌≡◌, ℕ, ◌<◌, ◌==◌, length, true, false, not, ◌&&◌, [], Some, slice_get}
 use Rattle.std.specs.List.{list_any}
 use Rattle.std.proofs.Common.{refl, sym, subst, ◌∙◌}
 use Rattle.std.proofs.lemmas.Bool.{eq-eqb, and_parts}
-use Rattle.hal_values.specs.declared.value.Kind.{Kind}
 use Rattle.hal_code.specs.declared.image.ImageParts.{ImageParts}
 use Rattle.hal_code.specs.declared.instr.Instr.{Instr}
 use Rattle.hal_code.specs.declared.instr.Instr.TheVariants as instr

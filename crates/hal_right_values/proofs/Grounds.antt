@@ -1,7 +1,7 @@
 -- What is known of the tables of a right image, and of the instruction that is next.
-use Rattle.std.specs.Prelude.{ℕ, zero, suc, ◌<◌, ◌≡◌, nat_le, nat_lt, length, map, replicate, Bool, true, false, ◌&&◌, List, [], ◌∷◌, ◌++◌, Option, Some, None, All, slice_get}
+use Rattle.std.specs.Prelude.{ℕ, zero, suc, ◌≡◌, nat_le, nat_lt, length, map, replicate, Bool, true, ◌&&◌, List, [], ◌∷◌, ◌++◌, Option, Some, None, All, slice_get}
 use Rattle.std.specs.List.{list_all, sum_by}
-use Rattle.std.proofs.Common.{refl, sym, subst}
+use Rattle.std.proofs.Common.{refl, subst}
 use Rattle.std.proofs.lemmas.Bool.{and_parts}
 use Rattle.std.proofs.lemmas.List.Elements.{All-head, All-tail}
 use Rattle.hal_values.specs.declared.tables.Cell.{Cell}
@@ -13,8 +13,6 @@ use Rattle.hal_states.specs.OfKinds.{is_of}
 use Rattle.hal_states.proofs.OfKind.{kind_of_is}
 use Rattle.hal_code.specs.declared.choice.Choice.{Choice}
 use Rattle.hal_code.specs.declared.image.ImageParts.{ImageParts}
-use Rattle.hal_code.specs.declared.instr.Instr.{Instr}
-use Rattle.hal_code.specs.declared.row.Block.{Block}
 use Rattle.hal_code.specs.declared.row.Dimension.{Dimension}
 use Rattle.hal_code.specs.declared.row.OwnPlace.{OwnPlace}
 use Rattle.hal_code.specs.declared.row.OwnPlace.TheVariants as place
@@ -23,13 +21,11 @@ use Rattle.hal_code.specs.declared.row.Run.{Run}
 use Rattle.hal_code.specs.declared.row.Target.{Target}
 use Rattle.hal_code.specs.declared.row.Target.TheVariants as target
 use Rattle.hal_code.specs.declared.row.View.{View}
-use Rattle.hal_code.specs.Blocks.{code_of}
-use Rattle.hal_code.specs.Cores.{Setting}
 use Rattle.hal_code.specs.Courses.{setting_of}
 use Rattle.hal_code.specs.Images.{expanded, row_count, tables_of, places_of, held_first, kinds_of}
 use Rattle.hal_code.specs.Memory.{spread_limit}
 use Rattle.hal_code.specs.Operands.{is_known, events_of}
-use Rattle.hal_code.specs.Right.{IsRight, cell_right, place_right, process_right, processes_right, shape_right, shapes_right, target_right, form_right, views_right, limits_right, postfix_right, names_right}
+use Rattle.hal_code.specs.Right.{IsRight, cell_right, place_right, process_right, processes_right, shape_right, shapes_right, target_right, views_right, limits_right, postfix_right, names_right}
 use Rattle.hal_code.specs.Sorts.{is_kind, is_initial}
 use Rattle.hal_code.proofs.RightTables.{right_tables}
 use Rattle.hal_sound_code.proofs.Rights.{Whole, whole}

@@ -1,5 +1,5 @@
 -- Views lead to cells and places whose numbers are small.
-use Rattle.std.specs.Prelude.{◌≡◌, ℕ, zero, suc, ◌+◌, ◌*◌, ◌<◌, ◌≤◌, ◌==◌, ◌^◌, nat_le, nat_lt, length, map, replicate, Bool, true, false, ◌&&◌, ◌||◌, List, [], ◌∷◌, ◌++◌, ℤ, Option, Some, None, slice_get}
+use Rattle.std.specs.Prelude.{◌≡◌, ℕ, zero, suc, ◌+◌, ◌*◌, ◌<◌, ◌≤◌, ◌^◌, nat_le, nat_lt, length, replicate, Bool, true, ◌&&◌, List, [], ◌∷◌, ◌++◌, ℤ, Option, Some, None, slice_get}
 use Rattle.std.specs.List.{list_all, fold, sum_by}
 use Rattle.std.proofs.Common.{refl, sym, ap, subst, ◌∙◌, arith}
 use Rattle.std.proofs.lemmas.Bool.{leb-true, and_parts}
@@ -21,7 +21,7 @@ use Rattle.hal_code.specs.declared.row.View.{View}
 use Rattle.hal_code.specs.Addressing.{cells_before, spot_of}
 use Rattle.hal_code.specs.Cores.{Operand, Setting, Core}
 use Rattle.hal_code.specs.Images.{expanded, row_count, places_of}
-use Rattle.hal_code.specs.Memory.{shared_memory, own_memory, kind_of_place, target_kinds}
+use Rattle.hal_code.specs.Memory.{shared_memory, own_memory, kind_of_place}
 use Rattle.hal_code.specs.Operands.{is_known}
 use Rattle.hal_code.specs.Right.{cell_right, place_right, cell_count, limits_right}
 use Rattle.hal_sound_code.specs.Lying.{LieAt}
