@@ -22,7 +22,7 @@ use Rattle.hal_sound_values.specs.Right.{IsRight}
 use Rattle.hal_sound_values.proofs.KindsKept.{right_is, datum_is}
 use Rattle.hal_right_values.specs.Ranges.{IsOfBytes}
 use Rattle.hal_right_values.specs.Holding.{AreRightHeld, AreRight, Holding, HoldsAfter}
-use Rattle.hal_right_values.proofs.Addressing.{one_placed, Right-copied}
+use Rattle.hal_right_values.proofs.Addressing.{low_rest, one_placed, Right-copied}
 use Rattle.hal_right_values.proofs.Errors.{wrong_is}
 use Rattle.hal_right_values.proofs.Raising.{mode_right, Right-raised, Right-rested}
 use Rattle.hal_right_values.proofs.Rights.{told_right}
@@ -80,7 +80,7 @@ module _ (s : Setting) (known : Known s) where
     Right-given (Pushes k) a after fits = moves _ (going_right c c.at (Val (told k a) ∷ c.stack) h (told_right k a after, h.operands))
     Right-given Tried a after fits = Right-tried a fits
     Right-given (Takes target) a after fits = Right-taken target after.0 after.1 a after.2 after.3 fits
-    Right-given (Copies k ks from place) a after fits = Right-copied s known ks from (suc place) (placed place (told k a) c) after.1 (one_placed s known place (told k a) c (told_right k a after.0) h)
+    Right-given (Copies k ks from place) a after fits = Right-copied s known ks from (suc place) (placed place (told k a) c) after.1 (low_rest ks from (suc place) after.2) (one_placed s known place (told k a) c (told_right k a after.0) h)
     Right-given (Opens groups) a after fits = moves _ (mode_right c (opened s.turns groups a) h (opened_right tables ends groups a cells (subst (λ one. FitsAlive tables ends one a) after fits)) tt)
     Right-given Renews a after fits = Right-begun c.kept h.places h.last
     Right-given (Halts e) a after fits = waits (request.Stop e) (Halts e) c h tt

@@ -27,18 +27,19 @@ use Rattle.hal_right_values.specs.Ranges.{IsInRangeAt, AreInRange}
 use Rattle.hal_right_values.specs.Holding.{Holding, HoldsAwaiting}
 use Rattle.hal_right_values.proofs.Acting.{fine, Right-act}
 use Rattle.hal_right_values.proofs.Answering.{Right-begun, Right-answer}
+use Rattle.hal_right_values.proofs.Copying.{low_at}
 use Rattle.hal_right_values.proofs.Errors.{small}
 use Rattle.hal_right_values.proofs.Grounds.{known_of}
 use Rattle.hal_right_values.proofs.Steps.{Known, Right}
 
 -- the instruction that is next, where control stands at one that is right
-pub Right-stepped : (s : Setting) → Known s → Whole s.image → (c : Core) → IsTyped s c → IsInRangeAt s.image c.at → Holding c → Right (stepped s c)
-Right-stepped s known all c typed ranged h = facing (faces s all typed.number typed.inside c.at (sorts_of c.stack) typed.stands)
+pub Right-stepped : (s : Setting) → Known s → Whole s.image → s.process < length s.image.processes → (c : Core) → IsTyped s c → IsInRangeAt s.image c.at → Holding c → Right (stepped s c)
+Right-stepped s known all exists c typed ranged h = facing (faces s all typed.number typed.inside c.at (sorts_of c.stack) typed.stands)
   where
     facing : (i : Instr) × Faces s typed.number typed.inside c.at (sorts_of c.stack) i → Right (stepped s c)
     facing there =
         subst (λ o. Right (elim o [ None ↦ stuck c | Some i ↦ act s i c ])) (sym there.1.in_code)
-        (Right-act s known c h there.0 (fine s.image there.1.block typed.number there.0 there.1.operands (ranged there.0 there.1.in_code)))
+        (Right-act s known c h there.0 (fine s.image there.1.block typed.number there.0 there.1.operands (ranged there.0 there.1.in_code)) (low_at s all exists c typed there.0 there.1))
 
 pub Right-first : (s : Setting) → Known s → Right (begun s (kept s.firsts (error 0 0)))
 Right-first s known = Right-begun s known (kept s.firsts (error 0 0)) known.firsts (small 0 0 (omega arith) (omega arith))
@@ -51,7 +52,7 @@ module _ (turns : ℕ) (image : ImageParts) (p : ℕ) (right : IsRight image) (r
   ground = ground_of turns image p right exists
 
   steps : (c : Core) → IsTyped s c → Holding c → Right (stepped s c)
-  steps c typed h = Right-stepped s (known_of turns image p right) (whole image right) c typed (ranged c.at) h
+  steps c typed h = Right-stepped s (known_of turns image p right) (whole image right) exists c typed (ranged c.at) h
 
   moving_holds : (most : ℕ) (counted : Core → Asked) → ((d : Core) → IsTyped s d → Holding d → HoldsAwaiting (counted d)) → (moves : ℕ) (step : Step) → Typed s most step → Right step → HoldsAwaiting (moving s counted moves step)
   moving_holds most counted each moves (Waits r w d) typed holds = holds.is

@@ -21,13 +21,14 @@ use Rattle.hal_code.specs.declared.row.View.{View}
 use Rattle.hal_code.specs.Addressing.{cells_before, spot_of}
 use Rattle.hal_code.specs.Cores.{Operand, Setting, Core}
 use Rattle.hal_code.specs.Images.{expanded, row_count, places_of}
-use Rattle.hal_code.specs.Memory.{shared_memory, own_memory, kind_of_place}
+use Rattle.hal_code.specs.Memory.{lies_from, shared_memory, own_memory, kind_of_place}
 use Rattle.hal_code.specs.Operands.{is_known}
 use Rattle.hal_code.specs.Right.{cell_right, place_right, cell_count, limits_right}
 use Rattle.hal_sound_code.specs.Lying.{LieAt}
 use Rattle.hal_sound_code.proofs.Places.{first_lies}
 use Rattle.hal_sound_code.proofs.Rights.{Whole}
 use Rattle.hal_sound_code.proofs.Taking.{some_is}
+use Rattle.hal_right_values.specs.Finding.{CopiesFit}
 use Rattle.hal_right_values.specs.Spreading.{integer_taken, Spread, spread_by, spread, HasRoom, LeadsWithin, CellFits}
 
 -- runs have as many rows as they say
@@ -99,9 +100,37 @@ lies_low s all (Own number) k ks lies =
     small n size some less is low = omega (arith, less, is, low)
 lies_low s all Nowhere k ks lies = tt
 
+-- some kinds that lie in memory end within it
+lies_end : (memory : List (Option Kind)) (number : ℕ) (k : Kind) (ks : List Kind) → lies_from memory number (k ∷ ks) ≡ true → number + suc (length ks) ≤ length memory
+lies_end memory number k [] e = omega (arith, slice_get_within memory number (Some k) (first_lies memory number k [] e).there)
+lies_end memory number k (l ∷ ks) e = one_on number (length (l ∷ ks)) (length memory) (lies_end memory (suc number) l ks (first_lies memory number k (l ∷ ks) e).others)
+  where
+    one_on : (n some size : ℕ) → suc n + some ≤ size → n + suc some ≤ size
+    one_on n some size h = omega (arith, h)
+
+own_low : (s : Setting) → Whole s.image → (number : ℕ) (k : Kind) (ks : List Kind) → lies_from (own_memory (places_of s.image s.process)) number (k ∷ ks) ≡ true → number + suc (length ks) < 2 ^ 32
+own_low s all number k ks lies = small (number + suc (length ks)) (length (own_memory (places_of s.image s.process))) (length (places_of s.image s.process)) (lies_end (own_memory (places_of s.image s.process)) number k ks lies) (length-map (places_of s.image s.process) kind_of_place) (few_places s.image s.process (few_cells s.image all))
+  where
+    small : (n size some : ℕ) → n ≤ size → size ≡ some → some ≤ CELL_LIMIT → n < 2 ^ 32
+    small n size some less is low = omega (arith, less, is, low)
+
 pub room_at : (s : Setting) → Whole s.image → (at : Spot) (kinds : List Kind) → (kinds ≡ [] → ⊥) → LieAt s at kinds → HasRoom at
 room_at s all at [] some lies = absurd (some refl)
 room_at s all at (k ∷ ks) some lies = lies_low s all at k ks lies
+
+-- so their numbers are small, and so are those of own places
+copies_low : (s : Setting) → Whole s.image → (at : Spot) (k : Kind) (ks : List Kind) → LieAt s at (k ∷ ks) → HasRoom (further (suc (length ks)) at)
+copies_low s all (Shared number) k ks lies =
+    small (number + suc (length ks)) (length (shared_memory s.image)) (length (expanded s.image.cells)) (row_count s.image.cells) _ (lies_end (shared_memory s.image) number k ks lies) (length-map (expanded s.image.cells) (λ (cell : Cell). Some cell.kind))
+    (expanded_length s.image.cells) (few_cells s.image all)
+  where
+    small : (n size some cells others : ℕ) → n ≤ size → size ≡ some → some ≡ cells → cells + others ≤ CELL_LIMIT → n < 2 ^ 32
+    small n size some cells others less is also low = omega (arith, less, is, also, low)
+copies_low s all (Own number) k ks lies = own_low s all number k ks lies
+copies_low s all Nowhere k ks lies = tt
+
+pub copies_fit : (s : Setting) → Whole s.image → (at : Spot) (place : ℕ) (k : Kind) (ks : List Kind) → LieAt s at (k ∷ ks) → lies_from (own_memory (places_of s.image s.process)) place (k ∷ ks) ≡ true → CopiesFit (suc (length ks)) at place
+copies_fit s all at place k ks lies own = (copies_low s all at k ks lies, own_low s all place k ks own)
 
 -- what is spread are the cells before those that some subscripts choose
 spread_ints : (ds : List Dimension) (stack : List Operand) (got : Spread) → spread ds stack ≡ Some got → (is : List ℤ) × (got.before ≡ cells_before ds is)
