@@ -63,9 +63,10 @@ low_rest [] from place low = tt
 low_rest (k ∷ ks) from place low = low
 
 low_on : (n : ℕ) (from : Spot) (place : ℕ) → CopiesFit (suc n) from place → CopiesFit n (further 1 from) (suc place)
-low_on n (Shared number) place low = (omega (arith, low.0), omega (arith, low.1))
-low_on n (Own number) place low = (omega (arith, low.0), omega (arith, low.1))
-low_on n Nowhere place low = (tt, omega (arith, low.1))
+low_on zero from place low = tt
+low_on (suc n) (Shared number) place low = (omega (arith, low.0), omega (arith, low.1))
+low_on (suc n) (Own number) place low = (omega (arith, low.0), omega (arith, low.1))
+low_on (suc n) Nowhere place low = (tt, omega (arith, low.1))
 
 target_right : (t : Target) (at : Spot) → IsRightTarget t → IsRightOperand (operand_of t at)
 target_right (target.Cell k) at is = is

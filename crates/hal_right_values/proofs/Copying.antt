@@ -1,28 +1,26 @@
 -- What COPY copies lies at small numbers, and what CLEAR clears is there.
-use Rattle.std.specs.Prelude.{◌≡◌, ℕ, zero, suc, ◌+◌, ◌<◌, ◌≤◌, ◌==◌, nat_le, length, Bool, true, false, ◌||◌, List, [], ◌∷◌, Option, Some, None, slice_get}
-use Rattle.std.proofs.Common.{refl, sym, subst, arith}
+use Rattle.std.specs.Prelude.{◌||◌, ◌≡◌, ℕ, zero, suc, ◌+◌, ◌<◌, ◌≤◌, ◌==◌, length, Bool, true, false, List, [], ◌∷◌, Option, Some, None, slice_get}
+use Rattle.std.proofs.Common.{refl, arith}
 use Rattle.std.proofs.lemmas.Bool.{leb-true}
 use Rattle.hal_values.specs.declared.value.Kind.{Kind}
-use Rattle.hal_values.specs.declared.value.Value.TheVariants as value
-use Rattle.hal_states.specs.Spots.{Spot, Held, Holds, Refers}
+use Rattle.hal_states.specs.Spots.{Spot, Held}
 use Rattle.hal_code.specs.declared.instr.Instr.{Instr}
 use Rattle.hal_code.specs.declared.instr.Instr.TheVariants as instr
 use Rattle.hal_code.specs.declared.row.Block.{Block}
 use Rattle.hal_code.specs.declared.row.OwnPlace.{OwnPlace}
-use Rattle.hal_code.specs.declared.row.OwnPlace.TheVariants as place
 use Rattle.hal_code.specs.Blocks.{is_common, block_places}
 use Rattle.hal_code.specs.Cores.{Operand, Val, At, Area, Setting, Core}
 use Rattle.hal_code.specs.Effects.{Sorts, copied_sorts}
 use Rattle.hal_code.specs.Images.{places_of, kinds_of}
 use Rattle.hal_code.specs.Memory.{lies_from, own_memory, kind_of_place, are_data}
-use Rattle.hal_sound_code.specs.Lying.{LieAt, sorts_of, AllLead, IsHeld, AreHeld}
+use Rattle.hal_sound_code.specs.Lying.{LieAt, sorts_of, AllLead, AreHeld}
 use Rattle.hal_sound_code.specs.Typed.{IsTyped}
 use Rattle.hal_sound_code.proofs.Memory.{lies_own}
 use Rattle.hal_sound_code.proofs.Points.{Faces}
 use Rattle.hal_sound_code.proofs.Rights.{Whole}
 use Rattle.hal_sound_code.proofs.Taking.{if_taken}
 use Rattle.hal_sound_code.proofs.Views.{places_there}
-use Rattle.hal_right_values.specs.Finding.{ClearFits, CopiesFit}
+use Rattle.hal_right_values.specs.Finding.{ClearFits}
 use Rattle.hal_right_values.proofs.Acting.{IsLow}
 use Rattle.hal_right_values.proofs.Addressing.{AreLow, AreLowOn}
 use Rattle.hal_right_values.proofs.Rooms.{copies_fit}

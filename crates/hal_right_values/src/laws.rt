@@ -19,6 +19,7 @@ ghost use Rattle.hal_code.specs.Right.{IsRight};
 ghost use Rattle.hal_sound_code.specs.Typed.{IsTyped};
 ghost use Rattle.hal_right_values.specs.Ranges.{IsInRangeAt, AreInRange};
 ghost use Rattle.hal_right_values.specs.Holding.{Holding, HoldsAfter, HoldsAwaiting, HoldingStep};
+ghost use Rattle.hal_right_values.specs.Finding.{Fits as Finds, HaveCells};
 ghost use Rattle.hal_right_values.specs.Fitting.{OperandsFit};
 ghost use Rattle.hal_right_values.specs.Spreading.{CellFits};
 
@@ -44,6 +45,13 @@ pub fn each_step_of_a_right_image_holds_right_values()
 pub fn the_operands_of_a_right_image_fit()
     ensures { (turns : ℕ) (image : ImageParts) (p : ℕ) (c : Core) (i : Instr) → IsRight image → p < length image.processes → IsTyped (setting_of turns image p) c → Holding c
         → slice_get image.code c.at ≡ Some i → OperandsFit i c.stack }
+{}
+
+/// And each instruction finds what it takes: also its view leads to cells whose numbers fit 32 bits, and so do those that COPY copies; and the own places that CLEAR
+/// names are there. The shape of each view has a cell.
+pub fn each_instruction_of_a_right_image_finds_what_it_takes()
+    ensures { (turns : ℕ) (image : ImageParts) (p : ℕ) (c : Core) (i : Instr) → IsRight image → HaveCells image → p < length image.processes → IsTyped (setting_of turns image p) c
+        → Holding c → slice_get image.code c.at ≡ Some i → Finds (setting_of turns image p) i c }
 {}
 
 /// The views that instructions name lead to cells and places whose numbers fit 32 bits, whatever the subscripts are, where they lead to any.
