@@ -54,11 +54,13 @@ shape_kinds (run ∷ runs) e = many_kinds run.repeat run.row (expanded runs) (ki
 shapes_of : (limits cells events common processes shapes views rest : Bool) → (((limits && cells) && (events && common)) && ((processes && shapes) && (views && rest))) ≡ true → shapes ≡ true
 shapes_of limits cells events common processes shapes views rest e = (and_parts processes shapes (and_parts (processes && shapes) (views && rest) (and_parts ((limits && cells) && (events && common)) _ e).1).0).1
 
+pub shapes_whole : (image : ImageParts) → Whole image → shapes_right image ≡ true
+shapes_whole image all =
+    shapes_of (limits_right image) (list_all cell_right image.cells) (list_all (λ (one : Choice EventStart). is_known one) image.events) (list_all (place_right image) image.common) (processes_right image 0 image.processes) (shapes_right image) (views_right image)
+    (list_all (postfix_right (events_of image) 0) image.expressions && names_right image) all.rows
+
 shapes_are : (image : ImageParts) → Whole image → list_all shape_right image.shapes ≡ true
-shapes_are image all =
-    (and_parts (list_all shape_right image.shapes) (nat_le (sum_by (λ (runs : List (Run Kind)). row_count runs) image.shapes) spread_limit)
-    (shapes_of (limits_right image) (list_all cell_right image.cells) (list_all (λ (one : Choice EventStart). is_known one) image.events) (list_all (place_right image) image.common) (processes_right image 0 image.processes) (shapes_right image) (views_right image)
-    (list_all (postfix_right (events_of image) 0) image.expressions && names_right image) all.rows)).0
+shapes_are image all = (and_parts (list_all shape_right image.shapes) (nat_le (sum_by (λ (runs : List (Run Kind)). row_count runs) image.shapes) spread_limit) (shapes_whole image all)).0
 
 kinds_are : (image : ImageParts) → Whole image → (shape : ℕ) → AreKinds (kinds_of image shape)
 kinds_are image all shape = of_shape (slice_get image.shapes shape) refl

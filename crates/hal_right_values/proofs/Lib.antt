@@ -15,3 +15,4 @@ pub mod Coursing
 pub mod Taking
 pub mod Parting
 pub mod Fitting
+pub mod Bounds

@@ -32,7 +32,7 @@ use Rattle.hal_right_values.specs.Finding.{CopiesFit}
 use Rattle.hal_right_values.specs.Spreading.{integer_taken, Spread, spread_by, spread, HasRoom, LeadsWithin, CellFits}
 
 -- runs have as many rows as they say
-expanded_length : {T : Type 0} (runs : List (Run T)) → length (expanded runs) ≡ row_count runs
+pub expanded_length : {T : Type 0} (runs : List (Run T)) → length (expanded runs) ≡ row_count runs
 expanded_length [] = refl
 expanded_length (run ∷ runs) =
     length-append (replicate run.repeat run.row) (expanded runs) ∙ sum (length (replicate run.repeat run.row)) run.repeat (length (expanded runs)) (row_count runs) (length-replicate run.repeat run.row) (expanded_length runs)
@@ -61,7 +61,7 @@ sum_from f start (x ∷ xs) = above (f x) start (fold (λ a y. a + f y) (start +
     above : (n low high : ℕ) → low + n ≤ high → low ≤ high
     above n low high h = omega (arith, h)
 
-sum_at : {T : Type 0} (f : T → ℕ) (start : ℕ) (xs : List T) (n : ℕ) (x : T) → slice_get xs n ≡ Some x → f x ≤ fold (λ a y. a + f y) start xs
+pub sum_at : {T : Type 0} (f : T → ℕ) (start : ℕ) (xs : List T) (n : ℕ) (x : T) → slice_get xs n ≡ Some x → f x ≤ fold (λ a y. a + f y) start xs
 sum_at f start [] n x e = absurd (cc)
 sum_at f start (y ∷ xs) zero x e = subst (λ z. f z ≤ fold (λ a w. a + f w) (start + f y) xs) (let same : y ≡ x = cc in same) (above (f y) start (fold (λ a w. a + f w) (start + f y) xs) (sum_from f (start + f y) xs))
   where
