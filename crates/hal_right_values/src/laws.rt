@@ -47,8 +47,8 @@ pub fn the_operands_of_a_right_image_fit()
         → slice_get image.code c.at ≡ Some i → OperandsFit i c.stack }
 {}
 
-/// And each instruction finds what it takes: also its view leads to cells whose numbers fit 32 bits, and so do those that COPY copies; and the own places that CLEAR
-/// names are there. The shape of each view has a cell.
+/// And each instruction finds what it takes: a view also leads to cells whose numbers fit 32 bits, as those do that COPY copies, and the own places that CLEAR names
+/// are there. The premise is that the shape of each view has a cell: WHOLE leads to any number where there is none.
 pub fn each_instruction_of_a_right_image_finds_what_it_takes()
     ensures { (turns : ℕ) (image : ImageParts) (p : ℕ) (c : Core) (i : Instr) → IsRight image → HaveCells image → p < length image.processes → IsTyped (setting_of turns image p) c
         → Holding c → slice_get image.code c.at ≡ Some i → Finds (setting_of turns image p) i c }
