@@ -18,11 +18,12 @@ use Rattle.hal_code.specs.declared.row.Target.{Target}
 use Rattle.hal_code.specs.declared.row.Target.TheVariants as target
 use Rattle.hal_code.specs.declared.row.View.{View}
 use Rattle.hal_code.specs.Addressing.{popped, all_inside, cells_before, spot_of, operand_of, addressed, viewed, is_of_cell, cell_viewed, area_viewed, pushed, fetched_cell, fetched, stored_at, placed, copied_cell, copied, cleared, act_fetch, act_peek, act_keep, act_bind, act_copy, act_clear}
-use Rattle.hal_code.specs.Cores.{Operand, Val, At, Area, Setting, Core, going, Puts, Pushes, Copies, Step, Moves}
+use Rattle.hal_code.specs.Cores.{Operand, Val, At, Area, Setting, Core, going, Puts, Pushes, Copies, Step}
 use Rattle.hal_code.specs.Images.{kinds_of}
 use Rattle.hal_code.specs.Raising.{stuck}
 use Rattle.hal_sound_values.specs.Right.{IsRight}
 use Rattle.hal_right_values.specs.Ranges.{IsOfBytes}
+use Rattle.hal_right_values.specs.Finding.{CopiesFit}
 use Rattle.hal_right_values.specs.Holding.{IsRightOperand, AreRightOperands, Holding, AreKinds}
 use Rattle.hal_right_values.proofs.Errors.{small, stored_errs}
 use Rattle.hal_right_values.proofs.Rights.{nothing_right, seen_right, stored_right, mended_store_right, zero_right}
@@ -44,6 +45,28 @@ popped_right (suc n) [] right = tt
 popped_right (suc n) (Val v ∷ stack) right = one_popped v (popped n stack) _ (popped_right n stack right.1)
 popped_right (suc n) (At at k ∷ stack) right = tt
 popped_right (suc n) (Area at shape ∷ stack) right = tt
+
+-- the numbers of the cells and places of a copy are small, where there are any
+abbrev pub AreLow : List Kind → Spot → ℕ → Type 0
+AreLow [] from place = Unit {0}
+AreLow (k ∷ ks) from place = CopiesFit (suc (length ks)) from place
+
+-- those of a copy that COPY begins
+abbrev pub AreLowOn : Setting → ℕ → List Operand → Type 0
+AreLowOn s place [] = Unit {0}
+AreLowOn s place (Val v ∷ stack) = Unit {0}
+AreLowOn s place (At at k ∷ stack) = Unit {0}
+AreLowOn s place (Area at shape ∷ stack) = AreLow (kinds_of s.image shape) at place
+
+pub low_rest : (ks : List Kind) (from : Spot) (place : ℕ) → CopiesFit (length ks) from place → AreLow ks from place
+low_rest [] from place low = tt
+low_rest (k ∷ ks) from place low = low
+
+low_on : (n : ℕ) (from : Spot) (place : ℕ) → CopiesFit (suc n) from place → CopiesFit n (further 1 from) (suc place)
+low_on zero from place low = tt
+low_on (suc n) (Shared number) place low = (omega (arith, low.0), omega (arith, low.1))
+low_on (suc n) (Own number) place low = (omega (arith, low.0), omega (arith, low.1))
+low_on (suc n) Nowhere place low = (tt, omega (arith, low.1))
 
 target_right : (t : Target) (at : Spot) → IsRightTarget t → IsRightOperand (operand_of t at)
 target_right (target.Cell k) at is = is
@@ -116,27 +139,27 @@ module _ (s : Setting) (known : Known s) where
   pub one_placed : (number : ℕ) (v : Value) (c : Core) → IsRight v → Holding c → Holding (placed number v c)
   one_placed number v c is h = placed_right c _ h (held_set c.kept.places number (Holds v) h.places is)
 
-  Right-copied_cell : (number : ℕ) (cell : Cell) (groups : Option ℕ) (ks : List Kind) (place : ℕ) (next : Value → Step) (c : Core) → IsKind cell.kind → AreKinds ks → ((v : Value) → IsRight v → Right (next v)) → Holding c
+  Right-copied_cell : (number : ℕ) (cell : Cell) (groups : Option ℕ) (ks : List Kind) (place : ℕ) (next : Value → Step) (c : Core) → IsKind cell.kind → AreKinds ks → CopiesFit (length ks) (Shared (number + 1)) (suc place) → ((v : Value) → IsRight v → Right (next v)) → Holding c
       → Right (copied_cell number cell groups ks place next c)
-  Right-copied_cell number cell None ks place next c is are each h = waits (request.Read (asked.Cell number)) (Copies cell.kind ks (Shared (number + 1)) place) c h (is, are)
-  Right-copied_cell number cell (Some groups) ks place next c is are each h = each (seen_cell groups cell (slice_get c.mode.store number)) (seen_right groups cell (slice_get c.mode.store number) is)
+  Right-copied_cell number cell None ks place next c is are low each h = waits (request.Read (asked.Cell number)) (Copies cell.kind ks (Shared (number + 1)) place) c h (is, are, low)
+  Right-copied_cell number cell (Some groups) ks place next c is are low each h = each (seen_cell groups cell (slice_get c.mode.store number)) (seen_right groups cell (slice_get c.mode.store number) is)
 
-  pub Right-copied : (ks : List Kind) (from : Spot) (place : ℕ) (c : Core) → AreKinds ks → Holding c → Right (copied s ks from place c)
-  Right-copied [] from place c are h = moves c h
-  Right-copied (k ∷ ks) (Shared number) place c are h =
+  pub Right-copied : (ks : List Kind) (from : Spot) (place : ℕ) (c : Core) → AreKinds ks → AreLow ks from place → Holding c → Right (copied s ks from place c)
+  Right-copied [] from place c are low h = moves c h
+  Right-copied (k ∷ ks) (Shared number) place c are low h =
       found {A = Cell} (slice_get s.tables.cells number) (copied s ks (Shared (number + 1)) (suc place) (placed place (value.Int (pos 0)) c))
       (λ cell. copied_cell number cell c.mode.groups ks place (λ v. copied s ks (Shared (number + 1)) (suc place) (placed place v c)) c)
-      (Right-copied ks (Shared (number + 1)) (suc place) (placed place (value.Int (pos 0)) c) are.1 (one_placed place (value.Int (pos 0)) c zero_right h))
-      (λ cell e. Right-copied_cell number cell c.mode.groups ks place _ c (known.cells number cell e) are.1 (λ v is. Right-copied ks (Shared (number + 1)) (suc place) (placed place v c) are.1 (one_placed place v c is h)) h)
-  Right-copied (k ∷ ks) (Own number) place c are h =
-      Right-copied ks (Own (number + 1)) (suc place) (placed place (held_in (slice_get c.kept.places number)) c) are.1 (one_placed place (held_in (slice_get c.kept.places number)) c (held_right c.kept.places number h.places) h)
-  Right-copied (k ∷ ks) Nowhere place c are h = Right-copied ks Nowhere (suc place) (placed place (nothing k) c) are.1 (one_placed place (nothing k) c (nothing_right k are.0) h)
+      (Right-copied ks (Shared (number + 1)) (suc place) (placed place (value.Int (pos 0)) c) are.1 (low_rest ks (Shared (number + 1)) (suc place) (low_on (length ks) (Shared number) place low)) (one_placed place (value.Int (pos 0)) c zero_right h))
+      (λ cell e. Right-copied_cell number cell c.mode.groups ks place _ c (known.cells number cell e) are.1 (low_on (length ks) (Shared number) place low) (λ v is. Right-copied ks (Shared (number + 1)) (suc place) (placed place v c) are.1 (low_rest ks (Shared (number + 1)) (suc place) (low_on (length ks) (Shared number) place low)) (one_placed place v c is h)) h)
+  Right-copied (k ∷ ks) (Own number) place c are low h =
+      Right-copied ks (Own (number + 1)) (suc place) (placed place (held_in (slice_get c.kept.places number)) c) are.1 (low_rest ks (Own (number + 1)) (suc place) (low_on (length ks) (Own number) place low)) (one_placed place (held_in (slice_get c.kept.places number)) c (held_right c.kept.places number h.places) h)
+  Right-copied (k ∷ ks) Nowhere place c are low h = Right-copied ks Nowhere (suc place) (placed place (nothing k) c) are.1 (low_rest ks Nowhere (suc place) (low_on (length ks) Nowhere place low)) (one_placed place (nothing k) c (nothing_right k are.0) h)
 
-  pub Right-copy : (place : ℕ) (stack : List Operand) (c : Core) → AreRightOperands stack → Holding c → Right (act_copy s place stack c)
-  Right-copy place [] c right h = sticks c h
-  Right-copy place (Area at shape ∷ stack) c right h = Right-copied (kinds_of s.image shape) at place (going (suc c.at) stack c) (known.shapes shape) (going_right c (suc c.at) stack h right.1)
-  Right-copy place (Val v ∷ stack) c right h = sticks c h
-  Right-copy place (At at k ∷ stack) c right h = sticks c h
+  pub Right-copy : (place : ℕ) (stack : List Operand) (c : Core) → AreRightOperands stack → AreLowOn s place stack → Holding c → Right (act_copy s place stack c)
+  Right-copy place [] c right low h = sticks c h
+  Right-copy place (Area at shape ∷ stack) c right low h = Right-copied (kinds_of s.image shape) at place (going (suc c.at) stack c) (known.shapes shape) low (going_right c (suc c.at) stack h right.1)
+  Right-copy place (Val v ∷ stack) c right low h = sticks c h
+  Right-copy place (At at k ∷ stack) c right low h = sticks c h
 
   -- BIND
   pub Right-bind : (place : ℕ) (stack : List Operand) (c : Core) → AreRightOperands stack → Holding c → Right (act_bind place stack c)

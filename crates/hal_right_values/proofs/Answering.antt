@@ -1,5 +1,5 @@
 -- What is done with answers that fit holds right values.
-use Rattle.std.specs.Prelude.{ℕ, suc, ◌≡◌, ◌⊎◌, List, [], ◌∷◌, All}
+use Rattle.std.specs.Prelude.{ℕ, suc, ◌≡◌, List, [], ◌∷◌, All}
 use Rattle.std.proofs.Common.{sym, subst, inl, inr}
 use Rattle.std.proofs.lemmas.List.Elements.{All-head, All-tail}
 use Rattle.hal_values.specs.declared.request.Request.{Request}
@@ -10,19 +10,19 @@ use Rattle.hal_values.specs.declared.value.Kind.{Kind}
 use Rattle.hal_values.specs.declared.value.Value.{Value}
 use Rattle.hal_values.specs.Answers.{Answered, Ends, FitsAlive, Fits}
 use Rattle.hal_values.specs.Answers as answered
-use Rattle.hal_values.specs.Kinds.{IsKind, IsDatum}
+use Rattle.hal_values.specs.Kinds.{IsKind}
 use Rattle.hal_values.specs.Tables.{IsCell, IsSnapshot}
-use Rattle.hal_states.specs.Modes.{mode, asking, opened, snapshot_of, turns_given}
+use Rattle.hal_states.specs.Modes.{asking, opened, snapshot_of}
 use Rattle.hal_states.specs.OfKinds.{told}
 use Rattle.hal_states.specs.Spots.{Kept}
-use Rattle.hal_code.specs.Addressing.{placed, copied}
-use Rattle.hal_code.specs.Cores.{Val, Setting, Core, core, going, with_mode, Wait, Then, Goes, Pushes, Tried, Takes, Copies, Opens, Renews, Halts, Step}
+use Rattle.hal_code.specs.Addressing.{placed}
+use Rattle.hal_code.specs.Cores.{Val, Setting, Core, core, going, Wait, Then, Goes, Pushes, Tried, Takes, Copies, Opens, Renews, Halts}
 use Rattle.hal_code.specs.Machine.{begun, tried_by, taken_by, given, after_answer}
 use Rattle.hal_sound_values.specs.Right.{IsRight}
 use Rattle.hal_sound_values.proofs.KindsKept.{right_is, datum_is}
 use Rattle.hal_right_values.specs.Ranges.{IsOfBytes}
 use Rattle.hal_right_values.specs.Holding.{AreRightHeld, AreRight, Holding, HoldsAfter}
-use Rattle.hal_right_values.proofs.Addressing.{one_placed, Right-copied}
+use Rattle.hal_right_values.proofs.Addressing.{low_rest, one_placed, Right-copied}
 use Rattle.hal_right_values.proofs.Errors.{wrong_is}
 use Rattle.hal_right_values.proofs.Raising.{mode_right, Right-raised, Right-rested}
 use Rattle.hal_right_values.proofs.Rights.{told_right}
@@ -80,7 +80,7 @@ module _ (s : Setting) (known : Known s) where
     Right-given (Pushes k) a after fits = moves _ (going_right c c.at (Val (told k a) ∷ c.stack) h (told_right k a after, h.operands))
     Right-given Tried a after fits = Right-tried a fits
     Right-given (Takes target) a after fits = Right-taken target after.0 after.1 a after.2 after.3 fits
-    Right-given (Copies k ks from place) a after fits = Right-copied s known ks from (suc place) (placed place (told k a) c) after.1 (one_placed s known place (told k a) c (told_right k a after.0) h)
+    Right-given (Copies k ks from place) a after fits = Right-copied s known ks from (suc place) (placed place (told k a) c) after.1 (low_rest ks from (suc place) after.2) (one_placed s known place (told k a) c (told_right k a after.0) h)
     Right-given (Opens groups) a after fits = moves _ (mode_right c (opened s.turns groups a) h (opened_right tables ends groups a cells (subst (λ one. FitsAlive tables ends one a) after fits)) tt)
     Right-given Renews a after fits = Right-begun c.kept h.places h.last
     Right-given (Halts e) a after fits = waits (request.Stop e) (Halts e) c h tt

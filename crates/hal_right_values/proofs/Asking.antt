@@ -1,5 +1,5 @@
 -- Instructions that ask hold right values.
-use Rattle.std.specs.Prelude.{ℕ, suc, nat_lt, length, take, List, [], ◌∷◌, ◌++◌, Bool, true, false, Option, Some, None, ℤ, if◌then◌else◌}
+use Rattle.std.specs.Prelude.{ℕ, suc, nat_lt, length, take, List, [], ◌∷◌, ◌++◌, Bool, true, false, Some, None, ℤ, if◌then◌else◌}
 use Rattle.std.proofs.Common.{arith}
 use Rattle.hal_base.specs.declared.limits.TheConstants.{LINE_LIMIT}
 use Rattle.hal_values.specs.declared.plan.Guard.{Guard}
@@ -13,7 +13,6 @@ use Rattle.hal_values.specs.declared.request.Request.TheVariants as request
 use Rattle.hal_values.specs.declared.request.Spot.TheVariants as asked
 use Rattle.hal_values.specs.declared.tables.Tables.{Tables}
 use Rattle.hal_values.specs.declared.value.Kind.TheVariants as kind
-use Rattle.hal_values.specs.declared.value.Value.{Value}
 use Rattle.hal_values.specs.declared.value.Value.TheVariants as value
 use Rattle.hal_values.specs.Answers.{error}
 use Rattle.hal_values.specs.Tables.{process_count, event_count}
@@ -32,7 +31,7 @@ use Rattle.hal_code.specs.declared.operand.Start.{Start}
 use Rattle.hal_code.specs.declared.operand.Start.TheVariants as start
 use Rattle.hal_code.specs.declared.operand.Time.{Time}
 use Rattle.hal_code.specs.declared.operand.Time.TheVariants as time
-use Rattle.hal_code.specs.Asking.{Taken, taken_as, expression_taken, time_taken, start_taken, priority_taken, round_taken, limit_taken, delay_taken, scheduled, with_start, with_priority, with_round, with_limit, act_schedule, named, act_named, prioritized, act_priority, waited, act_wait, act_event_change, act_event, act_item, act_print}
+use Rattle.hal_code.specs.Asking.{Taken, taken_as, time_taken, start_taken, priority_taken, round_taken, limit_taken, delay_taken, scheduled, with_start, with_priority, with_round, with_limit, act_schedule, named, act_named, prioritized, act_priority, waited, act_wait, act_event_change, act_event, act_item, act_print}
 use Rattle.hal_code.specs.Cores.{Operand, Val, At, Area, Setting, Core, going, with_line, Asks, Tries, Plans, Then, Goes, Pushes, Tried}
 use Rattle.hal_code.specs.Raising.{made_if}
 use Rattle.hal_right_values.specs.Ranges.{IsOfBytes}

@@ -1,17 +1,15 @@
 -- A process of a right image holds right values after all fitting answers.
-use Rattle.std.specs.Prelude.{ℕ, zero, suc, ◌<◌, ◌≡◌, List, [], ◌∷◌, ◌++◌, length, Option, Some, None, All, slice_get}
+use Rattle.std.specs.Prelude.{ℕ, zero, suc, ◌<◌, ◌≡◌, List, [], ◌∷◌, ◌++◌, length, Some, None}
 use Rattle.std.proofs.Common.{refl, sym, subst, arith}
 use Rattle.std.proofs.lemmas.List.{append_assoc, append-nil}
 use Rattle.hal_values.specs.Answers.{Answered, Ends, Fits, error}
 use Rattle.hal_values.specs.Fitting.{FitAll-push}
 use Rattle.hal_values.specs.Loads as loads
-use Rattle.hal_values.specs.Tables.{IsCell}
 use Rattle.hal_states.specs.Spots.{kept}
 use Rattle.hal_code.specs.declared.image.ImageParts.{ImageParts}
 use Rattle.hal_code.specs.declared.instr.Instr.{Instr}
 use Rattle.hal_code.specs.Cores.{Setting, Core, Step, Waits, Moves, Counts}
-use Rattle.hal_code.specs.Courses.{setting_of, rank, Asked, lost, moving, counting, settled, asked_after, course, next, load_of}
-use Rattle.hal_code.specs.Images.{tables_of}
+use Rattle.hal_code.specs.Courses.{setting_of, rank, Asked, moving, counting, settled, asked_after, course, next, load_of}
 use Rattle.hal_code.specs.Machine.{act, stepped, begun, after_answer}
 use Rattle.hal_code.specs.Raising.{stuck}
 use Rattle.hal_code.specs.Right.{IsRight}
@@ -25,22 +23,23 @@ use Rattle.hal_sound_code.proofs.Grounds.{Ground, ground_of, Typed-begun}
 use Rattle.hal_sound_code.proofs.Points.{Faces, faces}
 use Rattle.hal_sound_code.proofs.Rights.{Whole, whole}
 use Rattle.hal_sound_code.proofs.Stepping.{Typed}
-use Rattle.hal_right_values.specs.Ranges.{IsInRange, IsInRangeAt, AreInRange}
-use Rattle.hal_right_values.specs.Holding.{Holding, HoldsAwaiting, HoldingStep}
+use Rattle.hal_right_values.specs.Ranges.{IsInRangeAt, AreInRange}
+use Rattle.hal_right_values.specs.Holding.{Holding, HoldsAwaiting}
 use Rattle.hal_right_values.proofs.Acting.{fine, Right-act}
 use Rattle.hal_right_values.proofs.Answering.{Right-begun, Right-answer}
+use Rattle.hal_right_values.proofs.Copying.{low_at}
 use Rattle.hal_right_values.proofs.Errors.{small}
 use Rattle.hal_right_values.proofs.Grounds.{known_of}
-use Rattle.hal_right_values.proofs.Steps.{Known, Right, sticks, found}
+use Rattle.hal_right_values.proofs.Steps.{Known, Right}
 
 -- the instruction that is next, where control stands at one that is right
-pub Right-stepped : (s : Setting) → Known s → Whole s.image → (c : Core) → IsTyped s c → IsInRangeAt s.image c.at → Holding c → Right (stepped s c)
-Right-stepped s known all c typed ranged h = facing (faces s all typed.number typed.inside c.at (sorts_of c.stack) typed.stands)
+pub Right-stepped : (s : Setting) → Known s → Whole s.image → s.process < length s.image.processes → (c : Core) → IsTyped s c → IsInRangeAt s.image c.at → Holding c → Right (stepped s c)
+Right-stepped s known all exists c typed ranged h = facing (faces s all typed.number typed.inside c.at (sorts_of c.stack) typed.stands)
   where
     facing : (i : Instr) × Faces s typed.number typed.inside c.at (sorts_of c.stack) i → Right (stepped s c)
     facing there =
         subst (λ o. Right (elim o [ None ↦ stuck c | Some i ↦ act s i c ])) (sym there.1.in_code)
-        (Right-act s known c h there.0 (fine s.image there.1.block typed.number there.0 there.1.operands (ranged there.0 there.1.in_code)))
+        (Right-act s known c h there.0 (fine s.image there.1.block typed.number there.0 there.1.operands (ranged there.0 there.1.in_code)) (low_at s all exists c typed there.0 there.1))
 
 pub Right-first : (s : Setting) → Known s → Right (begun s (kept s.firsts (error 0 0)))
 Right-first s known = Right-begun s known (kept s.firsts (error 0 0)) known.firsts (small 0 0 (omega arith) (omega arith))
@@ -53,7 +52,7 @@ module _ (turns : ℕ) (image : ImageParts) (p : ℕ) (right : IsRight image) (r
   ground = ground_of turns image p right exists
 
   steps : (c : Core) → IsTyped s c → Holding c → Right (stepped s c)
-  steps c typed h = Right-stepped s (known_of turns image p right) (whole image right) c typed (ranged c.at) h
+  steps c typed h = Right-stepped s (known_of turns image p right) (whole image right) exists c typed (ranged c.at) h
 
   moving_holds : (most : ℕ) (counted : Core → Asked) → ((d : Core) → IsTyped s d → Holding d → HoldsAwaiting (counted d)) → (moves : ℕ) (step : Step) → Typed s most step → Right step → HoldsAwaiting (moving s counted moves step)
   moving_holds most counted each moves (Waits r w d) typed holds = holds.is

@@ -1,6 +1,6 @@
 -- The groups and the numbers of errors are bytes.
 use Rattle.std.specs.Prelude.{ℕ, ◌≤◌, ◌≡◌, ◌⊎◌, Bool, true, false, length, List, Option, Some, None, ℤ, pos, negsuc, ◌+ℤ◌, ◌-ℤ◌, ◌*ℤ◌, ◌^◌, neg_ℤ, unsigned_abs, int_div, Result, Ok, Err, IfErr, if◌then◌else◌}
-use Rattle.std.proofs.Common.{refl, ap, inl, inr, arith}
+use Rattle.std.proofs.Common.{ap, inl, inr, arith}
 use Rattle.std.specs.Int.{int_pow, int_rem_euclid}
 use Rattle.hal_values.specs.declared.environment.ErrNo.{ErrNo}
 use Rattle.hal_values.specs.declared.request.Request.{Request}

@@ -1,5 +1,5 @@
 -- Each instruction of a right image takes the right values that it meets.
-use Rattle.std.specs.Prelude.{◌≡◌, ℕ, ◌<◌, ◌==◌, length, true, false, not, ◌&&◌, ◌||◌, List, [], ◌∷◌, ℤ, Option, Some, slice_get}
+use Rattle.std.specs.Prelude.{◌≡◌, ℕ, ◌<◌, ◌==◌, length, true, false, not, ◌&&◌, [], Some, slice_get, List, ◌∷◌, Option, None}
 use Rattle.std.specs.List.{list_any}
 use Rattle.std.proofs.Common.{refl, sym, subst, ◌∙◌}
 use Rattle.std.proofs.lemmas.Bool.{eq-eqb, and_parts}
@@ -13,11 +13,12 @@ use Rattle.hal_code.specs.declared.row.Target.TheVariants as target
 use Rattle.hal_code.specs.declared.row.View.{View}
 use Rattle.hal_code.specs.Addressing.{is_of_cell}
 use Rattle.hal_code.specs.Blocks.{code_of}
-use Rattle.hal_code.specs.Cores.{Setting, Core}
+use Rattle.hal_code.specs.Cores.{Operand, Val, At, Area, Setting, Core}
+use Rattle.hal_code.specs.Images.{places_of, kinds_of}
 use Rattle.hal_code.specs.Memory.{target_kinds}
 use Rattle.hal_code.specs.Operands.{is_view_for}
 use Rattle.hal_code.specs.Right.{names_view, process_names}
-use Rattle.hal_sound_code.specs.Lying.{sorts_of}
+use Rattle.hal_sound_code.specs.Lying.{sorts_of, AreHeld}
 use Rattle.hal_sound_code.specs.Typed.{IsTyped}
 use Rattle.hal_sound_code.proofs.Controlling.{of_option}
 use Rattle.hal_sound_code.proofs.Memory.{both_true}
@@ -26,9 +27,12 @@ use Rattle.hal_sound_code.proofs.Rights.{Whole}
 use Rattle.hal_sound_code.proofs.Rows.{view_forms, view_at}
 use Rattle.hal_sound_code.proofs.Taking.{some_is}
 use Rattle.hal_sound_code.proofs.Views.{any_at, view_lies_at}
+use Rattle.hal_right_values.specs.Finding.{ViewFits, CopiesFit, CopyFits, Fits, HaveCells}
 use Rattle.hal_right_values.specs.Fitting.{OperandsFit}
 use Rattle.hal_right_values.specs.Holding.{AreRightOperands, Holding}
 use Rattle.hal_right_values.specs.Spreading.{CellFits}
+use Rattle.hal_right_values.proofs.Addressing.{AreLow, AreLowOn}
+use Rattle.hal_right_values.proofs.Copying.{low_at, clear_fits}
 use Rattle.hal_right_values.proofs.Parting.{pick_fits, patch_fits}
 use Rattle.hal_right_values.proofs.Rooms.{room_at, cell_fits}
 use Rattle.hal_right_values.proofs.Taking.{one_fits, item_fits, two_fits, keep_fits}
@@ -102,3 +106,35 @@ module _ (s : Setting) (all : Whole s.image) (exists : s.process < length s.imag
             where
               with_view : (not (is_of_cell view) && is_view_for s.image f.block view) ≡ true → CellFits view c
               with_view both = view_fits (instr.Whole v) f v view (eq-eqb v v refl) there (and_parts (not (is_of_cell view)) (is_view_for s.image f.block view) both).1 some
+
+  -- an instruction finds what it takes
+  copy_fits : (place : ℕ) (stack : List Operand) → AreLowOn s place stack → CopyFits s place stack
+  copy_fits place [] low = tt
+  copy_fits place (Val v ∷ stack) low = tt
+  copy_fits place (At at k ∷ stack) low = tt
+  copy_fits place (Area at shape ∷ stack) low = of_kinds (kinds_of s.image shape) low
+    where
+      of_kinds : (ks : List Kind) → AreLow ks at place → CopiesFit (length ks) at place
+      of_kinds [] lies = tt
+      of_kinds (k ∷ ks) lies = lies
+
+  cell_found : (v : ℕ) → slice_get s.image.code c.at ≡ Some (instr.Cell v) → (o : Option View) → slice_get s.image.views v ≡ o → ViewFits o c
+  cell_found v e None there = tt
+  cell_found v e (Some view) there = of_cell_fits v view e there
+
+  shape_found : HaveCells s.image → (v : ℕ) → slice_get s.image.code c.at ≡ Some (instr.Whole v) → (o : Option View) → slice_get s.image.views v ≡ o → ViewFits o c
+  shape_found have v e None there = tt
+  shape_found have v e (Some view) there = of_shape_fits v view e there (have v view there)
+
+  pub finds : HaveCells s.image → AreHeld s (places_of s.image s.process) s.firsts → Holding c → (i : Instr) → slice_get s.image.code c.at ≡ Some i → Fits s i c
+  finds have firsts h (instr.Cell v) e = cell_found v e (slice_get s.image.views v) refl
+  finds have firsts h (instr.Whole v) e = shape_found have v e (slice_get s.image.views v) refl
+  finds have firsts h instr.Keep e = operands_fit h instr.Keep e
+  finds have firsts h (instr.Op1 op) e = operands_fit h (instr.Op1 op) e
+  finds have firsts h (instr.Op2 op) e = operands_fit h (instr.Op2 op) e
+  finds have firsts h (instr.Pick chosen) e = operands_fit h (instr.Pick chosen) e
+  finds have firsts h (instr.Patch chosen) e = operands_fit h (instr.Patch chosen) e
+  finds have firsts h (instr.Copy place) e = copy_fits place c.stack (low_at s all exists c typed (instr.Copy place) (is_next (instr.Copy place) e))
+  finds have firsts h (instr.Clear place count) e = clear_fits s exists (is_next (instr.Clear place count) e).block (is_next (instr.Clear place count) e).own place count c firsts typed.kept (is_next (instr.Clear place count) e).operands
+  finds have firsts h instr.Item e = operands_fit h instr.Item e
+  finds have firsts h other e = tt

@@ -1,7 +1,7 @@
 -- What is known of the tables of a right image, and of the instruction that is next.
-use Rattle.std.specs.Prelude.{ℕ, zero, suc, ◌<◌, ◌≡◌, nat_le, nat_lt, length, map, replicate, Bool, true, false, ◌&&◌, List, [], ◌∷◌, ◌++◌, Option, Some, None, All, slice_get}
+use Rattle.std.specs.Prelude.{ℕ, zero, suc, ◌≡◌, nat_le, nat_lt, length, map, replicate, Bool, true, ◌&&◌, List, [], ◌∷◌, ◌++◌, Option, Some, None, All, slice_get}
 use Rattle.std.specs.List.{list_all, sum_by}
-use Rattle.std.proofs.Common.{refl, sym, subst}
+use Rattle.std.proofs.Common.{refl, subst}
 use Rattle.std.proofs.lemmas.Bool.{and_parts}
 use Rattle.std.proofs.lemmas.List.Elements.{All-head, All-tail}
 use Rattle.hal_values.specs.declared.tables.Cell.{Cell}
@@ -13,8 +13,6 @@ use Rattle.hal_states.specs.OfKinds.{is_of}
 use Rattle.hal_states.proofs.OfKind.{kind_of_is}
 use Rattle.hal_code.specs.declared.choice.Choice.{Choice}
 use Rattle.hal_code.specs.declared.image.ImageParts.{ImageParts}
-use Rattle.hal_code.specs.declared.instr.Instr.{Instr}
-use Rattle.hal_code.specs.declared.row.Block.{Block}
 use Rattle.hal_code.specs.declared.row.Dimension.{Dimension}
 use Rattle.hal_code.specs.declared.row.OwnPlace.{OwnPlace}
 use Rattle.hal_code.specs.declared.row.OwnPlace.TheVariants as place
@@ -23,13 +21,11 @@ use Rattle.hal_code.specs.declared.row.Run.{Run}
 use Rattle.hal_code.specs.declared.row.Target.{Target}
 use Rattle.hal_code.specs.declared.row.Target.TheVariants as target
 use Rattle.hal_code.specs.declared.row.View.{View}
-use Rattle.hal_code.specs.Blocks.{code_of}
-use Rattle.hal_code.specs.Cores.{Setting}
 use Rattle.hal_code.specs.Courses.{setting_of}
 use Rattle.hal_code.specs.Images.{expanded, row_count, tables_of, places_of, held_first, kinds_of}
 use Rattle.hal_code.specs.Memory.{spread_limit}
 use Rattle.hal_code.specs.Operands.{is_known, events_of}
-use Rattle.hal_code.specs.Right.{IsRight, cell_right, place_right, process_right, processes_right, shape_right, shapes_right, target_right, form_right, views_right, limits_right, postfix_right, names_right}
+use Rattle.hal_code.specs.Right.{IsRight, cell_right, place_right, process_right, processes_right, shape_right, shapes_right, target_right, views_right, limits_right, postfix_right, names_right}
 use Rattle.hal_code.specs.Sorts.{is_kind, is_initial}
 use Rattle.hal_code.proofs.RightTables.{right_tables}
 use Rattle.hal_sound_code.proofs.Rights.{Whole, whole}
@@ -58,11 +54,13 @@ shape_kinds (run ∷ runs) e = many_kinds run.repeat run.row (expanded runs) (ki
 shapes_of : (limits cells events common processes shapes views rest : Bool) → (((limits && cells) && (events && common)) && ((processes && shapes) && (views && rest))) ≡ true → shapes ≡ true
 shapes_of limits cells events common processes shapes views rest e = (and_parts processes shapes (and_parts (processes && shapes) (views && rest) (and_parts ((limits && cells) && (events && common)) _ e).1).0).1
 
+pub shapes_whole : (image : ImageParts) → Whole image → shapes_right image ≡ true
+shapes_whole image all =
+    shapes_of (limits_right image) (list_all cell_right image.cells) (list_all (λ (one : Choice EventStart). is_known one) image.events) (list_all (place_right image) image.common) (processes_right image 0 image.processes) (shapes_right image) (views_right image)
+    (list_all (postfix_right (events_of image) 0) image.expressions && names_right image) all.rows
+
 shapes_are : (image : ImageParts) → Whole image → list_all shape_right image.shapes ≡ true
-shapes_are image all =
-    (and_parts (list_all shape_right image.shapes) (nat_le (sum_by (λ (runs : List (Run Kind)). row_count runs) image.shapes) spread_limit)
-    (shapes_of (limits_right image) (list_all cell_right image.cells) (list_all (λ (one : Choice EventStart). is_known one) image.events) (list_all (place_right image) image.common) (processes_right image 0 image.processes) (shapes_right image) (views_right image)
-    (list_all (postfix_right (events_of image) 0) image.expressions && names_right image) all.rows)).0
+shapes_are image all = (and_parts (list_all shape_right image.shapes) (nat_le (sum_by (λ (runs : List (Run Kind)). row_count runs) image.shapes) spread_limit) (shapes_whole image all)).0
 
 kinds_are : (image : ImageParts) → Whole image → (shape : ℕ) → AreKinds (kinds_of image shape)
 kinds_are image all shape = of_shape (slice_get image.shapes shape) refl

@@ -7,10 +7,12 @@ pub mod Computing
 pub mod Controlling
 pub mod Asking
 pub mod Acting
+pub mod Rooms
+pub mod Copying
 pub mod Answering
 pub mod Grounds
 pub mod Coursing
 pub mod Taking
 pub mod Parting
-pub mod Rooms
 pub mod Fitting
+pub mod Bounds

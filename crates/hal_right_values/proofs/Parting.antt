@@ -1,7 +1,7 @@
 -- PICK and PATCH take right values of the sorts that they take.
 use Rattle.std.specs.Prelude.{◌≡◌, true, drop, List, [], ◌∷◌, Option, Some, None}
 use Rattle.std.specs.Option.{option_and_then}
-use Rattle.std.proofs.Common.{sym, ap, subst, ◌∙◌}
+use Rattle.std.proofs.Common.{ap, ◌∙◌}
 use Rattle.hal_values.specs.declared.value.Kind.{Kind}
 use Rattle.hal_values.specs.declared.value.Kind.TheVariants as kind
 use Rattle.hal_values.specs.declared.value.Value.{Value}
@@ -19,7 +19,7 @@ use Rattle.hal_code.specs.Sorts.{A, sort_of, takes_part}
 use Rattle.hal_sound_code.specs.Lying.{sort_of_value, sorts_of}
 use Rattle.hal_sound_code.proofs.Taking.{some_is, if_taken, then_taken}
 use Rattle.hal_sound_values.specs.Right.{IsRight}
-use Rattle.hal_right_values.specs.Fitting.{PlacesOn, HasPlaces, PickFits, value_on, AreTaken, AllTaken, PatchFits, IfKnown}
+use Rattle.hal_right_values.specs.Fitting.{PlacesOn, HasPlaces, PickFits, value_on, AreTaken, AllTaken, PatchFits, ChosenFits}
 use Rattle.hal_right_values.specs.Holding.{AreRightOperands}
 use Rattle.hal_right_values.proofs.Computing.{LeavesPart, part_leaves}
 
@@ -71,7 +71,7 @@ has_places : (o : Option (Part × List Operand)) (left after : Sorts) → Leaves
 has_places None left after right is e = tt
 has_places (Some got) left after right is e = places_on got.1 after right (ap picked_sorts is ∙ e)
 
-pub pick_fits : (chosen : Choice Places) (stack : List Operand) (after : Sorts) → AreRightOperands stack → option_and_then picked_sorts (places_taken chosen (sorts_of stack)) ≡ Some after → IfKnown (λ one. PickFits one stack) chosen
+pub pick_fits : (chosen : Choice Places) (stack : List Operand) (after : Sorts) → AreRightOperands stack → option_and_then picked_sorts (places_taken chosen (sorts_of stack)) ≡ Some after → ChosenFits PickFits chosen stack
 pick_fits (choice.Known chosen) stack after right e = of_left (then_taken picked_sorts (places_taken (choice.Known chosen) (sorts_of stack)) after e)
   where
     of_left : (left : Sorts) × (places_taken (choice.Known chosen) (sorts_of stack) ≡ Some left) × (picked_sorts left ≡ Some after) → HasPlaces (part_taken chosen stack)
@@ -111,7 +111,7 @@ all_taken : (o : Option (Part × List Operand)) (left after : Sorts) → LeavesP
 all_taken None left after right is e = tt
 all_taken (Some got) left after right is e = patch_takes got.1 after right (ap patched_sorts is ∙ e)
 
-pub patch_fits : (chosen : Choice Places) (stack : List Operand) (after : Sorts) → AreRightOperands stack → option_and_then patched_sorts (places_taken chosen (sorts_of stack)) ≡ Some after → IfKnown (λ one. PatchFits one stack) chosen
+pub patch_fits : (chosen : Choice Places) (stack : List Operand) (after : Sorts) → AreRightOperands stack → option_and_then patched_sorts (places_taken chosen (sorts_of stack)) ≡ Some after → ChosenFits PatchFits chosen stack
 patch_fits (choice.Known chosen) stack after right e = of_left (then_taken patched_sorts (places_taken (choice.Known chosen) (sorts_of stack)) after e)
   where
     of_left : (left : Sorts) × (places_taken (choice.Known chosen) (sorts_of stack) ≡ Some left) × (patched_sorts left ≡ Some after) → AllTaken (part_taken chosen stack)

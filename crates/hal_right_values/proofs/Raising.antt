@@ -1,6 +1,6 @@
 -- What errors come to holds right values, and so does what is left of an instruction.
-use Rattle.std.specs.Prelude.{ℕ, zero, suc, ◌≡◌, ◌++◌, nat_lt, Bool, true, false, List, [], ◌∷◌, Option, Some, None, slice_get, slice_set, if◌then◌else◌}
-use Rattle.std.proofs.Common.{refl, arith}
+use Rattle.std.specs.Prelude.{ℕ, zero, suc, ◌++◌, nat_lt, Bool, true, false, List, [], ◌∷◌, Option, Some, None, slice_get, slice_set, if◌then◌else◌}
+use Rattle.std.proofs.Common.{arith}
 use Rattle.hal_values.specs.declared.environment.ErrNo.{ErrNo}
 use Rattle.hal_values.specs.declared.environment.Side.{Side}
 use Rattle.hal_values.specs.declared.environment.Side.TheVariants as side
@@ -14,7 +14,7 @@ use Rattle.hal_values.specs.Searching.{Found, BySystem, Ignored, ByStatement, se
 use Rattle.hal_values.specs.Tables.{event_count}
 use Rattle.hal_states.specs.Spots.{Spot, Shared, Own, Nowhere, Holds}
 use Rattle.hal_states.specs.OfKinds.{of_kind}
-use Rattle.hal_states.specs.Modes.{Mode, mode, closed, are_spent, has_bit, noted}
+use Rattle.hal_states.specs.Modes.{Mode, mode, closed, are_spent, has_bit}
 use Rattle.hal_states.specs.Times.{Again, is_again}
 use Rattle.hal_code.specs.Cores.{Setting, Core, core, Frame, Return, with_mode, all_entered, Rest, Goes, Puts, Asks, Tries, Plans, Wait, Then, Tried, Halts, Step, Waits, Moves}
 use Rattle.hal_code.specs.Raising.{stuck, changed_event, sided, cut, turned_in, turned, entered_at, meets, failing, raised_to, raised, put_cell, put, tried_plan, planned, rested, raised_before}

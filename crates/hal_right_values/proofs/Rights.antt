@@ -1,5 +1,5 @@
 -- The values that instructions make of right ones are right.
-use Rattle.std.specs.Prelude.{ℕ, ◌≤◌, ◌≡◌, Bool, true, false, length, List, [], ℤ, pos, ◌+ℤ◌, int_lt, Option, unwrap_or, Result, Ok, Err, IfOk, if◌then◌else◌}
+use Rattle.std.specs.Prelude.{ℕ, ◌≤◌, ◌≡◌, Bool, true, false, length, [], ℤ, pos, ◌+ℤ◌, int_lt, Option, unwrap_or, Result, Ok, Err, IfOk, if◌then◌else◌}
 use Rattle.std.proofs.Common.{refl, arith}
 use Rattle.std.proofs.lemmas.Int.{ints}
 use Rattle.hal_values.specs.declared.environment.ErrNo.{ErrNo}

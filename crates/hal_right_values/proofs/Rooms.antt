@@ -1,5 +1,5 @@
 -- Views lead to cells and places whose numbers are small.
-use Rattle.std.specs.Prelude.{◌≡◌, ℕ, zero, suc, ◌+◌, ◌*◌, ◌<◌, ◌≤◌, ◌==◌, ◌^◌, nat_le, nat_lt, length, map, replicate, Bool, true, false, ◌&&◌, ◌||◌, List, [], ◌∷◌, ◌++◌, ℤ, Option, Some, None, slice_get}
+use Rattle.std.specs.Prelude.{◌≡◌, ℕ, zero, suc, ◌+◌, ◌*◌, ◌<◌, ◌≤◌, ◌^◌, nat_le, nat_lt, length, replicate, Bool, true, ◌&&◌, List, [], ◌∷◌, ◌++◌, ℤ, Option, Some, None, slice_get}
 use Rattle.std.specs.List.{list_all, fold, sum_by}
 use Rattle.std.proofs.Common.{refl, sym, ap, subst, ◌∙◌, arith}
 use Rattle.std.proofs.lemmas.Bool.{leb-true, and_parts}
@@ -21,17 +21,18 @@ use Rattle.hal_code.specs.declared.row.View.{View}
 use Rattle.hal_code.specs.Addressing.{cells_before, spot_of}
 use Rattle.hal_code.specs.Cores.{Operand, Setting, Core}
 use Rattle.hal_code.specs.Images.{expanded, row_count, places_of}
-use Rattle.hal_code.specs.Memory.{shared_memory, own_memory, kind_of_place, target_kinds}
+use Rattle.hal_code.specs.Memory.{lies_from, shared_memory, own_memory, kind_of_place}
 use Rattle.hal_code.specs.Operands.{is_known}
 use Rattle.hal_code.specs.Right.{cell_right, place_right, cell_count, limits_right}
 use Rattle.hal_sound_code.specs.Lying.{LieAt}
 use Rattle.hal_sound_code.proofs.Places.{first_lies}
 use Rattle.hal_sound_code.proofs.Rights.{Whole}
 use Rattle.hal_sound_code.proofs.Taking.{some_is}
+use Rattle.hal_right_values.specs.Finding.{CopiesFit}
 use Rattle.hal_right_values.specs.Spreading.{integer_taken, Spread, spread_by, spread, HasRoom, LeadsWithin, CellFits}
 
 -- runs have as many rows as they say
-expanded_length : {T : Type 0} (runs : List (Run T)) → length (expanded runs) ≡ row_count runs
+pub expanded_length : {T : Type 0} (runs : List (Run T)) → length (expanded runs) ≡ row_count runs
 expanded_length [] = refl
 expanded_length (run ∷ runs) =
     length-append (replicate run.repeat run.row) (expanded runs) ∙ sum (length (replicate run.repeat run.row)) run.repeat (length (expanded runs)) (row_count runs) (length-replicate run.repeat run.row) (expanded_length runs)
@@ -60,7 +61,7 @@ sum_from f start (x ∷ xs) = above (f x) start (fold (λ a y. a + f y) (start +
     above : (n low high : ℕ) → low + n ≤ high → low ≤ high
     above n low high h = omega (arith, h)
 
-sum_at : {T : Type 0} (f : T → ℕ) (start : ℕ) (xs : List T) (n : ℕ) (x : T) → slice_get xs n ≡ Some x → f x ≤ fold (λ a y. a + f y) start xs
+pub sum_at : {T : Type 0} (f : T → ℕ) (start : ℕ) (xs : List T) (n : ℕ) (x : T) → slice_get xs n ≡ Some x → f x ≤ fold (λ a y. a + f y) start xs
 sum_at f start [] n x e = absurd (cc)
 sum_at f start (y ∷ xs) zero x e = subst (λ z. f z ≤ fold (λ a w. a + f w) (start + f y) xs) (let same : y ≡ x = cc in same) (above (f y) start (fold (λ a w. a + f w) (start + f y) xs) (sum_from f (start + f y) xs))
   where
@@ -99,9 +100,37 @@ lies_low s all (Own number) k ks lies =
     small n size some less is low = omega (arith, less, is, low)
 lies_low s all Nowhere k ks lies = tt
 
+-- some kinds that lie in memory end within it
+lies_end : (memory : List (Option Kind)) (number : ℕ) (k : Kind) (ks : List Kind) → lies_from memory number (k ∷ ks) ≡ true → number + suc (length ks) ≤ length memory
+lies_end memory number k [] e = omega (arith, slice_get_within memory number (Some k) (first_lies memory number k [] e).there)
+lies_end memory number k (l ∷ ks) e = one_on number (length (l ∷ ks)) (length memory) (lies_end memory (suc number) l ks (first_lies memory number k (l ∷ ks) e).others)
+  where
+    one_on : (n some size : ℕ) → suc n + some ≤ size → n + suc some ≤ size
+    one_on n some size h = omega (arith, h)
+
+own_low : (s : Setting) → Whole s.image → (number : ℕ) (k : Kind) (ks : List Kind) → lies_from (own_memory (places_of s.image s.process)) number (k ∷ ks) ≡ true → number + suc (length ks) < 2 ^ 32
+own_low s all number k ks lies = small (number + suc (length ks)) (length (own_memory (places_of s.image s.process))) (length (places_of s.image s.process)) (lies_end (own_memory (places_of s.image s.process)) number k ks lies) (length-map (places_of s.image s.process) kind_of_place) (few_places s.image s.process (few_cells s.image all))
+  where
+    small : (n size some : ℕ) → n ≤ size → size ≡ some → some ≤ CELL_LIMIT → n < 2 ^ 32
+    small n size some less is low = omega (arith, less, is, low)
+
 pub room_at : (s : Setting) → Whole s.image → (at : Spot) (kinds : List Kind) → (kinds ≡ [] → ⊥) → LieAt s at kinds → HasRoom at
 room_at s all at [] some lies = absurd (some refl)
 room_at s all at (k ∷ ks) some lies = lies_low s all at k ks lies
+
+-- so their numbers are small, and so are those of own places
+copies_low : (s : Setting) → Whole s.image → (at : Spot) (k : Kind) (ks : List Kind) → LieAt s at (k ∷ ks) → HasRoom (further (suc (length ks)) at)
+copies_low s all (Shared number) k ks lies =
+    small (number + suc (length ks)) (length (shared_memory s.image)) (length (expanded s.image.cells)) (row_count s.image.cells) _ (lies_end (shared_memory s.image) number k ks lies) (length-map (expanded s.image.cells) (λ (cell : Cell). Some cell.kind))
+    (expanded_length s.image.cells) (few_cells s.image all)
+  where
+    small : (n size some cells others : ℕ) → n ≤ size → size ≡ some → some ≡ cells → cells + others ≤ CELL_LIMIT → n < 2 ^ 32
+    small n size some cells others less is also low = omega (arith, less, is, also, low)
+copies_low s all (Own number) k ks lies = own_low s all number k ks lies
+copies_low s all Nowhere k ks lies = tt
+
+pub copies_fit : (s : Setting) → Whole s.image → (at : Spot) (place : ℕ) (k : Kind) (ks : List Kind) → LieAt s at (k ∷ ks) → lies_from (own_memory (places_of s.image s.process)) place (k ∷ ks) ≡ true → CopiesFit (suc (length ks)) at place
+copies_fit s all at place k ks lies own = (copies_low s all at k ks lies, own_low s all place k ks own)
 
 -- what is spread are the cells before those that some subscripts choose
 spread_ints : (ds : List Dimension) (stack : List Operand) (got : Spread) → spread ds stack ≡ Some got → (is : List ℤ) × (got.before ≡ cells_before ds is)

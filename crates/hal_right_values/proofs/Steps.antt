@@ -2,16 +2,14 @@
 use Rattle.std.specs.Prelude.{ℕ, zero, suc, ◌≡◌, Bool, true, false, List, [], ◌∷◌, ◌++◌, take, drop, Option, Some, None, slice_get, slice_set, if◌then◌else◌}
 use Rattle.std.proofs.Common.{refl}
 use Rattle.hal_values.specs.declared.environment.Entry.{Entry}
-use Rattle.hal_values.specs.declared.environment.ErrNo.{ErrNo}
 use Rattle.hal_values.specs.declared.request.Request.{Request}
 use Rattle.hal_values.specs.declared.request.Request.TheVariants as request
 use Rattle.hal_values.specs.declared.tables.Cell.{Cell}
 use Rattle.hal_values.specs.declared.value.Value.{Value}
-use Rattle.hal_values.specs.declared.value.Value.TheVariants as value
 use Rattle.hal_values.specs.Answers.{error}
 use Rattle.hal_values.specs.Kinds.{IsKind}
 use Rattle.hal_states.specs.Spots.{Held, Holds, Refers, kept, held_in}
-use Rattle.hal_states.specs.Modes.{Mode, mode}
+use Rattle.hal_states.specs.Modes.{Mode}
 use Rattle.hal_code.specs.declared.row.Target.{Target}
 use Rattle.hal_code.specs.declared.row.Target.TheVariants as target
 use Rattle.hal_code.specs.declared.row.View.{View}

@@ -1,5 +1,5 @@
 -- Operations and stores take right values of the sorts that they take.
-use Rattle.std.specs.Prelude.{◌≡◌, Bool, true, false, List, [], ◌∷◌, Some, Option}
+use Rattle.std.specs.Prelude.{◌≡◌, true, List, [], ◌∷◌, Some}
 use Rattle.hal_values.specs.declared.value.Kind.{Kind}
 use Rattle.hal_values.specs.declared.value.Kind.TheVariants as kind
 use Rattle.hal_values.specs.declared.value.Value.{Value}
@@ -13,8 +13,8 @@ use Rattle.hal_operations.specs.Operands.{TakesIntegers, IsStorable, Takes, Take
 use Rattle.hal_code.specs.declared.choice.Choice.{Choice}
 use Rattle.hal_code.specs.declared.choice.Choice.TheVariants as choice
 use Rattle.hal_code.specs.Cores.{Operand, Val, At, Area}
-use Rattle.hal_code.specs.Effects.{Sorts, value_taken, kept_sorts, one_sorts, two_sorts}
-use Rattle.hal_code.specs.Sorts.{Sort, I, B, T, one_gives, integers_give, two_give, takes}
+use Rattle.hal_code.specs.Effects.{Sorts, kept_sorts, one_sorts, two_sorts}
+use Rattle.hal_code.specs.Sorts.{Sort, one_gives, integers_give, two_give, takes}
 use Rattle.hal_sound_code.specs.Lying.{sort_of_value, sorts_of}
 use Rattle.hal_sound_code.proofs.Taking.{if_taken, giving_taken}
 use Rattle.hal_sound_values.specs.Right.{IsRight}

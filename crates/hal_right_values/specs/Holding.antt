@@ -1,5 +1,5 @@
 -- What a process holds: right values, wherever it holds any.
-use Rattle.std.specs.Prelude.{◌≡◌, ℕ, List, [], ◌∷◌, Option, Some, None}
+use Rattle.std.specs.Prelude.{◌≡◌, ℕ, suc, length, List, [], ◌∷◌, Option, Some, None}
 use Rattle.hal_values.specs.declared.request.Request.{Request}
 use Rattle.hal_values.specs.declared.request.Request.TheVariants as request
 use Rattle.hal_values.specs.declared.value.Kind.{Kind}
@@ -10,6 +10,7 @@ use Rattle.hal_code.specs.Cores.{Operand, Val, At, Area, Return, Frame, Core, Re
 use Rattle.hal_code.specs.Courses.{Asked}
 use Rattle.hal_sound_values.specs.Right.{IsRight}
 use Rattle.hal_right_values.specs.Ranges.{IsOfBytes}
+use Rattle.hal_right_values.specs.Finding.{CopiesFit}
 
 -- a value on the stack is right, and the address of a cell is that of one of a kind that a declaration can have
 abbrev pub IsRightOperand : Operand → Type 0
@@ -73,13 +74,14 @@ abbrev pub AreKinds : List Kind → Type 0
 AreKinds [] = Unit {0}
 AreKinds (k ∷ kinds) = IsKind k × AreKinds kinds
 
--- what is done with an answer leads to right values: what is told, read or copied is of a kind that a declaration can have
+-- what is done with an answer leads to right values: what is told, read or copied is of a kind that a declaration can have; and the numbers of the cells and places
+-- that are still copied are small
 abbrev pub HoldsAfter : Request → Wait → Type 0
 HoldsAfter r (Then rest) = IsRightRest rest
 HoldsAfter r (Pushes kind) = IsKind kind
 HoldsAfter r Tried = Unit {0}
 HoldsAfter r (Takes target) = (channel : ℕ) × (kind : Kind) × (r ≡ request.Input channel kind) × IsKind kind
-HoldsAfter r (Copies kind kinds from place) = IsKind kind × AreKinds kinds
+HoldsAfter r (Copies kind kinds from place) = IsKind kind × AreKinds kinds × CopiesFit (length kinds) from (suc place)
 HoldsAfter r (Opens groups) = r ≡ request.Update groups
 HoldsAfter r Renews = Unit {0}
 HoldsAfter r (Halts e) = Unit {0}

@@ -1,4 +1,5 @@
 pub mod Ranges
-pub mod Holding
 pub mod Fitting
 pub mod Spreading
+pub mod Finding
+pub mod Holding

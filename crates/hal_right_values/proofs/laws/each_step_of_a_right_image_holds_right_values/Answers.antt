@@ -12,7 +12,7 @@ returns-clause-begins c = λ turns image p right exists. (Right-first (setting_o
 
 pub returns-clause-steps : goal.returns-clause-steps
 returns-clause-steps c = λ turns image p one right exists typed ranged holding.
-    (Right-stepped (setting_of turns image p) (known_of turns image p right) (whole image right) one typed ranged holding).is
+    (Right-stepped (setting_of turns image p) (known_of turns image p right) (whole image right) exists one typed ranged holding).is
 
 pub returns-clause-answers : goal.returns-clause-answers
 returns-clause-answers c = λ turns image p ends r w one a right exists holding after fits.
