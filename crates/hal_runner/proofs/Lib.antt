@@ -1,0 +1,3 @@
+mod Mapping
+mod Cleared
+mod Copied
