@@ -1,3 +1,6 @@
 mod Mapping
 mod Cleared
 mod Copied
+mod Alive
+mod Going
+mod Answers

@@ -1,2 +1,5 @@
 pub mod Fits
 pub mod Copying
+pub mod Replies
+pub mod Ways
+pub mod Runners

@@ -8,7 +8,7 @@ ghost use Rattle.hal_runner.specs.Fits.{ClearFits};
 use hal_machine::{Held, Machine, Setting, Stepped};
 
 /// What an own place holds, once more.
-fn copy_of(one: &Held) -> Held
+pub(crate) fn copy_of(one: &Held) -> Held
     ensures { held_seen result ≡ held_seen one.now }
 {
     match one {

@@ -2,7 +2,14 @@
 #![tactic(auto)]
 
 mod acting;
+mod answering;
 mod choosing;
 mod clearing;
 mod copying;
+mod moving;
 mod naming;
+mod reply;
+mod runner;
+
+pub use reply::Reply;
+pub use runner::Runner;
