@@ -4,3 +4,4 @@ mod Copied
 mod Alive
 mod Going
 mod Answers
+pub mod Sound

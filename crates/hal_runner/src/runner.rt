@@ -1,7 +1,8 @@
 //! A process of an image, from one request to the next.
 
-ghost use Rattle.std.specs.Prelude.{◌≡◌, ◌<◌, ◌-◌, ◌^◌, [], ◌∷◌, ◌++◌, List, map, IfOk, OnOk};
+ghost use Rattle.std.specs.Prelude.{◌≡◌, ◌<◌, ◌-◌, ◌^◌, [], ◌∷◌, ◌++◌, List, slice_get, map, IfOk, OnOk};
 ghost use Rattle.hal_values.specs.Answers.{Answered};
+ghost use Rattle.hal_states.specs.Spots.{held_in};
 ghost use Rattle.hal_code.specs.Courses.{settled, course};
 ghost use Rattle.hal_code.specs.Machine.{after_answer};
 ghost use Rattle.hal_machine.specs.Seen.{core_seen, setting_seen, held_seen, wait_seen};
@@ -11,10 +12,11 @@ ghost use Rattle.hal_runner.specs.Ways.{AnswerFits, ShapesFit, WayFits};
 
 use crate::answering::answered;
 use crate::clearing::copy_of;
+use crate::copying::held_in;
 use crate::moving::settle;
 use crate::reply::Reply;
 use hal_machine::{Held, Machine, Operands, Rest, Setting, Wait};
-use hal_values::{ErrNo, Request};
+use hal_values::{ErrNo, Request, Value};
 use std::alloc::{AllocError, Global};
 
 /// The last error of a process before any.
@@ -74,6 +76,27 @@ impl Runner {
         ensures { result.now ≡ self.now.request }
     {
         &self.request
+    }
+
+    /// The value that an own place of the process holds.
+    pub fn own(&self, number: u32) -> Value
+        ensures { result ≡ held_in (slice_get (core_seen self.now.machine).kept.places number) }
+    {
+        held_in(&self.machine, number as usize)
+    }
+
+    /// What the UPDATE block that was entered last wrote, in order.
+    pub fn writes(&self) -> &[(u16, Value)]
+        ensures { result.now ≡ (core_seen self.now.machine).mode.writes }
+    {
+        self.machine.writes.as_slice()
+    }
+
+    /// How many turns it has left.
+    pub fn turns(&self) -> u32
+        ensures { result ≡ (core_seen self.now.machine).mode.turns }
+    {
+        self.machine.turns
     }
 
     /// The process is answered, and goes on until it asks again. Where memory runs out it can't go on.
