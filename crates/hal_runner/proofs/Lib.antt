@@ -5,3 +5,4 @@ mod Alive
 mod Going
 mod Answers
 pub mod Sound
+mod Expanded

@@ -3,3 +3,4 @@ pub mod Copying
 pub mod Replies
 pub mod Ways
 pub mod Runners
+pub mod Loading

@@ -6,10 +6,12 @@ mod answering;
 mod choosing;
 mod clearing;
 mod copying;
+mod loading;
 mod moving;
 mod naming;
 mod reply;
 mod runner;
 
+pub use loading::Loaded;
 pub use reply::Reply;
 pub use runner::Runner;
