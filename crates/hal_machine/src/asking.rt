@@ -21,14 +21,14 @@ const ITSELF: u8 = 255;
 impl Setting<'_> {
     /// Whether there is a process with this number.
     #[tactic(auto, using(crate::proofs::Mapping::length_map))]
-    pub(crate) fn has_process(&self, process: u8) -> bool
+    pub fn has_process(&self, process: u8) -> bool
         ensures { result ≡ nat_lt process (process_count (setting_seen self.now).tables) }
     {
         usize::from(process) < self.image.processes.as_slice().len()
     }
 
     /// The process that an operand names.
-    pub(crate) fn named(&self, process: u8) -> u8
+    pub fn named(&self, process: u8) -> u8
         ensures { result ≡ named (setting_seen self.now) process }
     {
         if process == ITSELF {
@@ -41,7 +41,7 @@ impl Setting<'_> {
 
 impl Machine {
     /// BEGIN.
-    pub(crate) fn begin(&mut self, setting: &Setting<'_>) -> Stepped
+    pub fn begin(&mut self, setting: &Setting<'_>) -> Stepped
         requires { self.old.at < 2 ^ 64 - 1 }
         ensures { step_seen setting.now.image.now result self.new ≡ cores.Waits request.Begin (cores.Then cores.Goes) (with_line [] (going (suc self.old.at) (stack_seen self.old.operands) (core_seen self.old))) }
     {
@@ -51,7 +51,7 @@ impl Machine {
     }
 
     /// FINISH.
-    pub(crate) fn finish(&self, setting: &Setting<'_>) -> Stepped
+    pub fn finish(&self, setting: &Setting<'_>) -> Stepped
         ensures { step_seen setting.now.image.now result self.now ≡ cores.Waits request.Finish cores.Renews (core_seen self.now) }
     {
         Stepped::Waits(Request::Finish, Wait::Renews)
@@ -67,13 +67,7 @@ impl Machine {
     }
 
     /// INPUT.
-    pub(crate) fn input(
-        &mut self,
-        setting: &Setting<'_>,
-        channel: u8,
-        kind: Kind,
-        target: u64,
-    ) -> Stepped
+    pub fn input(&mut self, setting: &Setting<'_>, channel: u8, kind: Kind, target: u64) -> Stepped
         requires { self.old.at < 2 ^ 64 - 1 }
         ensures { step_seen setting.now.image.now result self.new ≡ cores.Waits (request.Input channel kind) (cores.Takes target) (going (suc self.old.at) (stack_seen self.old.operands) (core_seen self.old)) }
     {
@@ -85,7 +79,7 @@ impl Machine {
     }
 
     /// NOW.
-    pub(crate) fn now(&mut self, setting: &Setting<'_>) -> Stepped
+    pub fn now(&mut self, setting: &Setting<'_>) -> Stepped
         requires { self.old.at < 2 ^ 64 - 1 }
         ensures { step_seen setting.now.image.now result self.new ≡ cores.Waits request.Now (cores.Pushes kind.Double) (going (suc self.old.at) (stack_seen self.old.operands) (core_seen self.old)) }
     {
@@ -93,7 +87,7 @@ impl Machine {
     }
 
     /// CANCEL.
-    pub(crate) fn cancel(&mut self, setting: &Setting<'_>, process: u8) -> Stepped
+    pub fn cancel(&mut self, setting: &Setting<'_>, process: u8) -> Stepped
         requires { self.old.at < 2 ^ 64 - 1 }
         ensures { step_seen setting.now.image.now result self.new ≡ act_named (setting_seen setting.now) request.Cancel process (core_seen self.old) }
     {
@@ -107,7 +101,7 @@ impl Machine {
     }
 
     /// TERMINATE.
-    pub(crate) fn terminate(&mut self, setting: &Setting<'_>, process: u8) -> Stepped
+    pub fn terminate(&mut self, setting: &Setting<'_>, process: u8) -> Stepped
         requires { self.old.at < 2 ^ 64 - 1 }
         ensures { step_seen setting.now.image.now result self.new ≡ act_named (setting_seen setting.now) request.Terminate process (core_seen self.old) }
     {
@@ -121,7 +115,7 @@ impl Machine {
     }
 
     /// SIGNAL.
-    pub(crate) fn signal(&mut self, setting: &Setting<'_>, event: u16) -> Stepped
+    pub fn signal(&mut self, setting: &Setting<'_>, event: u16) -> Stepped
         requires { self.old.at < 2 ^ 64 - 1 }
         ensures { step_seen setting.now.image.now result self.new ≡ act_event_change (setting_seen setting.now) request.Signal event (core_seen self.old) }
     {
@@ -134,7 +128,7 @@ impl Machine {
     }
 
     /// SET.
-    pub(crate) fn set(&mut self, setting: &Setting<'_>, event: u16) -> Stepped
+    pub fn set(&mut self, setting: &Setting<'_>, event: u16) -> Stepped
         requires { self.old.at < 2 ^ 64 - 1 }
         ensures { step_seen setting.now.image.now result self.new ≡ act_event_change (setting_seen setting.now) request.Set event (core_seen self.old) }
     {
@@ -147,7 +141,7 @@ impl Machine {
     }
 
     /// RESET.
-    pub(crate) fn reset(&mut self, setting: &Setting<'_>, event: u16) -> Stepped
+    pub fn reset(&mut self, setting: &Setting<'_>, event: u16) -> Stepped
         requires { self.old.at < 2 ^ 64 - 1 }
         ensures { step_seen setting.now.image.now result self.new ≡ act_event_change (setting_seen setting.now) request.Reset event (core_seen self.old) }
     {
@@ -160,7 +154,7 @@ impl Machine {
     }
 
     /// EVENT.
-    pub(crate) fn event(&mut self, setting: &Setting<'_>, event: u16) -> Result<Stepped, AllocError>
+    pub fn event(&mut self, setting: &Setting<'_>, event: u16) -> Result<Stepped, AllocError>
         requires { self.old.at < 2 ^ 64 - 1 }
         ensures { Does setting.now.image.now result self.new (act_event (setting_seen setting.now) event (core_seen self.old)) }
     {

@@ -27,7 +27,7 @@ const NO_TURN: ErrNo = ErrNo {
 };
 
 /// Which errors an entry is for.
-fn selector_of(group: u8, number: u8) -> Selector
+pub fn selector_of(group: u8, number: u8) -> Selector
     ensures { result ≡ selector_of group number }
 {
     if group == 0 {
@@ -40,7 +40,7 @@ fn selector_of(group: u8, number: u8) -> Selector
 }
 
 /// What is done to the event before an entry takes effect.
-fn side_of(change: EventChange, event: u16) -> Side
+pub fn side_of(change: EventChange, event: u16) -> Side
     ensures { result ≡ side_of change event }
 {
     match change {
@@ -52,7 +52,7 @@ fn side_of(change: EventChange, event: u16) -> Side
 }
 
 /// What an entry does.
-fn act_of(response: Response, side: Side, target: u64) -> Act
+pub fn act_of(response: Response, side: Side, target: u64) -> Act
     ensures { result ≡ act_of response side target }
 {
     match response {
@@ -64,7 +64,7 @@ fn act_of(response: Response, side: Side, target: u64) -> Act
 
 impl Machine {
     /// The next instruction is the one behind this one.
-    pub(crate) fn go_on(&mut self)
+    pub fn go_on(&mut self)
         requires { self.old.at < 2 ^ 64 - 1 }
         ensures { core_seen self.new ≡ going (suc self.old.at) (stack_seen self.old.operands) (core_seen self.old) }
     {
@@ -72,7 +72,7 @@ impl Machine {
     }
 
     /// JUMP.
-    pub(crate) fn jump(&mut self, setting: &Setting<'_>, target: usize) -> Stepped
+    pub fn jump(&mut self, setting: &Setting<'_>, target: usize) -> Stepped
         ensures { step_seen setting.now.image.now result self.new ≡ Moves (going target (stack_seen self.old.operands) (core_seen self.old)) }
     {
         self.at = target;
@@ -89,11 +89,7 @@ impl Machine {
     }
 
     /// JUMPNOT.
-    pub(crate) fn jump_not(
-        &mut self,
-        setting: &Setting<'_>,
-        target: usize,
-    ) -> Result<Stepped, AllocError>
+    pub fn jump_not(&mut self, setting: &Setting<'_>, target: usize) -> Result<Stepped, AllocError>
         requires { self.old.at < 2 ^ 64 - 1 }
         ensures { Does setting.now.image.now result self.new (act_jump_not target (stack_seen self.old.operands) (core_seen self.old)) }
     {
@@ -117,7 +113,7 @@ impl Machine {
     }
 
     /// TURN.
-    pub(crate) fn turn(&mut self, setting: &Setting<'_>, target: usize) -> Stepped
+    pub fn turn(&mut self, setting: &Setting<'_>, target: usize) -> Stepped
         requires { self.old.at < 2 ^ 64 - 1 }
         ensures { step_seen setting.now.image.now result self.new ≡ act_turn (setting_seen setting.now) target (core_seen self.old) }
     {
@@ -139,7 +135,7 @@ impl Machine {
     }
 
     /// RAISE.
-    pub(crate) fn raise(&mut self, setting: &Setting<'_>, group: u8, number: u8) -> Stepped
+    pub fn raise(&mut self, setting: &Setting<'_>, group: u8, number: u8) -> Stepped
         requires { self.old.at < 2 ^ 64 - 1 }
         ensures { step_seen setting.now.image.now result self.new ≡ raised (setting_seen setting.now) (error group number) (going (suc self.old.at) (stack_seen self.old.operands) (core_seen self.old)) }
     {
@@ -165,7 +161,7 @@ impl Machine {
     }
 
     /// ON, of an entry.
-    pub(crate) fn on(
+    pub fn on(
         &mut self,
         setting: &Setting<'_>,
         selector: Selector,
@@ -180,7 +176,7 @@ impl Machine {
     }
 
     /// OFF.
-    pub(crate) fn off(&mut self, setting: &Setting<'_>, group: u8, number: u8) -> Stepped
+    pub fn off(&mut self, setting: &Setting<'_>, group: u8, number: u8) -> Stepped
         requires { self.old.at < 2 ^ 64 - 1 }
         ensures { step_seen setting.now.image.now result self.new ≡ act_off group number (core_seen self.old) }
     {
@@ -190,7 +186,7 @@ impl Machine {
     }
 
     /// The UPDATE block ends.
-    pub(crate) fn close(&mut self, setting: &Setting<'_>) -> Result<Stepped, AllocError>
+    pub fn close(&mut self, setting: &Setting<'_>) -> Result<Stepped, AllocError>
         requires { self.old.at < 2 ^ 64 - 1 }
         ensures { Does setting.now.image.now result self.new (act_close (core_seen self.old).frames (core_seen self.old)) }
     {
@@ -208,11 +204,7 @@ impl Machine {
     }
 
     /// OPEN.
-    pub(crate) fn open_update(
-        &mut self,
-        setting: &Setting<'_>,
-        groups: u16,
-    ) -> Result<Stepped, AllocError>
+    pub fn open_update(&mut self, setting: &Setting<'_>, groups: u16) -> Result<Stepped, AllocError>
         requires { self.old.at < 2 ^ 64 - 1 }
         ensures { Does setting.now.image.now result self.new (act_open groups (core_seen self.old)) }
     {
@@ -256,11 +248,7 @@ impl Machine {
     }
 
     /// CALL of a block.
-    pub(crate) fn call(
-        &mut self,
-        setting: &Setting<'_>,
-        block: &Block,
-    ) -> Result<Stepped, AllocError>
+    pub fn call(&mut self, setting: &Setting<'_>, block: &Block) -> Result<Stepped, AllocError>
         requires { self.old.at < 2 ^ 64 - 1 }
         ensures { Does setting.now.image.now result self.new (called (setting_seen setting.now) block.now (core_seen self.old)) }
     {
@@ -356,7 +344,7 @@ impl Machine {
     }
 
     /// RETURN.
-    pub(crate) fn return_back(&mut self, setting: &Setting<'_>) -> Result<Stepped, AllocError>
+    pub fn return_back(&mut self, setting: &Setting<'_>) -> Result<Stepped, AllocError>
         ensures { Does setting.now.image.now result self.new (act_return (core_seen self.old).frames (core_seen self.old)) }
     {
         let Some(frame) = self.frames.pop() else {

@@ -25,7 +25,7 @@ const NO_ERROR: ErrNo = ErrNo {
 impl Setting<'_> {
     /// Whether there is an event with this number.
     #[tactic(auto, using(crate::proofs::Mapping::length_map))]
-    pub(crate) fn has_event(&self, event: u16) -> bool
+    pub fn has_event(&self, event: u16) -> bool
         ensures { result ≡ nat_lt event (event_count (setting_seen self.now).tables) }
     {
         usize::from(event)
@@ -35,7 +35,7 @@ impl Setting<'_> {
 
 impl Machine {
     /// No instruction is there that fits the operands.
-    pub(crate) fn stuck(&self, setting: &Setting<'_>) -> Stepped
+    pub fn stuck(&self, setting: &Setting<'_>) -> Stepped
         ensures { step_seen setting.now.image.now result self.now ≡ raising.stuck (core_seen self.now) }
     {
         Stepped::Waits(Request::Stop(NO_ERROR), Wait::Halts(NO_ERROR))
@@ -128,7 +128,7 @@ impl Machine {
     }
 
     /// An error arises.
-    pub(crate) fn raised(&mut self, setting: &Setting<'_>, error: ErrNo) -> Stepped
+    pub fn raised(&mut self, setting: &Setting<'_>, error: ErrNo) -> Stepped
         ensures { step_seen setting.now.image.now result self.new ≡ raising.raised (setting_seen setting.now) error (core_seen self.old) }
     {
         let found = self.search(error);

@@ -20,6 +20,9 @@ mod times;
 mod values;
 mod viewing;
 
+pub use controlling::{act_of, selector_of, side_of};
 pub use machine::{Frame, Held, Machine, Return, Setting};
 pub use operands::{Operands, Place, Slot};
-pub use step::{Rest, Stepped, Wait};
+pub use scheduling::Written;
+pub use step::{Again, Rest, Stepped, Wait};
+pub use values::{has_bit, nothing, of_kind};

@@ -62,7 +62,7 @@ impl Machine {
 
     /// ITEM.
     #[tactic(auto, using(crate::proofs::Stuck::no_item))]
-    pub(crate) fn item(&mut self, setting: &Setting<'_>) -> Result<Stepped, AllocError>
+    pub fn item(&mut self, setting: &Setting<'_>) -> Result<Stepped, AllocError>
         requires at { self.old.at < 2 ^ 64 - 1 }
         requires fits { OneFits (choice.Known op1.Character) (stack_seen self.old.operands) }
         ensures { Does setting.now.image.now result self.new (act_item (stack_seen self.old.operands) (core_seen self.old)) }
@@ -88,11 +88,7 @@ impl Machine {
     }
 
     /// PRINT.
-    pub(crate) fn print(
-        &mut self,
-        setting: &Setting<'_>,
-        channel: u8,
-    ) -> Result<Stepped, AllocError>
+    pub fn print(&mut self, setting: &Setting<'_>, channel: u8) -> Result<Stepped, AllocError>
         requires { self.old.at < 2 ^ 64 - 1 }
         ensures { Does setting.now.image.now result self.new (act_print (setting_seen setting.now) channel (core_seen self.old)) }
     {

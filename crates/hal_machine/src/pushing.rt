@@ -14,7 +14,7 @@ use std::alloc::AllocError;
 
 impl Machine {
     /// INT.
-    pub(crate) fn int(&mut self, setting: &Setting<'_>, number: i32) -> Result<Stepped, AllocError>
+    pub fn int(&mut self, setting: &Setting<'_>, number: i32) -> Result<Stepped, AllocError>
         requires { self.old.at < 2 ^ 64 - 1 }
         ensures { Does setting.now.image.now result self.new (pushed (value.Int number) (stack_seen self.old.operands) (core_seen self.old)) }
     {
@@ -24,12 +24,7 @@ impl Machine {
     }
 
     /// BITS.
-    pub(crate) fn bits(
-        &mut self,
-        setting: &Setting<'_>,
-        len: u8,
-        word: u32,
-    ) -> Result<Stepped, AllocError>
+    pub fn bits(&mut self, setting: &Setting<'_>, len: u8, word: u32) -> Result<Stepped, AllocError>
         requires { self.old.at < 2 ^ 64 - 1 }
         ensures { Does setting.now.image.now result self.new (pushed (value.Bits len word) (stack_seen self.old.operands) (core_seen self.old)) }
     {
@@ -39,7 +34,7 @@ impl Machine {
     }
 
     /// TEXT.
-    pub(crate) fn text(&mut self, setting: &Setting<'_>, text: &Text) -> Result<Stepped, AllocError>
+    pub fn text(&mut self, setting: &Setting<'_>, text: &Text) -> Result<Stepped, AllocError>
         requires { self.old.at < 2 ^ 64 - 1 }
         ensures { Does setting.now.image.now result self.new (pushed (value.Text text.now) (stack_seen self.old.operands) (core_seen self.old)) }
     {
@@ -49,7 +44,7 @@ impl Machine {
     }
 
     /// ERRGRP.
-    pub(crate) fn error_group(&mut self, setting: &Setting<'_>) -> Result<Stepped, AllocError>
+    pub fn error_group(&mut self, setting: &Setting<'_>) -> Result<Stepped, AllocError>
         requires { self.old.at < 2 ^ 64 - 1 }
         ensures { Does setting.now.image.now result self.new (pushed (value.Int (pos self.old.last.group)) (stack_seen self.old.operands) (core_seen self.old)) }
     {
@@ -57,7 +52,7 @@ impl Machine {
     }
 
     /// ERRNUM.
-    pub(crate) fn error_number(&mut self, setting: &Setting<'_>) -> Result<Stepped, AllocError>
+    pub fn error_number(&mut self, setting: &Setting<'_>) -> Result<Stepped, AllocError>
         requires { self.old.at < 2 ^ 64 - 1 }
         ensures { Does setting.now.image.now result self.new (pushed (value.Int (pos self.old.last.number)) (stack_seen self.old.operands) (core_seen self.old)) }
     {
@@ -65,7 +60,7 @@ impl Machine {
     }
 
     /// DROP.
-    pub(crate) fn drop_top(&mut self, setting: &Setting<'_>) -> Result<Stepped, AllocError>
+    pub fn drop_top(&mut self, setting: &Setting<'_>) -> Result<Stepped, AllocError>
         requires { self.old.at < 2 ^ 64 - 1 }
         ensures { Does setting.now.image.now result self.new (act_drop (stack_seen self.old.operands) (core_seen self.old)) }
     {

@@ -40,7 +40,7 @@ fn is_again(again: Again) -> bool
 impl Machine {
     /// An own place gets a value.
     #[tactic(auto, using(crate::proofs::Mapping::map_set, crate::proofs::Mapping::set_past, crate::proofs::Mapping::length_map))]
-    pub(crate) fn put_own(&mut self, number: usize, one: Value)
+    pub fn put_own(&mut self, number: usize, one: Value)
         ensures { core_seen self.new ≡ with_kept (kept (slice_set (core_seen self.old).kept.places number (Holds one)) self.old.last) (core_seen self.old) }
     {
         if number < self.places.len() {
@@ -88,7 +88,7 @@ impl Machine {
     }
 
     /// A place gets a value.
-    pub(crate) fn put(
+    pub fn put(
         &mut self,
         setting: &Setting<'_>,
         place: Place,
@@ -110,7 +110,7 @@ impl Machine {
     }
 
     /// An error arises before something is asked to which an error may be the answer.
-    pub(crate) fn raised_before_trying(
+    pub fn raised_before_trying(
         &mut self,
         setting: &Setting<'_>,
         error: ErrNo,
@@ -131,7 +131,7 @@ impl Machine {
     }
 
     /// The cycle of a plan is tested, and then it is asked for.
-    pub(crate) fn planned(&mut self, setting: &Setting<'_>, plan: Plan, again: Again) -> Stepped
+    pub fn planned(&mut self, setting: &Setting<'_>, plan: Plan, again: Again) -> Stepped
         ensures { step_seen setting.now.image.now result self.new ≡ raising.planned (setting_seen setting.now) plan (again_seen again) (core_seen self.old) }
     {
         if is_again(again) {
@@ -142,11 +142,7 @@ impl Machine {
     }
 
     /// The rest of an instruction.
-    pub(crate) fn rested(
-        &mut self,
-        setting: &Setting<'_>,
-        rest: Rest,
-    ) -> Result<Stepped, AllocError>
+    pub fn rested(&mut self, setting: &Setting<'_>, rest: Rest) -> Result<Stepped, AllocError>
         ensures { Does setting.now.image.now result self.new (raising.rested (setting_seen setting.now) (rest_seen rest) (core_seen self.old)) }
     {
         match rest {
@@ -174,7 +170,7 @@ impl Machine {
     }
 
     /// An error arises, and where it is ignored, this is left of the instruction.
-    pub(crate) fn raised_before(
+    pub fn raised_before(
         &mut self,
         setting: &Setting<'_>,
         error: ErrNo,

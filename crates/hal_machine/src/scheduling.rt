@@ -25,12 +25,12 @@ const WRONG_PRIORITY: ErrNo = ErrNo {
 
 /// What SCHEDULE says of a process.
 #[derive(Clone, Copy)]
-pub(crate) struct Written {
-    pub(crate) start: Start,
-    pub(crate) priority: Choice<bool>,
-    pub(crate) dependent: Choice<bool>,
-    pub(crate) round: Round,
-    pub(crate) limit: Limit,
+pub struct Written {
+    pub start: Start,
+    pub priority: Choice<bool>,
+    pub dependent: Choice<bool>,
+    pub round: Round,
+    pub limit: Limit,
 }
 
 impl Machine {
@@ -44,7 +44,7 @@ impl Machine {
     }
 
     /// WAIT.
-    pub(crate) fn wait(&mut self, setting: &Setting<'_>, delay: Delay) -> Stepped
+    pub fn wait(&mut self, setting: &Setting<'_>, delay: Delay) -> Stepped
         requires { self.old.at < 2 ^ 64 - 1 }
         ensures { step_seen setting.now.image.now result self.new ≡ asking.act_wait (setting_seen setting.now) delay (core_seen self.old) }
     {
@@ -86,7 +86,7 @@ impl Machine {
 
     /// PRIORITY.
     #[tactic(auto, using(crate::proofs::TakenTops::priority_by_top))]
-    pub(crate) fn priority(&mut self, setting: &Setting<'_>, process: u8) -> Stepped
+    pub fn priority(&mut self, setting: &Setting<'_>, process: u8) -> Stepped
         requires { self.old.at < 2 ^ 64 - 1 }
         ensures { step_seen setting.now.image.now result self.new ≡ asking.act_priority (setting_seen setting.now) process (stack_seen self.old.operands) (core_seen self.old) }
     {
@@ -231,7 +231,7 @@ impl Machine {
     }
 
     /// SCHEDULE.
-    pub(crate) fn schedule(
+    pub fn schedule(
         &mut self,
         setting: &Setting<'_>,
         process: u8,

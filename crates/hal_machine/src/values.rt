@@ -7,7 +7,7 @@ ghost use Rattle.hal_states.specs.Modes.{has_bit};
 use hal_values::{Kind, Text, Value};
 
 /// Zero, zeros or the empty text.
-pub(crate) fn nothing(kind: Kind) -> Value
+pub fn nothing(kind: Kind) -> Value
     ensures { result ≡ nothing kind }
 {
     match kind {
@@ -48,7 +48,7 @@ fn is_of(kind: Kind, value: &Value) -> bool
 }
 
 /// The value, where it is of the kind.
-pub(crate) fn of_kind(kind: Kind, value: Value) -> Value
+pub fn of_kind(kind: Kind, value: Value) -> Value
     ensures { result ≡ of_kind kind value }
 {
     if is_of(kind, &value) {
@@ -59,7 +59,7 @@ pub(crate) fn of_kind(kind: Kind, value: Value) -> Value
 }
 
 /// Whether a group is one of these.
-pub(crate) fn has_bit(groups: u16, group: u8) -> bool
+pub fn has_bit(groups: u16, group: u8) -> bool
     ensures { result ≡ has_bit groups group }
 {
     group < 16 && (groups >> group) % 2 == 1

@@ -194,7 +194,7 @@ impl Machine {
     }
 
     /// CELL of a view.
-    pub(crate) fn cell(&mut self, setting: &Setting<'_>, view: &View) -> Result<Stepped, AllocError>
+    pub fn cell(&mut self, setting: &Setting<'_>, view: &View) -> Result<Stepped, AllocError>
         requires next { self.old.at < 2 ^ 64 - 1 }
         requires room { CellFits view.now (core_seen self.old) }
         ensures { Does setting.now.image.now result self.new (cell_viewed (setting_seen setting.now) view.now (core_seen self.old)) }
@@ -206,11 +206,7 @@ impl Machine {
     }
 
     /// WHOLE of a view.
-    pub(crate) fn whole(
-        &mut self,
-        setting: &Setting<'_>,
-        view: &View,
-    ) -> Result<Stepped, AllocError>
+    pub fn whole(&mut self, setting: &Setting<'_>, view: &View) -> Result<Stepped, AllocError>
         requires next { self.old.at < 2 ^ 64 - 1 }
         requires room { CellFits view.now (core_seen self.old) }
         ensures { Does setting.now.image.now result self.new (area_viewed (setting_seen setting.now) view.now (core_seen self.old)) }

@@ -1,0 +1,8 @@
+mod Mapping
+mod Cleared
+mod Copied
+mod Alive
+mod Going
+mod Answers
+pub mod Sound
+mod Expanded

@@ -1,0 +1,6 @@
+pub mod Fits
+pub mod Copying
+pub mod Replies
+pub mod Ways
+pub mod Runners
+pub mod Loading

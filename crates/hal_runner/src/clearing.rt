@@ -1,0 +1,47 @@
+//! Own places that hold again what they held at first.
+
+ghost use Rattle.std.specs.Prelude.{◌≡◌, ◌≤◌, ◌<◌, ◌+◌, ◌-◌, ◌^◌, length, map};
+ghost use Rattle.hal_code.specs.Addressing.{cleared, act_clear};
+ghost use Rattle.hal_machine.specs.Seen.{held_seen, core_seen, setting_seen, step_seen};
+ghost use Rattle.hal_runner.specs.Fits.{ClearFits};
+
+use hal_machine::{Held, Machine, Setting, Stepped};
+
+/// What an own place holds, once more.
+pub(crate) fn copy_of(one: &Held) -> Held
+    ensures { held_seen result ≡ held_seen one.now }
+{
+    match one {
+        Held::Value(value) => Held::Value(value.copy()),
+        Held::Place(place) => Held::Place(*place),
+    }
+}
+
+/// So many places from this one on hold what these do.
+#[tactic(auto, using(crate::proofs::Mapping::map_set, crate::proofs::Mapping::map_get, crate::proofs::Cleared::none_cleared))]
+fn clear_from(places: &mut Vec<Held>, firsts: &[Held], place: usize, count: usize)
+    requires firsts { place + count ≤ length firsts.now }
+    requires places { place + count ≤ length places.old.items }
+    ensures { map held_seen places.new.items ≡ cleared (map held_seen firsts.now) place count (map held_seen places.old.items) }
+{
+    for number in place..place + count {
+        places[number] = copy_of(&firsts[number]);
+    }
+}
+
+/// CLEAR.
+#[tactic(auto, using(crate::proofs::Mapping::length_map))]
+pub(crate) fn clear(machine: &mut Machine, setting: &Setting<'_>, place: u32, count: u32) -> Stepped
+    requires at { machine.old.at < 2 ^ 64 - 1 }
+    requires fits { ClearFits (setting_seen setting.now) place count (core_seen machine.old) }
+    ensures { step_seen setting.now.image.now result machine.new ≡ act_clear (setting_seen setting.now) place count (core_seen machine.old) }
+{
+    clear_from(
+        &mut machine.places,
+        setting.firsts,
+        place as usize,
+        count as usize,
+    );
+    machine.go_on();
+    Stepped::Moves
+}

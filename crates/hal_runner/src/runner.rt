@@ -1,0 +1,117 @@
+//! A process of an image, from one request to the next.
+
+ghost use Rattle.std.specs.Prelude.{◌≡◌, ◌<◌, ◌-◌, ◌^◌, [], ◌∷◌, ◌++◌, List, slice_get, map, IfOk, OnOk};
+ghost use Rattle.hal_values.specs.Answers.{Answered};
+ghost use Rattle.hal_states.specs.Spots.{held_in};
+ghost use Rattle.hal_code.specs.Courses.{settled, course};
+ghost use Rattle.hal_code.specs.Machine.{after_answer};
+ghost use Rattle.hal_machine.specs.Seen.{core_seen, setting_seen, held_seen, wait_seen};
+ghost use Rattle.hal_runner.specs.Replies.{reply_seen};
+ghost use Rattle.hal_runner.specs.Runners.{asked_seen};
+ghost use Rattle.hal_runner.specs.Ways.{AnswerFits, ShapesFit, WayFits};
+
+use crate::answering::answered;
+use crate::clearing::copy_of;
+use crate::copying::held_in;
+use crate::moving::settle;
+use crate::reply::Reply;
+use hal_machine::{Held, Machine, Operands, Rest, Setting, Wait};
+use hal_values::{ErrNo, Request, Value};
+use std::alloc::{AllocError, Global};
+
+/// The last error of a process before any.
+const NO_ERROR: ErrNo = ErrNo {
+    group: 0,
+    number: 0,
+};
+
+/// A process that waits for an answer.
+#[derive(Drop)]
+pub struct Runner {
+    machine: Machine,
+    request: Request,
+    wait: Wait,
+}
+
+/// What own places hold at first, once more.
+fn copies_of(alloc: Global, firsts: &[Held]) -> Result<Vec<Held>, AllocError>
+    ensures { IfOk result (λ places. map held_seen places.items ≡ map held_seen firsts.now) }
+{
+    let mut places = Vec::new(alloc);
+    for first in firsts {
+        places.push(copy_of(first))?;
+    }
+    Ok(places)
+}
+
+impl Runner {
+    /// A process before any answer.
+    pub fn start(setting: &Setting<'_>) -> Result<Runner, AllocError>
+        requires { setting.now.begin < 2 ^ 64 - 1 }
+        ensures { IfOk result (λ runner. asked_seen setting.now.image.now runner ≡ course (setting_seen setting.now) []) }
+    {
+        let places = copies_of(setting.alloc, setting.firsts)?;
+        let machine = Machine {
+            at: setting.begin + 1,
+            operands: Operands::new(setting.alloc),
+            line: Vec::new(setting.alloc),
+            entries: Vec::new(setting.alloc),
+            frames: Vec::new(setting.alloc),
+            places,
+            last: NO_ERROR,
+            groups: None,
+            store: Vec::new(setting.alloc),
+            writes: Vec::new(setting.alloc),
+            turns: 0,
+        };
+        Ok(Runner {
+            machine,
+            request: Request::Begin,
+            wait: Wait::Then(Rest::Nothing),
+        })
+    }
+
+    /// What the process asks.
+    pub fn request(&self) -> &Request
+        ensures { result.now ≡ self.now.request }
+    {
+        &self.request
+    }
+
+    /// The value that an own place of the process holds.
+    pub fn own(&self, number: u32) -> Value
+        ensures { result ≡ held_in (slice_get (core_seen self.now.machine).kept.places number) }
+    {
+        held_in(&self.machine, number as usize)
+    }
+
+    /// What the UPDATE block that was entered last wrote, in order.
+    pub fn writes(&self) -> &[(u16, Value)]
+        ensures { result.now ≡ (core_seen self.now.machine).mode.writes }
+    {
+        self.machine.writes.as_slice()
+    }
+
+    /// How many turns it has left.
+    pub fn turns(&self) -> u32
+        ensures { result ≡ (core_seen self.now.machine).mode.turns }
+    {
+        self.machine.turns
+    }
+
+    /// The process is answered, and goes on until it asks again. Where memory runs out it can't go on.
+    pub fn answer(&mut self, setting: &Setting<'_>, reply: Reply) -> Result<(), AllocError>
+        requires begin { setting.now.begin < 2 ^ 64 - 1 }
+        requires shapes { ShapesFit setting.now.image.now }
+        requires fits { AnswerFits (asked_seen setting.now.image.now self.old).wait }
+        requires way { WayFits (setting_seen setting.now) (after_answer (setting_seen setting.now) (asked_seen setting.now.image.now self.old).wait (reply_seen reply) (asked_seen setting.now.image.now self.old).core) }
+        ensures { (answers : List Answered) → asked_seen setting.now.image.now self.old ≡ course (setting_seen setting.now) answers → OnOk result (asked_seen setting.now.image.now self.new ≡ course (setting_seen setting.now) (answers ++ (reply_seen reply ∷ []))) }
+    {
+        let wait = std::mem::replace(&mut self.wait, Wait::Tried);
+        let step = answered(&mut self.machine, setting, wait, reply)?;
+        let (request, wait) = settle(&mut self.machine, setting, step)?;
+        self.request = request;
+        self.wait = wait;
+        Ok(())
+    }
+}
