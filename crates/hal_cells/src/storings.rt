@@ -5,7 +5,6 @@ ghost use Rattle.hal_tree.specs.SeenDeclarations.{seen_attribute, seen_declared}
 ghost use Rattle.hal_phrases.specs.Phrases.{OfItem};
 ghost use Rattle.hal_phrases.specs.SeenPhrases.{seen_node, seen_phrase};
 ghost use Rattle.hal_names.specs.SeenNames.{seen_names};
-ghost use Rattle.hal_constants.specs.Naming as naming;
 ghost use Rattle.hal_constants.specs.SeenKnown.{seen_known};
 ghost use Rattle.hal_meaning.specs.Places as places;
 ghost use Rattle.hal_cells.specs.Groups as groups;
@@ -14,22 +13,13 @@ ghost use Rattle.hal_cells.specs.SeenStoring.{seen_storing};
 use crate::groups::group_of;
 use crate::sharing::home_shares;
 use crate::storing::Storing;
-use hal_constants::Known;
-use hal_kinds::{constant_of, is_event_type, is_marked, is_structure_type, sizes_of};
+use hal_constants::{Known, is_value_item};
+use hal_kinds::{is_event_type, is_marked};
 use hal_names::{Key, Names, Space};
 use hal_phrases::{Node, Phrase};
 use hal_scope::type_of;
 use hal_tree::{Attribute, Declared, Mark};
 use hal_words::Name;
-
-/// Whether a name is a constant that is its value: it has no array and is no structure.
-#[tactic(auto, using(hal_kinds::proofs::Options::some_mapped))]
-fn is_value_item(common: &[Attribute], item: &Declared) -> bool
-    ensures { result ≡ naming.is_value_item (map seen_attribute common.now) (seen_declared item.now) }
-{
-    constant_of(common, item).is_some()
-        && (!sizes_of(common, item).is_some() && !is_structure_type(type_of(common, item)))
-}
 
 /// Whether this is an ASSIGN parameter, where it is a parameter.
 fn parameter_at(node: Node<'_>) -> Option<bool>

@@ -24,9 +24,9 @@ use hal_tree::{
 };
 use hal_values::Value;
 
-/// The operation of a sign between two terms.
+/// The operation of a sign between two terms (language document, Expressions).
 #[tactic(auto, unfolding(crate::specs::Constants::operation_of_sign))]
-fn operation_of_sign(sign: Sign) -> Op2
+pub fn operation_of_sign(sign: Sign) -> Op2
     ensures { result ≡ constants.operation_of_sign (seen_sign sign) }
 {
     match sign {
@@ -47,9 +47,9 @@ pub(crate) fn signed(sign: Option<Sign>, term: Constant) -> Constant
     }
 }
 
-/// The operation of a conversion.
+/// The operation of a conversion (language document, Expressions).
 #[tactic(auto, unfolding(crate::specs::Constants::operation_of_conversion))]
-fn operation_of_conversion(conversion: Conversion) -> Op1
+pub fn operation_of_conversion(conversion: Conversion) -> Op1
     ensures { result ≡ constants.operation_of_conversion (seen_conversion conversion) }
 {
     match conversion {

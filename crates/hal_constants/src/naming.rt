@@ -22,9 +22,9 @@ use hal_tree::{Attribute, Declared, Identifier, LiteralValue};
 use hal_values::{Text, Value};
 use hal_words::{Literal, Name};
 
-/// Whether a name is a constant that is its value: it has no array and is no structure.
+/// Whether a name is a constant that is its value: it has no array and is no structure (language document, Constant expressions).
 #[tactic(auto, using(hal_kinds::proofs::Options::some_mapped))]
-pub(crate) fn is_value_item(common: &[Attribute], item: &Declared) -> bool
+pub fn is_value_item(common: &[Attribute], item: &Declared) -> bool
     ensures { result ≡ naming.is_value_item (map seen_attribute common.now) (seen_declared item.now) }
 {
     constant_of(common, item).is_some()
@@ -132,9 +132,9 @@ pub(crate) fn literal_constant(literal: LiteralValue) -> Constant
     }
 }
 
-/// What a built-in function computes.
+/// What a built-in function computes (language document, Expressions).
 #[tactic(auto, unfolding(crate::specs::Naming::operation_of))]
-fn operation_of(builtin: Builtin) -> Operation
+pub fn operation_of(builtin: Builtin) -> Operation
     ensures { result ≡ naming.operation_of builtin }
 {
     match builtin {

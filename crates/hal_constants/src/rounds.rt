@@ -84,6 +84,17 @@ impl Known {
         }
     }
 
+    /// The value of the constant that the phrase with this number declares, where it is known (language document, Constant expressions).
+    pub fn value(&self, number: usize) -> Option<Value>
+        ensures { result ≡ naming.value_at (seen_known self.now) number }
+    {
+        let slot = self.values.get(number)?;
+        match slot {
+            None => None,
+            Some(value) => Some(value.copy()),
+        }
+    }
+
     /// The constant that the phrase with this number declares.
     #[tactic(auto, unfolding(crate::specs::Naming::constant_known))]
     pub(crate) fn constant(&self, number: usize) -> Constant

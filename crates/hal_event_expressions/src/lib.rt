@@ -6,6 +6,6 @@ mod postfix;
 mod stated;
 mod statements;
 
-pub use numbers::event_of;
+pub use numbers::{event_named, event_of};
 pub use stated::Stated;
 pub use statements::stated_of;

@@ -32,8 +32,8 @@ pub fn event_of(processes: &[usize], declared: &[usize], number: usize) -> Optio
     Some((processes.len() + place) as u16)
 }
 
-/// The number of the event that a name means in a block, 0 where it means none.
-pub(crate) fn event_named(
+/// The number of the event that a name means in a block, 0 where it means none (language document, Events).
+pub fn event_named(
     names: &Names<'_>,
     processes: &[usize],
     declared: &[usize],

@@ -1,7 +1,7 @@
 -- The code of statements goes on: each jump leads forward, or back to the TURN of a loop that is left behind the jump.
-use Rattle.std.specs.Prelude.{◌≡◌, ◌≤◌, ◌<◌, ℕ, suc, ◌+◌, Bool, true, false, List, [], ◌∷◌, ◌++◌, length, Option, Some, None, slice_get, Result, Ok, Err, if◌then◌else◌}
+use Rattle.std.specs.Prelude.{◌≡◌, ◌≤◌, ◌<◌, ℕ, suc, ◌+◌, Bool, true, false, List, [], ◌∷◌, ◌++◌, length, Option, Some, None, Ok, Err, if◌then◌else◌}
 use Rattle.std.specs.Option.{option_map}
-use Rattle.std.proofs.Common.{refl, sym, ap, subst, ◌∙◌, inl, inr, arith}
+use Rattle.std.proofs.Common.{refl, sym, inl, inr, arith}
 use Rattle.hal_base.specs.declared.refusal.Place.{Place}
 use Rattle.hal_grammar.specs.Leaves.{Naming}
 use Rattle.hal_grammar.specs.Declarations.{IntegerKind, BooleanKind, EventKind, BitKind, CharacterKind, StructureKind}
@@ -24,7 +24,7 @@ use Rattle.hal_code.specs.declared.operand.Time.{Time}
 use Rattle.hal_code.specs.Forward.{GoesOn}
 use Rattle.hal_agreement.specs.Codes.{Code}
 use Rattle.hal_agreement.specs.PlacedExpressions.{Has, One}
-use Rattle.hal_agreement.specs.PlacedStatements.{Leaving, ToFinish, ByReturn, ByResult, NoReturn, Opened, Exits, exit_of, again_of, opened, within_group, of_block, KeptAt, ReceiverAt, ReceiversAt, ItemsAt, FirstTestAt, TestAt, ReturnAt, ResultBy, ResultAt, CalledAt, ReadsAt, changes, PauseAt, EventAt, EachAt, NamedOrOwnAt, BasicAt}
+use Rattle.hal_agreement.specs.PlacedStatements.{Leaving, ToFinish, ByReturn, ByResult, NoReturn, Exits, exit_of, again_of, opened, within_group, of_block, KeptAt, ReceiverAt, ReceiversAt, ItemsAt, FirstTestAt, TestAt, ReturnAt, ResultBy, ResultAt, CalledAt, ReadsAt, changes, PauseAt, EventAt, EachAt, NamedOrOwnAt, BasicAt}
 use Rattle.hal_agreement.specs.Sites.{Site, here_at}
 use Rattle.hal_gen_expr.specs.Emitting.{Emitted, onwards, emit}
 use Rattle.hal_gen_expr.specs.ExpressionCode.{emit_one, expression_code}
@@ -33,10 +33,9 @@ use Rattle.hal_gen_expr.specs.Standing.{Begins, IsNumbered, Placed}
 use Rattle.hal_gen_expr.proofs.Expressed.{ok_is, expression_at}
 use Rattle.hal_gen_expr.proofs.Forwarding.{Goes, none_goes, one_goes, joined_goes, first_goes, call_goes, expression_goes, arguments_go}
 use Rattle.hal_gen_expr.proofs.Growing.{length_of_one_more, weaker, has_there, one_placed, none_placed, first_placed}
-use Rattle.hal_gen.specs.Leaves.{return_of}
-use Rattle.hal_gen.specs.Sizes.{jump_size, alternative_size, statement_size, basic_size, group_size, statements_size, test_size}
+use Rattle.hal_gen.specs.Sizes.{jump_size, statement_size, basic_size, group_size, statements_size}
 use Rattle.hal_gen.specs.StatementCode.{first_test_code, test_code, statement_code, basic_code, alternative_code, group_code, statements_code}
-use Rattle.hal_gen.proofs.Measured.{later, first_test_longer, test_longer, statement_longer, basic_longer, alternative_longer, group_longer, statements_longer}
+use Rattle.hal_gen.proofs.Measured.{first_test_longer, test_longer, basic_longer, alternative_longer, group_longer, statements_longer}
 use Rattle.hal_gen.proofs.Simple.{first_test_at, test_at}
 use Rattle.hal_gen.proofs.Stated.{opens_at, basic_at}
 

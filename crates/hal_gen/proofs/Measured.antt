@@ -1,5 +1,5 @@
 -- The code of a statement has as many instructions as its size says.
-use Rattle.std.specs.Prelude.{◌≡◌, ℕ, suc, ◌+◌, nat_lt, Bool, true, false, if◌then◌else◌, List, [], ◌∷◌, ◌++◌, length, Option, Some, None, Ok, Err, unwrap_or}
+use Rattle.std.specs.Prelude.{◌≡◌, ℕ, suc, ◌+◌, nat_lt, Bool, true, false, if◌then◌else◌, List, [], ◌∷◌, ◌++◌, length, Option, Some, None, Ok, Err}
 use Rattle.std.specs.Option.{option_map, option_and_then}
 use Rattle.std.proofs.Common.{refl, ap, subst, arith}
 use Rattle.hal_base.specs.declared.refusal.Place.{Place}
@@ -21,12 +21,13 @@ use Rattle.hal_code.specs.declared.operand.Time as operand-time
 use Rattle.hal_code.specs.declared.operand.Time.TheVariants as time
 use Rattle.hal_agreement.specs.PlacedStatements.{ToFinish, ByReturn, ByResult, NoReturn, Leaving, Exits, exit_of, again_of, opened, within_group, of_block}
 use Rattle.hal_agreement.specs.Sites.{Site, here_at}
-use Rattle.hal_gen_expr.specs.Emitting.{Emitted, onwards, emit, length_of}
-use Rattle.hal_gen_expr.specs.ExpressionCode.{emit_one, expression_code, arguments_code}
-use Rattle.hal_gen_expr.specs.Leaves.{element_of, call_of}
+use Rattle.hal_gen_expr.specs.Emitting.{Emitted, onwards, emit}
+use Rattle.hal_gen_expr.specs.ExpressionCode.{emit_one, expression_code}
+use Rattle.hal_gen_expr.specs.Leaves.{element_of}
 use Rattle.hal_gen_expr.specs.Numbering.{Numbering, below}
-use Rattle.hal_gen_expr.specs.Referents.{Referent, DataOf, ConstantOf, EventOf, BlockOf, BuiltinOf, Unmeant, referent}
-use Rattle.hal_gen_expr.proofs.Appending.{expression_grows, arguments_grow}
+use Rattle.hal_referents.specs.Referents.{Referent, DataOf, ConstantOf, EventOf, BlockOf, BuiltinOf, Unmeant}
+use Rattle.hal_gen_expr.specs.Referents.{referent}
+use Rattle.hal_gen_expr.proofs.Appending.{expression_grows, call_grows}
 use Rattle.hal_gen.specs.Leaves.{store_of, receiver_of, kind_of_receiver, channel_of, return_of, as_result, result_of, event_change_of, pause_of, event_pause_of, named_process, and_asked, each_of, named_or_own_of, numbers_of, side_numbers, response_entry, response_code, off_of, raise_of}
 use Rattle.hal_gen.specs.Sizes.{expression_size, items_size, receivers_size, reads_size, first_test_size, test_size, jump_size, names_size, call_size, statement_size, basic_size, alternative_size, group_size, statements_size}
 use Rattle.hal_gen.specs.StatementCode.{receiver_code, receivers_code, items_code, with_channel, reads_code, condition_code, first_test_code, test_code, jump_to, procedure_code, returning_code, statement_code, basic_code, alternative_code, group_code, statements_code}
@@ -187,18 +188,10 @@ named_gives : (site : Site) (asks : ℕ → Instr) (names : List Naming) → Giv
 named_gives site asks [] is e = subst (λ l. length l ≡ 1) (let same : (asks 255 ∷ []) ≡ is = cc in same) refl
 named_gives site asks (name ∷ names) is e = each_gives site asks (name ∷ names) is e
 
--- what is given is as long as it is
-itself : (o : Option (List Instr)) → Gives o (length (unwrap_or o []))
-itself None is e = absurd (cc)
-itself (Some given) is e = ap length (let same : is ≡ given = cc in same)
-
 procedure_longer : (n : Numbering) (site : Site) (place : Place) (arguments : Expressions) (r : Referent) (before after : List Instr) → procedure_code n site before place arguments r ≡ Ok after
     → Longer before after (call_size n site arguments place r)
 procedure_longer n site place arguments (BlockOf unit) before after e =
-    both_longer (arguments_code n site before place unit (inputs_at site.set unit) arguments) (λ middle. emit middle place (call_of n site false unit)) before after
-    (length_of (arguments_code n site [] place unit (inputs_at site.set unit) arguments)) (length (unwrap_or (call_of n site false unit) [])) e
-    (λ middle there. arguments_grow n site arguments unit (inputs_at site.set unit) place before middle there)
-    (λ middle there. emitted_longer middle after place (call_of n site false unit) (length (unwrap_or (call_of n site false unit) [])) there (itself (call_of n site false unit)))
+    call_grows n site false unit arguments (inputs_at site.set unit) place before after e
 procedure_longer n site place arguments (DataOf k kept shape) before after e = absurd (cc)
 procedure_longer n site place arguments (ConstantOf v) before after e = absurd (cc)
 procedure_longer n site place arguments (EventOf v) before after e = absurd (cc)

@@ -7,7 +7,7 @@ use Rattle.hal_base.specs.declared.refusal.Place.{Place}
 use Rattle.hal_grammar.specs.Leaves.{Naming, Integer}
 use Rattle.hal_grammar.specs.Declarations.{IntegerKind, BooleanKind, EventKind, BitKind, CharacterKind, StructureKind}
 use Rattle.hal_grammar.specs.Expressions.{Expression, Literal, Decimal, Expressions, NoExpressions, MoreExpressions, Reference, Refers, Unsubscripted, ByName, ByInteger, ByParts}
-use Rattle.hal_grammar.specs.Statements.{Guard, While, Until, Selector, EveryError, GroupErrors, OneError, Eventful, EventAction, Signal, Set, Reset, Response, Return}
+use Rattle.hal_grammar.specs.Statements.{Guard, While, Until, Selector, EveryError, GroupErrors, OneError, Eventful, EventAction, Signal, Set, Reset, Response}
 use Rattle.hal_grammar.specs.Units.{Head, Program, Task, Compool, Procedure, Function, HasKind, NoKind}
 use Rattle.hal_operations.specs.declared.operation.Op1.TheVariants as op1
 use Rattle.hal_values.specs.Answers.{error}
@@ -40,9 +40,10 @@ use Rattle.hal_gen_expr.specs.Emitting.{emit}
 use Rattle.hal_gen_expr.specs.ExpressionCode.{emit_one, expression_code, arguments_code}
 use Rattle.hal_gen_expr.specs.Leaves.{element_of, call_of}
 use Rattle.hal_gen_expr.specs.Numbering.{Numbering, below}
-use Rattle.hal_gen_expr.specs.Referents.{Referent, DataOf, ConstantOf, EventOf, BlockOf, BuiltinOf, Unmeant, referent}
+use Rattle.hal_referents.specs.Referents.{Referent, DataOf, ConstantOf, EventOf, BlockOf, BuiltinOf, Unmeant}
+use Rattle.hal_gen_expr.specs.Referents.{referent}
 use Rattle.hal_gen_expr.specs.Standing.{Begins, IsNumbered, Placed}
-use Rattle.hal_gen_expr.proofs.Expressed.{ok_is, expression_at, arguments_at}
+use Rattle.hal_gen_expr.proofs.Expressed.{call_given, ok_is, expression_at, arguments_at}
 use Rattle.hal_gen_expr.proofs.Growing.{append_append, weaker, one_placed, none_placed, first_placed, both_there, both_placed, emitted}
 use Rattle.hal_gen_expr.proofs.Named.{two_placed, element_at, call_placed, given_is}
 use Rattle.hal_gen_expr.proofs.Numbered.{below_is, mapped_is, then_is}
@@ -227,10 +228,11 @@ module _ (code : Code) (n : Numbering) (site : Site) (numbered : IsNumbered code
   procedure_by : (arguments : Expressions) (r : Referent) (place : Place) (before after : List Instr) → procedure_code n site before place arguments r ≡ Ok after → Begins after code.image.code
       → Placed code before after (λ from to. (held : List Held) → CalledAt code site arguments (meaning_of site held r) from to)
   procedure_by arguments (BlockOf unit) place before after e begins =
+      let call = call_given (arguments_code n site before place unit (inputs_at site.set unit) arguments) (call_of n site false unit) place after e in
       weaker code before after (λ from to at. λ held. at)
-      (both_placed code (arguments_code n site before place unit (inputs_at site.set unit) arguments) (λ middle. emit middle place (call_of n site false unit)) before after e
+      (both_placed code (arguments_code n site before place unit (inputs_at site.set unit) arguments) (λ middle. Ok (middle ++ call.0)) before after call.2
       (λ middle there begun. arguments_at code n site numbered arguments unit (inputs_at site.set unit) place before middle there begun)
-      (λ middle there. let given = emitted middle place (call_of n site false unit) after there in call_placed code n site numbered false unit middle after given.0 given.1 given.2 begins))
+      (λ middle there. call_placed code n site numbered false unit middle after call.0 call.1 (ok_is (middle ++ call.0) after there) begins))
   procedure_by arguments (DataOf k kept shape) place before after e begins = absurd (cc)
   procedure_by arguments (ConstantOf v) place before after e begins = absurd (cc)
   procedure_by arguments (EventOf one) place before after e begins = absurd (cc)

@@ -28,7 +28,8 @@ use Rattle.hal_agreement.specs.PlacedStatements.{Leaving, ToFinish, ByReturn, By
 use Rattle.hal_agreement.specs.Sites.{Site, here_at}
 use Rattle.hal_gen_expr.specs.Leaves.{element_of}
 use Rattle.hal_gen_expr.specs.Numbering.{Numbering, below}
-use Rattle.hal_gen_expr.specs.Referents.{Referent, DataOf, referent}
+use Rattle.hal_referents.specs.Referents.{Referent, DataOf}
+use Rattle.hal_gen_expr.specs.Referents.{referent}
 
 -- the store of the value on the stack in what a name refers to
 abbrev pub store_of : Numbering → Site → List Naming → Referent → Option (List Instr)

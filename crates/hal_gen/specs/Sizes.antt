@@ -1,5 +1,5 @@
 -- How many instructions statements have: so targets are known before the code that stands in between.
-use Rattle.std.specs.Prelude.{ℕ, ◌+◌, false, List, [], ◌∷◌, length, Option, Some, None, unwrap_or}
+use Rattle.std.specs.Prelude.{ℕ, ◌+◌, false, List, [], ◌∷◌, length, Option, Some, None}
 use Rattle.hal_base.specs.declared.refusal.Place.{Place}
 use Rattle.hal_grammar.specs.Leaves.{Naming}
 use Rattle.hal_grammar.specs.Expressions.{Expression, Expressions, NoExpressions, MoreExpressions, Reference}
@@ -8,10 +8,11 @@ use Rattle.hal_meaning.specs.Expressions.{inputs_at}
 use Rattle.hal_meaning.specs.Sets.{body_at}
 use Rattle.hal_agreement.specs.Sites.{Site}
 use Rattle.hal_gen_expr.specs.Emitting.{length_of}
-use Rattle.hal_gen_expr.specs.ExpressionCode.{expression_code, arguments_code}
+use Rattle.hal_gen_expr.specs.ExpressionCode.{behind_arguments, expression_code, arguments_code}
 use Rattle.hal_gen_expr.specs.Leaves.{call_of}
 use Rattle.hal_gen_expr.specs.Numbering.{Numbering}
-use Rattle.hal_gen_expr.specs.Referents.{Referent, BlockOf, referent}
+use Rattle.hal_referents.specs.Referents.{Referent, BlockOf}
+use Rattle.hal_gen_expr.specs.Referents.{referent}
 use Rattle.hal_gen.specs.Leaves.{as_result}
 
 abbrev pub expression_size : Numbering → Site → Expression → ℕ
@@ -57,7 +58,7 @@ listed_size (Some names) = length names
 
 -- CALL of what a name refers to
 abbrev pub call_size : Numbering → Site → Expressions → Place → Referent → ℕ
-call_size n site arguments place (BlockOf unit) = length_of (arguments_code n site [] place unit (inputs_at site.set unit) arguments) + length (unwrap_or (call_of n site false unit) [])
+call_size n site arguments place (BlockOf unit) = length_of (behind_arguments place (arguments_code n site [] place unit (inputs_at site.set unit) arguments) (call_of n site false unit))
 call_size n site arguments place other = 0
 
 abbrev mutual

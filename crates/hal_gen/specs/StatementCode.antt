@@ -16,10 +16,11 @@ use Rattle.hal_code.specs.declared.operand.Delay.TheVariants as delay
 use Rattle.hal_agreement.specs.PlacedStatements.{exit_of, again_of, opened, NoReturn, Exits, within_group, of_block}
 use Rattle.hal_agreement.specs.Sites.{Site, here_at}
 use Rattle.hal_gen_expr.specs.Emitting.{Emitted, onwards, emit}
-use Rattle.hal_gen_expr.specs.ExpressionCode.{emit_one, expression_code, arguments_code}
+use Rattle.hal_gen_expr.specs.ExpressionCode.{emit_one, behind_arguments, expression_code, arguments_code}
 use Rattle.hal_gen_expr.specs.Leaves.{call_of}
 use Rattle.hal_gen_expr.specs.Numbering.{Numbering, below}
-use Rattle.hal_gen_expr.specs.Referents.{Referent, BlockOf, referent}
+use Rattle.hal_referents.specs.Referents.{Referent, BlockOf}
+use Rattle.hal_gen_expr.specs.Referents.{referent}
 use Rattle.hal_gen.specs.Leaves.{receiver_of, kind_of_receiver, channel_of, return_of, result_of, event_change_of, pause_of, event_pause_of, named_or_own_of, response_code, off_of, raise_of}
 use Rattle.hal_gen.specs.Sizes.{statement_size, group_size, statements_size, jump_size, basic_size}
 
@@ -74,7 +75,7 @@ jump_to target = option_map (λ at. instr.Jump at ∷ []) target
 -- CALL of a PROCEDURE without ASSIGN arguments
 abbrev pub procedure_code : Numbering → Site → List Instr → Place → Expressions → Referent → Emitted
 procedure_code n site before place arguments (BlockOf unit) =
-    onwards (arguments_code n site before place unit (inputs_at site.set unit) arguments) (λ middle. emit middle place (call_of n site false unit))
+    behind_arguments place (arguments_code n site before place unit (inputs_at site.set unit) arguments) (call_of n site false unit)
 procedure_code n site before place arguments other = Err place
 
 abbrev pub returning_code : Numbering → Site → List Instr → Exits → Place → Option Expression → Emitted

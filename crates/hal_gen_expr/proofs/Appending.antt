@@ -1,5 +1,6 @@
 -- Code goes by what stands before it in nothing but its place: so its length is its own.
 use Rattle.std.specs.Prelude.{◌≡◌, ℕ, ◌+◌, Bool, true, false, ◌||◌, List, [], ◌∷◌, ◌++◌, length, Option, Some, None, Ok, Err, if◌then◌else◌}
+use Rattle.std.specs.Option.{option_map}
 use Rattle.std.proofs.Common.{refl, sym, ap, ◌∙◌, append-nil, arith}
 use Rattle.hal_base.specs.declared.refusal.Place.{Place}
 use Rattle.hal_grammar.specs.Leaves.{Naming, Sign, Plus, Minus}
@@ -11,16 +12,17 @@ use Rattle.hal_constants.specs.declared.operation.Operation.{Operation}
 use Rattle.hal_constants.specs.declared.operation.Operation.TheVariants as operation
 use Rattle.hal_constants.specs.Naming.{operation_of}
 use Rattle.hal_meaning.specs.Calls.{parameter_named}
-use Rattle.hal_meaning.specs.Expressions.{literal_value, is_condition, are_conditions, exponent_of, operation_of_relation, operation_of_sign, operation_of_conversion, is_size, inputs_at}
+use Rattle.hal_meaning.specs.Expressions.{is_condition, are_conditions, operation_of_relation, operation_of_sign, operation_of_conversion, is_size, inputs_at}
 use Rattle.hal_meaning.specs.Variables.{is_whole}
 use Rattle.hal_code.specs.declared.instr.Instr.{Instr}
-use Rattle.hal_agreement.specs.PlacedExpressions.{pushes, two, stay}
+use Rattle.hal_agreement.specs.PlacedExpressions.{two, stay}
 use Rattle.hal_agreement.specs.Sites.{Site}
 use Rattle.hal_gen_expr.specs.Emitting.{Emitted, onwards, emit, length_of}
-use Rattle.hal_gen_expr.specs.ExpressionCode.{emit_one, one, sign_code, reference_code, called_code, expression_code, folded_code, terms_code, built_code, arguments_code}
+use Rattle.hal_gen_expr.specs.ExpressionCode.{literal_instr, exponent_instr, power_of, behind_arguments, emit_one, one, sign_code, reference_code, called_code, expression_code, folded_code, terms_code, built_code, arguments_code}
 use Rattle.hal_gen_expr.specs.Leaves.{value_of, call_of}
 use Rattle.hal_gen_expr.specs.Numbering.{Numbering}
-use Rattle.hal_gen_expr.specs.Referents.{Referent, DataOf, ConstantOf, EventOf, BlockOf, BuiltinOf, Unmeant, referent}
+use Rattle.hal_referents.specs.Referents.{Referent, DataOf, ConstantOf, EventOf, BlockOf, BuiltinOf, Unmeant}
+use Rattle.hal_gen_expr.specs.Referents.{referent}
 use Rattle.hal_gen_expr.proofs.Growing.{append_append}
 
 -- the same with more before it
@@ -45,6 +47,11 @@ unless_behind : (b : Bool) (front : List Instr) (r there : Emitted) (place : Pla
 unless_behind true front r there place is = refl
 unless_behind false front r there place is = is
 
+pub call_behind : (o : Option (List Instr)) (front : List Instr) (r there : Emitted) (place : Place) → there ≡ behind front r
+    → behind_arguments place there o ≡ behind front (behind_arguments place r o)
+call_behind None front r there place is = refl
+call_behind (Some js) front r there place is = onwards_behind front r there (λ middle. Ok (middle ++ js)) (λ middle. Ok (middle ++ js)) is (λ code. ap Ok (append_append front code js))
+
 module _ (n : Numbering) (site : Site) (front : List Instr) where
   sign_behind : (opening : Option Sign) (before : List Instr) (place : Place) → sign_code (front ++ before) place opening ≡ behind front (sign_code before place opening)
   sign_behind (Some Minus) before place = emit_behind front before place (Some (one op1.Minus ∷ []))
@@ -66,7 +73,7 @@ module _ (n : Numbering) (site : Site) (front : List Instr) where
       onwards_behind front (emit before place (value_of n site [] (ConstantOf v))) _ folded folded (emit_behind front before place (value_of n site [] (ConstantOf v))) f
   called_behind (EventOf e) before place folded built built_there arguments arguments_there f b a = refl
   called_behind (BlockOf unit) before place folded built built_there arguments arguments_there f b a =
-      onwards_behind front (arguments unit) (arguments_there unit) _ _ (a unit) (λ code. emit_behind front code place (call_of n site true unit))
+      call_behind (call_of n site true unit) front (arguments unit) (arguments_there unit) place (a unit)
   called_behind (BuiltinOf one) before place folded built built_there arguments arguments_there f b a =
       unless_behind (is_size one) front (built (operation_of one)) (built_there (operation_of one)) place (b (operation_of one))
   called_behind Unmeant before place folded built built_there arguments arguments_there f b a = refl
@@ -88,9 +95,9 @@ module _ (n : Numbering) (site : Site) (front : List Instr) where
         (λ code. onwards_behind front (sign_code code place opening) _ _ _ (sign_behind opening code place) (λ late. terms_behind others late))
     expression_behind (Product place first others) before = onwards_behind front (expression_code n site before first) _ _ _ (expression_behind first before) (λ code. folded_behind others place op2.Product code)
     expression_behind (Power place base exponent) before =
-        onwards_behind front (expression_code n site before base) _ _ _ (expression_behind base before) (λ code. emit_behind front code place (Some (pushes (exponent_of exponent) ∷ two op2.Power ∷ [])))
+        onwards_behind front (expression_code n site before base) _ _ _ (expression_behind base before) (λ code. emit_behind front code place (power_of (exponent_instr exponent)))
     expression_behind (Not place operand) before = onwards_behind front (expression_code n site before operand) _ _ _ (expression_behind operand before) (λ code. emit_behind front code place (Some (one op1.Not ∷ [])))
-    expression_behind (Literal place literal) before = emit_behind front before place (Some (pushes (literal_value literal) ∷ []))
+    expression_behind (Literal place literal) before = emit_behind front before place (option_map (λ i. i ∷ []) (literal_instr literal))
     expression_behind (Decimal place number) before = refl
     expression_behind (Referred reference) before = reference_behind reference before
     expression_behind (Called place name arguments) before =
@@ -145,15 +152,18 @@ pub grows_by : (r there : Emitted) (before after : List Instr) → there ≡ beh
 grows_by (Ok code) there before after is given = ap length (let same : before ++ code ≡ after = cc in sym same) ∙ length_both before code
 grows_by (Err place) there before after is given = absurd (cc)
 
--- the code of an expression, and of arguments
+-- the code of an expression, and of a call
 pub expression_grows : (n : Numbering) (site : Site) (tree : Expression) (before after : List Instr) → expression_code n site before tree ≡ Ok after
     → length after ≡ length before + length_of (expression_code n site [] tree)
 expression_grows n site tree before after is =
     grows_by (expression_code n site [] tree) (expression_code n site (before ++ []) tree) before after (expression_behind n site before tree [])
     (ap (λ l. expression_code n site l tree) (append-nil before) ∙ is)
 
-pub arguments_grow : (n : Numbering) (site : Site) (trees : Expressions) (unit : ℕ) (names : List Naming) (place : Place) (before after : List Instr) → arguments_code n site before place unit names trees ≡ Ok after
-    → length after ≡ length before + length_of (arguments_code n site [] place unit names trees)
-arguments_grow n site trees unit names place before after is =
-    grows_by (arguments_code n site [] place unit names trees) (arguments_code n site (before ++ []) place unit names trees) before after (arguments_behind n site before trees unit names place [])
-    (ap (λ l. arguments_code n site l place unit names trees) (append-nil before) ∙ is)
+pub call_grows : (n : Numbering) (site : Site) (function : Bool) (unit : ℕ) (trees : Expressions) (names : List Naming) (place : Place) (before after : List Instr)
+    → behind_arguments place (arguments_code n site before place unit names trees) (call_of n site function unit) ≡ Ok after
+    → length after ≡ length before + length_of (behind_arguments place (arguments_code n site [] place unit names trees) (call_of n site function unit))
+call_grows n site function unit trees names place before after is =
+    grows_by (behind_arguments place (arguments_code n site [] place unit names trees) (call_of n site function unit))
+    (behind_arguments place (arguments_code n site (before ++ []) place unit names trees) (call_of n site function unit)) before after
+    (call_behind (call_of n site function unit) before (arguments_code n site [] place unit names trees) (arguments_code n site (before ++ []) place unit names trees) place (arguments_behind n site before trees unit names place []))
+    (ap (λ l. behind_arguments place (arguments_code n site l place unit names trees) (call_of n site function unit)) (append-nil before) ∙ is)

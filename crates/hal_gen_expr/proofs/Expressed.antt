@@ -1,8 +1,9 @@
 -- The code of an expression stands where it was put.
-use Rattle.std.specs.Prelude.{◌≡◌, ℕ, Bool, true, false, ◌||◌, List, [], ◌∷◌, ◌++◌, Option, Some, None, Ok, Err, if◌then◌else◌}
-use Rattle.std.proofs.Common.{refl, sym, subst}
+use Rattle.std.specs.Prelude.{◌≡◌, ℕ, pos, nat_le, length, Bool, true, false, ◌||◌, List, [], ◌∷◌, ◌++◌, Option, Some, None, Ok, Err, if◌then◌else◌}
+use Rattle.std.specs.Option.{option_map}
+use Rattle.std.proofs.Common.{refl, sym, ap, ◌∙◌, subst}
 use Rattle.hal_base.specs.declared.refusal.Place.{Place}
-use Rattle.hal_grammar.specs.Leaves.{Naming, Sign, Plus, Minus}
+use Rattle.hal_grammar.specs.Leaves.{Naming, Sign, Plus, Minus, LiteralValue, Integer, Text, Bits, True, False, On, Off}
 use Rattle.hal_grammar.specs.Expressions.{Expression, Or, And, Compare, Cat, Sum, Product, Power, Not, Literal, Decimal, Referred, Called, Convert, Parenthesis, Expressions, NoExpressions, MoreExpressions, Terms, NoTerms, MoreTerms, Reference, Refers, Unsubscripted, ByName, ByInteger, ByParts}
 use Rattle.hal_operations.specs.declared.operation.Op2.{Op2}
 use Rattle.hal_operations.specs.declared.operation.Op1.TheVariants as op1
@@ -15,16 +16,19 @@ use Rattle.hal_meaning.specs.Calls.{parameter_named}
 use Rattle.hal_meaning.specs.Expressions.{literal_value, is_condition, are_conditions, exponent_of, operation_of_relation, operation_of_sign, operation_of_conversion, is_size, inputs_at}
 use Rattle.hal_meaning.specs.Variables.{is_whole}
 use Rattle.hal_code.specs.declared.instr.Instr.{Instr}
+use Rattle.hal_code.specs.declared.instr.Instr.TheVariants as instr
 use Rattle.hal_agreement.specs.Codes.{Code}
-use Rattle.hal_agreement.specs.PlacedExpressions.{One, pushes, two, stay, ValueAt, NameAt, SignAt, ReferenceAt, CalledAt, ExpressionAt, FoldedAt, TermsAt, BuiltAt, ArgumentsAt}
+use Rattle.hal_agreement.specs.PlacedExpressions.{pushes, two, stay, ValueAt, NameAt, SignAt, ReferenceAt, CalledAt, ExpressionAt, FoldedAt, TermsAt, BuiltAt, ArgumentsAt}
 use Rattle.hal_agreement.specs.Sites.{Site}
 use Rattle.hal_gen_expr.specs.Emitting.{Emitted, onwards, emit}
-use Rattle.hal_gen_expr.specs.ExpressionCode.{one, sign_code, reference_code, called_code, expression_code, folded_code, terms_code, built_code, arguments_code}
+use Rattle.hal_gen_expr.specs.ExpressionCode.{one, literal_instr, raised_to, exponent_instr, power_of, behind_arguments, sign_code, reference_code, called_code, expression_code, folded_code, terms_code, built_code, arguments_code}
 use Rattle.hal_gen_expr.specs.Leaves.{value_of, call_of}
 use Rattle.hal_gen_expr.specs.Numbering.{Numbering}
-use Rattle.hal_gen_expr.specs.Referents.{Referent, DataOf, ConstantOf, EventOf, BlockOf, BuiltinOf, Unmeant, referent}
+use Rattle.hal_referents.specs.Referents.{Referent, DataOf, ConstantOf, EventOf, BlockOf, BuiltinOf, Unmeant}
+use Rattle.hal_gen_expr.specs.Referents.{referent}
 use Rattle.hal_gen_expr.specs.Standing.{Begins, IsNumbered, Placed}
 use Rattle.hal_gen_expr.proofs.Growing.{weaker, one_placed, none_placed, first_placed, both_placed, emitted}
+use Rattle.hal_gen_expr.proofs.Numbered.{mapped_is}
 use Rattle.hal_gen_expr.proofs.Named.{two_placed, call_placed, value_placed}
 use Rattle.hal_gen_expr.proofs.Referring.{meaning_of, name_means}
 
@@ -39,6 +43,51 @@ if_emitted false r place after is = absurd (cc)
 pub unless_emitted : (b : Bool) (r : Emitted) (place : Place) (after : List Instr) → (if b then Err place else r) ≡ Ok after → (b ≡ false) × (r ≡ Ok after)
 unless_emitted true r place after is = absurd (cc)
 unless_emitted false r place after is = (refl, is)
+
+-- what is put on the stack for a literal, and for an exponent
+in_room : (b : Bool) (one i : Instr) → (if b then Some one else None) ≡ Some i → i ≡ one
+in_room true one i is = cc
+in_room false one i is = absurd (cc)
+
+literal_given : (literal : LiteralValue) (i : Instr) → literal_instr literal ≡ Some i → i ≡ pushes (literal_value literal)
+literal_given (Integer number) i is = in_room (nat_le number 2147483647) (instr.Int (pos number)) i is
+literal_given (Text text) i is = in_room (nat_le (length text) 255) (instr.Text text) i is
+literal_given (Bits len word) i is = cc
+literal_given True i is = cc
+literal_given False i is = cc
+literal_given On i is = cc
+literal_given Off i is = cc
+
+raised_given : (place : Place) (literal : LiteralValue) (i : Instr) → raised_to literal ≡ Some i → i ≡ pushes (exponent_of (Literal place literal))
+raised_given place (Integer number) i is = in_room (nat_le number 2147483647) (instr.Int (pos number)) i is
+raised_given place (Text text) i is = in_room (nat_le (length text) 255) (instr.Int (pos 0)) i is
+raised_given place (Bits len word) i is = cc
+raised_given place True i is = cc
+raised_given place False i is = cc
+raised_given place On i is = cc
+raised_given place Off i is = cc
+
+exponent_given : (exponent : Expression) (i : Instr) → exponent_instr exponent ≡ Some i → i ≡ pushes (exponent_of exponent)
+exponent_given (Literal place literal) i is = raised_given place literal i is
+exponent_given (Or place first others) i is = cc
+exponent_given (And place first others) i is = cc
+exponent_given (Compare place left relation right) i is = cc
+exponent_given (Cat place first others) i is = cc
+exponent_given (Sum place opening first others) i is = cc
+exponent_given (Product place first others) i is = cc
+exponent_given (Power place base exponent) i is = cc
+exponent_given (Not place operand) i is = cc
+exponent_given (Decimal place number) i is = cc
+exponent_given (Referred reference) i is = cc
+exponent_given (Called place name arguments) i is = cc
+exponent_given (Convert place conversion operand) i is = cc
+exponent_given (Parenthesis place inner) i is = cc
+
+-- a call that has code
+pub call_given : (arguments : Emitted) (o : Option (List Instr)) (place : Place) (after : List Instr) → behind_arguments place arguments o ≡ Ok after
+    → (is : List Instr) × (o ≡ Some is) × (onwards arguments (λ middle. Ok (middle ++ is)) ≡ Ok after)
+call_given arguments None place after there = absurd (cc)
+call_given arguments (Some is) place after there = (is, refl, there)
 
 module _ (code : Code) (n : Numbering) (site : Site) (numbered : IsNumbered code n) where
   sign_at : (opening : Option Sign) (place : Place) (before after : List Instr) → sign_code before place opening ≡ Ok after → Begins after code.image.code
@@ -81,9 +130,10 @@ module _ (code : Code) (n : Numbering) (site : Site) (numbered : IsNumbered code
   called_at (ConstantOf v) folded built arguments place before after is begins f b a = multiplied_at (ConstantOf v) folded place before after is f
   called_at (EventOf e) folded built arguments place before after is begins f b a = absurd (cc)
   called_at (BlockOf unit) folded built arguments place before after is begins f b a =
+      let call = call_given (arguments unit) (call_of n site true unit) place after is in
       weaker code before after (λ from to at. λ held. at)
-      (both_placed code (arguments unit) (λ middle. emit middle place (call_of n site true unit)) before after is (λ middle there begun. a unit middle there begun)
-      (λ middle there. let given = emitted middle place (call_of n site true unit) after there in call_placed code n site numbered true unit middle after given.0 given.1 given.2 begins))
+      (both_placed code (arguments unit) (λ middle. Ok (middle ++ call.0)) before after call.2 (λ middle there begun. a unit middle there begun)
+      (λ middle there. call_placed code n site numbered true unit middle after call.0 call.1 (ok_is (middle ++ call.0) after there) begins))
   called_at (BuiltinOf one) folded built arguments place before after is begins f b a =
       let other = unless_emitted (is_size one) (built (operation_of one)) place after is in
       weaker code before after (λ from to at. λ held. (other.0, at)) (b (operation_of one) other.1)
@@ -121,11 +171,16 @@ module _ (code : Code) (n : Numbering) (site : Site) (numbered : IsNumbered code
     expression_at (Power place base exponent) before after is begins =
         weaker code before after (λ from to at. (at.0, at.1, at.2.0, at.2.1))
         (both_placed code (expression_code n site before base) _ before after is (λ middle there begun. expression_at base before middle there begun)
-        (λ middle there. two_placed code n site numbered middle after (pushes (exponent_of exponent)) (two op2.Power) (ok_is _ after there) begins))
+        (λ middle there. let given = emitted middle place (power_of (exponent_instr exponent)) after there in
+        let one = mapped_is (λ i. i ∷ two op2.Power ∷ []) (exponent_instr exponent) given.0 given.1 in
+        two_placed code n site numbered middle after (pushes (exponent_of exponent)) (two op2.Power) (ap (λ i. middle ++ (i ∷ two op2.Power ∷ [])) (sym (exponent_given exponent one.0 one.1)) ∙ (ap (λ l. middle ++ l) one.2 ∙ given.2)) begins))
     expression_at (Not place operand) before after is begins =
         both_placed code (expression_code n site before operand) _ before after is (λ middle there begun. expression_at operand before middle there begun)
         (λ middle there. one_placed code middle after (one op1.Not) (ok_is _ after there) begins)
-    expression_at (Literal place literal) before after is begins = one_placed code before after (pushes (literal_value literal)) (ok_is _ after is) begins
+    expression_at (Literal place literal) before after is begins =
+        let given = emitted before place (option_map (λ i. i ∷ []) (literal_instr literal)) after is in
+        let one = mapped_is (λ i. i ∷ []) (literal_instr literal) given.0 given.1 in
+        one_placed code before after (pushes (literal_value literal)) (ap (λ i. before ++ (i ∷ [])) (sym (literal_given literal one.0 one.1)) ∙ (ap (λ l. before ++ l) one.2 ∙ given.2)) begins
     expression_at (Decimal place number) before after is begins = absurd (cc)
     expression_at (Referred reference) before after is begins = reference_at reference before after is begins
     expression_at (Called place name arguments) before after is begins =

@@ -5,3 +5,7 @@ pub mod Named
 pub mod Expressed
 pub mod Appending
 pub mod Forwarding
+mod Uncalled
+mod Chosen
+mod Capped
+mod Lent

@@ -1,8 +1,11 @@
 -- Views and blocks by their numbers.
-use Rattle.std.specs.Prelude.{◌≡◌, ℕ, suc, ◌+◌, ◌==◌, nat_lt, Bool, true, false, ◌&&◌, List, [], ◌∷◌, Option, Some, None, slice_get, if◌then◌else◌}
+use Rattle.std.specs.Prelude.{◌≡◌, ℕ, zero, suc, ◌+◌, ◌==◌, ◌<◌, nat_lt, length, Bool, true, false, ◌&&◌, List, [], ◌∷◌, Option, Some, None, slice_get, if◌then◌else◌}
 use Rattle.std.specs.Option.{option_map, option_and_then}
-use Rattle.std.proofs.lemmas.Bool.{eqb-true, and_parts}
-use Rattle.std.proofs.Common.{refl, sym, ap, subst, ◌∙◌}
+use Rattle.std.specs.List.{position, position_or_len}
+use Rattle.std.proofs.lemmas.Bool.{eqb-true, ltb-true, and_parts}
+use Rattle.std.proofs.lemmas.List.Sums.{passes_at_first}
+use Rattle.std.proofs.lemmas.Option.{get_or_from_slice_get}
+use Rattle.std.proofs.Common.{refl, sym, ap, subst, ◌∙◌, cond, get_or, arith}
 use Rattle.hal_values.specs.declared.value.Kind.{Kind}
 use Rattle.hal_values.specs.declared.value.Kind.TheVariants as kind
 use Rattle.hal_states.specs.Spots.{Spot, Held, further}
@@ -23,7 +26,7 @@ use Rattle.hal_agreement.specs.Codes.{Code}
 use Rattle.hal_agreement.specs.PlacedExpressions.{Has, IsPlain, AddressAt}
 use Rattle.hal_agreement.specs.Sites.{Site, here_at}
 use Rattle.hal_gen_expr.specs.Standing.{IsNumbered}
-use Rattle.hal_gen_expr.specs.Numbering.{Numbering, below, most, base_of, same_base, has_none, gives_cell, is_cell_view, first_where, view_number}
+use Rattle.hal_gen_expr.specs.Numbering.{Numbering, below, most, base_of, same_base, has_none, gives_cell, is_cell_view, view_number}
 use Rattle.hal_gen_expr.specs.Leaves.{address_of}
 
 pub below_is : (limit n m : ℕ) → below limit n ≡ Some m → n ≡ m
@@ -41,17 +44,24 @@ pub then_is : {X Y : Type 0} (f : X → Option Y) (o : Option X) (y : Y) → opt
 then_is f None y is = absurd (cc)
 then_is f (Some x) y is = (x, refl, is)
 
-found_here : {X : Type 0} (is : X → Bool) (x : X) (xs : List X) (k : ℕ) (b : Bool) → is x ≡ b → ((later : ℕ) → first_where is xs ≡ Some later → (one : X) × (slice_get xs later ≡ Some one) × (is one ≡ true))
-    → (if b then Some 0 else option_map suc (first_where is xs)) ≡ Some k → (one : X) × (slice_get (x ∷ xs) k ≡ Some one) × (is one ≡ true)
-found_here {X} is x xs k true holds others there =
-    subst (λ m. (one : X) × (slice_get (x ∷ xs) m ≡ Some one) × (is one ≡ true)) (let zero_is : 0 ≡ k = cc in zero_is) (x, refl, holds)
-found_here {X} is x xs k false fails others there =
-    let later = mapped_is suc (first_where is xs) k there in
-    subst (λ m. (one : X) × (slice_get (x ∷ xs) m ≡ Some one) × (is one ≡ true)) later.2 (others later.0 later.1)
+-- the first member that is so
+member_there : {X : Type 0} (xs : List X) (k : ℕ) → k < length xs → (x : X) × (slice_get xs k ≡ Some x)
+member_there [] k low = absurd (omega (arith, low))
+member_there (x ∷ xs) zero low = (x, refl)
+member_there (x ∷ xs) (suc k) low = member_there xs k (omega (arith, low))
 
-pub first_is : {X : Type 0} (is : X → Bool) (xs : List X) (k : ℕ) → first_where is xs ≡ Some k → (x : X) × (slice_get xs k ≡ Some x) × (is x ≡ true)
-first_is is [] k found = absurd (cc)
-first_is is (x ∷ xs) k found = found_here is x xs k (is x) refl (λ later there. first_is is xs later there) found
+found_by : {X : Type 0} (is : X → Bool) (xs : List X) (place k : ℕ) (b : Bool) → position_or_len is xs ≡ place → nat_lt place (length xs) ≡ b → cond b (Some place) None ≡ Some k
+    → (x : X) × (slice_get xs k ≡ Some x) × (is x ≡ true)
+found_by is xs place k false first low found = absurd (cc)
+found_by {X} is xs place k true first low found =
+    let less = ltb-true place (length xs) low in
+    let there = member_there xs place less in
+    let passes = subst (λ m. is (get_or xs m there.0) ≡ true) first (passes_at_first is xs there.0 (omega (arith, first, less))) in
+    subst (λ m. (x : X) × (slice_get xs m ≡ Some x) × (is x ≡ true)) (let same : place ≡ k = cc in same)
+    (there.0, there.1, sym (ap is (get_or_from_slice_get xs place there.0 there.0 there.1)) ∙ passes)
+
+pub first_is : {X : Type 0} (is : X → Bool) (xs : List X) (k : ℕ) → position is xs ≡ Some k → (x : X) × (slice_get xs k ≡ Some x) × (is x ≡ true)
+first_is is xs k found = found_by is xs (position_or_len is xs) k (nat_lt (position_or_len is xs) (length xs)) refl refl found
 
 kind_same : (k l : Kind) → same_kind k l ≡ true → k ≡ l
 kind_same kind.Single kind.Single is = refl
@@ -107,7 +117,7 @@ module _ (code : Code) (n : Numbering) (site : Site) (numbered : IsNumbered code
   address_at k stored at kind i from held is has =
       let there = then_is (λ b. option_map instr.Cell (view_number n kind b)) (base_of site k at stored) i is in
       let named = mapped_is instr.Cell (view_number n kind there.0) i there.2 in
-      let low = then_is (below most) (first_where (is_cell_view there.0 kind) n.views) named.0 named.1 in
+      let low = then_is (below most) (position (is_cell_view there.0 kind) n.views) named.0 named.1 in
       let row = first_is (is_cell_view there.0 kind) n.views low.0 low.1
       in record {
         number = named.0;

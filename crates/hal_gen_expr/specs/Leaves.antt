@@ -17,7 +17,7 @@ use Rattle.hal_meaning.specs.Variables.{kind_of_first}
 use Rattle.hal_agreement.specs.PlacedExpressions.{pushes}
 use Rattle.hal_agreement.specs.Sites.{Site}
 use Rattle.hal_gen_expr.specs.Numbering.{Numbering, below, base_of, view_number, block_number}
-use Rattle.hal_gen_expr.specs.Referents.{Referent, DataOf, ConstantOf, EventOf, BlockOf, BuiltinOf, Unmeant}
+use Rattle.hal_referents.specs.Referents.{Referent, DataOf, ConstantOf, EventOf, BlockOf, BuiltinOf, Unmeant}
 
 abbrev pub is_nil : {X : Type 0} → List X → Bool
 is_nil [] = true

@@ -4,3 +4,6 @@ pub mod Leaves
 pub mod Emitting
 pub mod ExpressionCode
 pub mod Standing
+pub mod SeenSites
+pub mod Emits
+pub mod Elements

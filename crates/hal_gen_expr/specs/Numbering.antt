@@ -1,5 +1,6 @@
 -- How the code of a set numbers its views and blocks.
-use Rattle.std.specs.Prelude.{ℕ, suc, ◌+◌, ◌==◌, nat_lt, Bool, true, false, ◌&&◌, List, [], ◌∷◌, Option, Some, None, if◌then◌else◌}
+use Rattle.std.specs.Prelude.{ℕ, ◌+◌, ◌==◌, nat_lt, Bool, true, false, ◌&&◌, List, [], ◌∷◌, Option, Some, None, if◌then◌else◌}
+use Rattle.std.specs.List.{position}
 use Rattle.std.specs.Option.{option_map, option_and_then}
 use Rattle.hal_values.specs.declared.value.Kind.{Kind}
 use Rattle.hal_code.specs.declared.row.Base.{Base}
@@ -18,13 +19,17 @@ pub record Numbering : Type 0 where
   pub views : List View
   pub units : List ℕ
 
+-- views alone, where no unit is called
+abbrev pub numbering : List View → Numbering
+numbering views = record { views = views; units = [] }
+
 -- a number below a limit
 abbrev pub below : ℕ → ℕ → Option ℕ
 below limit n = if nat_lt n limit then Some n else None
 
--- the numbers of 32 bits
+-- numbers below this one are given to views, blocks, cells and places: it fits 32 bits itself
 abbrev pub most : ℕ
-most = 4294967296
+most = 4294967295
 
 -- where the element so many elements behind the first one of a declaration's data lies
 abbrev pub base_of : Site → ℕ → ℕ → Storing → Option Base
@@ -55,15 +60,10 @@ gives_cell kind (target.Shape shape) = false
 abbrev pub is_cell_view : Base → Kind → View → Bool
 is_cell_view from kind row = same_base row.base from && (has_none row.dimensions && gives_cell kind row.target)
 
--- the place of the first one that is so
-abbrev pub first_where : {X : Type 0} → (X → Bool) → List X → Option ℕ
-first_where is [] = None
-first_where is (x ∷ xs) = if is x then Some 0 else option_map suc (first_where is xs)
-
 -- the number of the view of a cell
 abbrev pub view_number : Numbering → Kind → Base → Option ℕ
-view_number n kind from = option_and_then (below most) (first_where (is_cell_view from kind) n.views)
+view_number n kind from = option_and_then (below most) (position (is_cell_view from kind) n.views)
 
 -- the number of the block of a unit
 abbrev pub block_number : Numbering → ℕ → Option ℕ
-block_number n unit = option_and_then (below most) (first_where (λ one. one == unit) n.units)
+block_number n unit = option_and_then (below most) (position (λ one. one == unit) n.units)

@@ -9,4 +9,4 @@ mod tables;
 pub use laws::tables_are_those_of_the_set;
 pub use laying::layout_of;
 pub use layout::Layout;
-pub use tables::tables_of;
+pub use tables::{items_of, tables_of};

@@ -27,9 +27,9 @@ fn texts_of(alloc: Global, names: &[Vec<u8>]) -> Result<Option<Vec<Text>>, Alloc
     Ok(Some(list))
 }
 
-/// The items of event expressions.
+/// The items of event expressions (language document, Events).
 #[tactic(auto, using(hal_elements::proofs::Repeated::behind, hal_elements::proofs::Repeated::none_behind))]
-fn items_of(alloc: Global, expressions: &[Stated]) -> Result<Vec<Listing<Item>>, AllocError>
+pub fn items_of(alloc: Global, expressions: &[Stated]) -> Result<Vec<Listing<Item>>, AllocError>
     ensures { IfOk result (λ list. list.items ≡ layouts.items_of (map seen_stated expressions.now)) }
 {
     let mut list = Vec::new(alloc);
@@ -42,7 +42,7 @@ fn items_of(alloc: Global, expressions: &[Stated]) -> Result<Vec<Listing<Item>>,
 }
 
 /// The tables of a layout; None where the name of a process has more than 255 bytes or the process that starts at the opening is behind the
-/// first 256, which no accepted set has.
+/// first 256.
 pub fn tables_of(alloc: Global, layout: Layout) -> Result<Option<Tables>, AllocError>
     ensures { IfOk result (λ found. SomeIff found (layouts.IsNarrow (seen_layout layout)) (layouts.tables_of (seen_layout layout))) }
 {

@@ -24,7 +24,8 @@ use Rattle.hal_gen_expr.specs.Standing.{Begins, IsNumbered}
 use Rattle.hal_gen_expr.proofs.Forwarding.{Goes, none_goes, joined_goes}
 use Rattle.hal_gen_expr.proofs.Growing.{append_append}
 use Rattle.hal_link.specs.ProcessCode.{finish_of, process_code}
-use Rattle.hal_link.specs.Linking.{Linked, linked, Linking, process_block, process_site, behind_process, with_process, linked_from, image_with, numbering, linking, image_by, image_of}
+use Rattle.hal_gen_expr.specs.Numbering.{numbering}
+use Rattle.hal_link.specs.Linking.{Linked, linked, Linking, process_block, process_site, behind_process, with_process, linked_from, image_with, linking, image_by, image_of}
 use Rattle.hal_link.proofs.Processed.{Processed, process_at}
 use Rattle.hal_link.proofs.Tabled.{tables_same, process_there, places_begin}
 

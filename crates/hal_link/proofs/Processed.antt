@@ -1,5 +1,5 @@
 -- The code of a process stands where it was put, and goes on.
-use Rattle.std.specs.Prelude.{◌≡◌, ℕ, suc, ◌+◌, List, [], ◌∷◌, ◌++◌, length, Ok, Err}
+use Rattle.std.specs.Prelude.{◌≡◌, ℕ, suc, List, [], ◌∷◌, ◌++◌, length, Ok, Err}
 use Rattle.std.proofs.Common.{refl, subst, arith}
 use Rattle.hal_grammar.specs.Statements.{Statements}
 use Rattle.hal_code.specs.declared.instr.Instr.{Instr}

@@ -20,7 +20,7 @@ use Rattle.hal_code.specs.declared.row.Run.{Run}
 use Rattle.hal_code.specs.declared.row.View.{View}
 use Rattle.hal_agreement.specs.Sites.{Site, site_of}
 use Rattle.hal_gen_expr.specs.Emitting.{Emitted}
-use Rattle.hal_gen_expr.specs.Numbering.{Numbering}
+use Rattle.hal_gen_expr.specs.Numbering.{Numbering, numbering}
 use Rattle.hal_link.specs.ProcessCode.{process_code}
 
 -- the code of some processes, and their blocks
@@ -86,10 +86,6 @@ image_with s views one = record {
   names = s.tables.names;
   code = one.code;
 }
-
--- no unit is called
-abbrev pub numbering : List View → Numbering
-numbering views = record { views = views; units = [] }
 
 abbrev pub linking : Set → List View → Linking
 linking s views = linked_from s (numbering views) 0 (processes_of s.phrases) (linked [] [])

@@ -9,7 +9,7 @@ ghost use Rattle.hal_code.specs.declared.choice.Choice.TheVariants as choice;
 ghost use Rattle.hal_code.specs.Asking.{act_print, act_item};
 ghost use Rattle.hal_code.specs.Cores as cores;
 ghost use Rattle.hal_code.specs.Cores.{Val, going, with_line};
-ghost use Rattle.hal_machine.specs.Fitting.{OneFits};
+ghost use Rattle.hal_right_values.specs.Fitting.{OneFits};
 ghost use Rattle.hal_machine.specs.Seen.{core_seen, stack_seen, setting_seen, step_seen, Does};
 
 use crate::machine::{Machine, Setting};

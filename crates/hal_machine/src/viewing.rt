@@ -7,8 +7,8 @@ ghost use Rattle.hal_states.specs.Spots.{further, referred_to};
 ghost use Rattle.hal_code.specs.Addressing.{spot_of, operand_of, viewed, cell_viewed, area_viewed};
 ghost use Rattle.hal_code.specs.Cores.{going, Moves};
 ghost use Rattle.hal_code.specs.Raising.{raised};
-ghost use Rattle.hal_machine.specs.Fitting.{integer_taken};
-ghost use Rattle.hal_machine.specs.Spreading.{HasRoom, LeadsWithin, CellFits, pointed, pointed_at, spread, spread_by, spread_seen, saturated};
+ghost use Rattle.hal_right_values.specs.Spreading.{integer_taken, HasRoom, LeadsWithin, CellFits, spread, spread_by};
+ghost use Rattle.hal_machine.specs.Spreading.{pointed, pointed_at, spread_seen, saturated};
 ghost use Rattle.hal_machine.specs.Seen.{core_seen, stack_seen, setting_seen, spot_seen, step_seen, Does};
 
 use crate::machine::{Held, Machine, Setting};

@@ -131,6 +131,10 @@ node_is ps block (OfResponse place selector) = tt
 node_is ps block (OfOffError place selector) = tt
 node_is ps block (OfSendError group_at group number_at number) = tt
 
+-- the block that a phrase calls is a unit
+pub callee_is : (ps : List Phrase) (p : Phrase) → IsCalled ps (callee ps p)
+callee_is ps p = node_is ps p.around.block p.node
+
 has_one : (ps : List Phrase) (b : Bool) (to : Option ℕ) (ks : List ℕ) → IsCalled ps to → HasAll (unit_numbers ps) ks → HasAll (unit_numbers ps) (cons_option (if b then to else None) ks)
 has_one ps true None ks called has = has
 has_one ps true (Some k) ks called has = (called, has)
@@ -138,7 +142,7 @@ has_one ps false to ks called has = has
 
 has_some : (ps : List Phrase) (q : ℕ) (qs : List Phrase) → HasAll (unit_numbers ps) (filter_map (λ (p : Phrase). if p.around.home == q then callee ps p else None) qs)
 has_some ps q [] = tt
-has_some ps q (p ∷ qs) = has_one ps (p.around.home == q) (callee ps p) _ (node_is ps p.around.block p.node) (has_some ps q qs)
+has_some ps q (p ∷ qs) = has_one ps (p.around.home == q) (callee ps p) _ (callee_is ps p) (has_some ps q qs)
 
 -- those that a block calls are units
 pub has_callees : (ps : List Phrase) (q : ℕ) → HasAll (unit_numbers ps) (callees ps q)

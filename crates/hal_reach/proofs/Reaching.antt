@@ -1,15 +1,16 @@
 -- The units of a set, and which processes reach them.
-use Rattle.std.proofs.Common.{rules, ◌⊎◌, inl, inr, ◌≡◌, ◌∙◌, ◌==◌, ℕ, Bool, true, false, List, [], ◌∷◌, Option, Some, None, map, filter, filter_map, length, if◌then◌else◌, refl, sym, ap, subst}
+use Rattle.std.proofs.Common.{rules, ◌⊎◌, inl, inr, ◌≡◌, ◌∙◌, ◌==◌, ℕ, Bool, true, false, List, [], ◌∷◌, Option, Some, None, map, filter, filter_map, length, if◌then◌else◌, refl, sym, ap, ap₂, subst}
 use Rattle.std.specs.Option.{option_map}
 use Rattle.std.specs.List.{cons_option}
 use Rattle.hal_phrases.specs.Phrases.{Phrase}
-use Rattle.hal_meaning.specs.Bodies.{is_unit, is_process, callee, callees, processes_of, processes_reaching, reaches, unit_count}
+use Rattle.hal_scope.proofs.Lists.{or_false}
+use Rattle.hal_meaning.specs.Bodies.{is_unit, is_process, callee, processes_of, processes_reaching, reaches, unit_count}
 use Rattle.hal_meaning.specs.Places.{unit_numbers}
 use Rattle.hal_reach.specs.declared.call.Call.{Call}
 use Rattle.hal_reach.specs.Marks as marks
-use Rattle.hal_reach.specs.Marks.{processes_marked, rows}
+use Rattle.hal_reach.specs.Marks.{numbers_marked, processes_marked, rows}
 use Rattle.hal_reach.specs.Places.{place_among, places, places_called}
-use Rattle.hal_reach.specs.Calls.{call_of, call_from, calls_of, unit_with, units_among, units_of, reached, reached_of}
+use Rattle.hal_reach.specs.Calls.{call_of, call_from, calls_of, unit_with, units_among, units_of, reaches_any, reaching, reached, reached_of}
 use Rattle.hal_reach.proofs.Within.{AreRight, numbers, row, reaching_within}
 use Rattle.hal_reach.proofs.Callees.{IsOther, sort_of, has_callees}
 
@@ -90,17 +91,35 @@ right_units : (ps : List Phrase) → AreRight ps (numbers (units_of ps)) (units_
 unfolding units_of
 right_units ps = subst (λ ns. AreRight ps ns (units_of ps)) (sym (numbered (unit_numbers ps) (calls_of ps) ps)) (right ps ps)
 
-marked : (ps : List Phrase) (to : ℕ) → marks.reaching (units_of ps) to ≡ map (λ k. reaches ps k to) (numbers (units_of ps))
+marked : (ps : List Phrase) (blocks : List ℕ) → marks.reaching (units_of ps) blocks ≡ map (reaches_any ps blocks) (numbers (units_of ps))
 unfolding units_of
-marked ps to =
-    reaching_within ps to (units_of ps) (right_units ps)
-    ∙ ap (λ n. row ps n to (numbers (units_of ps))) (counted (unit_numbers ps) (calls_of ps) ps)
+marked ps blocks =
+    reaching_within ps blocks (units_of ps) (right_units ps)
+    ∙ ap (λ n. row ps n blocks (numbers (units_of ps))) (counted (unit_numbers ps) (calls_of ps) ps)
 
-processes : (ps : List Phrase) (to : ℕ) → processes_marked (units_of ps) (marks.reaching (units_of ps) to) ≡ processes_reaching ps to
+-- a list of one block
+one_reached : (ps : List Phrase) (to : ℕ) (ns : List ℕ) → map (reaches_any ps (to ∷ [])) ns ≡ map (λ k. reaches ps k to) ns
+one_reached ps to [] = refl
+one_reached ps to (n ∷ ns) = ap₂ (λ (x : Bool) (xs : List Bool). x ∷ xs) (or_false (reaches ps n to)) (one_reached ps to ns)
+
+processes : (ps : List Phrase) (to : ℕ) → processes_marked (units_of ps) (marks.reaching (units_of ps) (to ∷ [])) ≡ processes_reaching ps to
 unfolding units_of
 processes ps to =
-    ap (processes_marked (units_of ps)) (marked ps to)
+    ap (processes_marked (units_of ps)) (marked ps (to ∷ []) ∙ one_reached ps to (numbers (units_of ps)))
     ∙ chosen (unit_numbers ps) (calls_of ps) (λ k. reaches ps k to) ps
+
+-- the units themselves
+units_marked : (f : ℕ → Bool) (us : List marks.Unit) → numbers_marked us (map f (numbers us)) ≡ filter f (numbers us)
+unfolding numbers_marked
+units_marked f [] = refl
+units_marked f (u ∷ us) = ap (λ (ks : List ℕ). if f u.number then u.number ∷ ks else ks) (units_marked f us)
+
+pub all_reaching : (ps : List Phrase) (blocks : List ℕ) → numbers_marked (units_of ps) (marks.reaching (units_of ps) blocks) ≡ reaching ps blocks
+unfolding units_of reaching
+all_reaching ps blocks =
+    ap (numbers_marked (units_of ps)) (marked ps blocks)
+    ∙ units_marked (reaches_any ps blocks) (units_of ps)
+    ∙ ap (filter (reaches_any ps blocks)) (numbered (unit_numbers ps) (calls_of ps) ps)
 
 reached_with : ℕ → List ℕ → marks.Reached
 reached_with n ks = record { unit = n; processes = ks }

@@ -12,10 +12,10 @@ same (true ∷ xs) (false ∷ ys) is = search rules
 same (false ∷ xs) (true ∷ ys) is = search rules
 
 -- marks that a round doesn't change stay as they are
-pub stays : (n : ℕ) (units : List Unit) (to : ℕ) (marked : List Bool) → marked ≡ callers units to marked → rounds n units to marked ≡ marked
+pub stays : (n : ℕ) (units : List Unit) (blocks : List ℕ) (marked : List Bool) → marked ≡ callers units blocks marked → rounds n units blocks marked ≡ marked
 unfolding rounds
-stays zero units to marked is = refl
-stays (suc n) units to marked is = ap (rounds n units to) (sym is) ∙ stays n units to marked is
+stays zero units blocks marked is = refl
+stays (suc n) units blocks marked is = ap (rounds n units blocks) (sym is) ∙ stays n units blocks marked is
 
-pub stays_from : (n : ℕ) (units : List Unit) (to : ℕ) (marked : List Bool) → are_same marked (callers units to marked) ≡ true → rounds n units to marked ≡ marked
-stays_from n units to marked is = stays n units to marked (same marked (callers units to marked) is)
+pub stays_from : (n : ℕ) (units : List Unit) (blocks : List ℕ) (marked : List Bool) → are_same marked (callers units blocks marked) ≡ true → rounds n units blocks marked ≡ marked
+stays_from n units blocks marked is = stays n units blocks marked (same marked (callers units blocks marked) is)

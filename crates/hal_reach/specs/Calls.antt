@@ -1,12 +1,12 @@
 -- The calls of a set of files, its units, and the processes that reach each of them.
-use Rattle.std.specs.Prelude.{ℕ, Bool, ◌&&◌, List, map, Option, Some, None, slice_get, bytes_eq, filter_map, if◌then◌else◌}
+use Rattle.std.specs.Prelude.{ℕ, Bool, ◌&&◌, List, map, Option, Some, None, slice_get, bytes_eq, filter, filter_map, if◌then◌else◌}
 use Rattle.std.specs.Option.{option_and_then, option_map}
 use Rattle.std.specs.List.{list_any}
 use Rattle.hal_grammar.specs.Expressions.{Reference, Refers}
 use Rattle.hal_grammar.specs.Declarations.{Declared}
 use Rattle.hal_grammar.specs.Units.{Preface, Include, Templates}
 use Rattle.hal_phrases.specs.Phrases.{Phrase}
-use Rattle.hal_meaning.specs.Bodies.{declares, is_compool_head, pooled_at, meant, called_block, callee, is_process, is_unit, processes_reaching}
+use Rattle.hal_meaning.specs.Bodies.{declares, is_compool_head, pooled_at, meant, called_block, callee, is_process, is_unit, processes_reaching, reaches}
 use Rattle.hal_meaning.specs.Places.{unit_numbers}
 use Rattle.hal_reach.specs.declared.call.Call.{Call}
 use Rattle.hal_reach.specs.Marks as marks
@@ -57,6 +57,14 @@ units_among ns calls ps = filter_map (unit_among ns calls) ps
 -- the units of a set
 unfoldable pub units_of : List Phrase → List marks.Unit
 units_of ps = units_among (unit_numbers ps) (calls_of ps) ps
+
+-- whether a block reaches one of these by calls, or is one of them
+abbrev pub reaches_any : List Phrase → List ℕ → ℕ → Bool
+reaches_any ps blocks from = list_any (reaches ps from) blocks
+
+-- the units that do
+unfoldable pub reaching : List Phrase → List ℕ → List ℕ
+reaching ps blocks = filter (reaches_any ps blocks) (unit_numbers ps)
 
 -- a unit of a set and the processes that reach it
 abbrev pub reached : List Phrase → ℕ → marks.Reached

@@ -1,6 +1,7 @@
 -- Marks of units: which of them reach a block by so many calls.
-use Rattle.std.specs.Prelude.{ℕ, zero, suc, ◌==◌, Bool, true, false, ◌&&◌, ◌||◌, List, [], ◌∷◌, length, map, slice_get, unwrap_or, if◌then◌else◌}
+use Rattle.std.specs.Prelude.{ℕ, zero, suc, Bool, true, false, ◌&&◌, ◌||◌, List, [], ◌∷◌, length, map, slice_get, unwrap_or, if◌then◌else◌}
 use Rattle.std.specs.List.{list_any}
+use Rattle.hal_reach.specs.Places.{is_among}
 
 -- a unit: the number of its phrase, whether it is a process, and the places of those that it calls among the units
 pub record Unit : Type 0 where
@@ -17,22 +18,22 @@ pub record Reached : Type 0 where
 abbrev pub is_marked : List Bool → ℕ → Bool
 is_marked marked place = unwrap_or (slice_get marked place) false
 
--- the block with this number itself
-abbrev pub itself : List Unit → ℕ → List Bool
-itself units to = map (λ (u : Unit). u.number == to) units
+-- the units that are one of these blocks
+abbrev pub themselves : List Unit → List ℕ → List Bool
+themselves units blocks = map (λ (u : Unit). is_among blocks u.number) units
 
 -- the same, and the units that call one of those that are marked
-abbrev pub callers : List Unit → ℕ → List Bool → List Bool
-callers units to marked = map (λ (u : Unit). (u.number == to) || list_any (is_marked marked) u.callees) units
+abbrev pub callers : List Unit → List ℕ → List Bool → List Bool
+callers units blocks marked = map (λ (u : Unit). is_among blocks u.number || list_any (is_marked marked) u.callees) units
 
 -- that so many times
-unfoldable pub rounds : ℕ → List Unit → ℕ → List Bool → List Bool
-rounds zero units to marked = marked
-rounds (suc n) units to marked = rounds n units to (callers units to marked)
+unfoldable pub rounds : ℕ → List Unit → List ℕ → List Bool → List Bool
+rounds zero units blocks marked = marked
+rounds (suc n) units blocks marked = rounds n units blocks (callers units blocks marked)
 
 -- as many times as there are units
-abbrev pub reaching : List Unit → ℕ → List Bool
-reaching units to = rounds (length units) units to (itself units to)
+abbrev pub reaching : List Unit → List ℕ → List Bool
+reaching units blocks = rounds (length units) units blocks (themselves units blocks)
 
 abbrev pub same_mark : Bool → Bool → Bool
 same_mark true one = one
@@ -45,6 +46,12 @@ are_same (m ∷ ms) [] = false
 are_same [] (m ∷ ms) = false
 are_same (m ∷ ms) (n ∷ ns) = same_mark m n && are_same ms ns
 
+-- the units that are marked
+unfoldable pub numbers_marked : List Unit → List Bool → List ℕ
+numbers_marked [] marked = []
+numbers_marked (u ∷ us) [] = []
+numbers_marked (u ∷ us) (m ∷ ms) = if m then u.number ∷ numbers_marked us ms else numbers_marked us ms
+
 -- the processes among the units that are marked
 unfoldable pub processes_marked : List Unit → List Bool → List ℕ
 processes_marked [] marked = []
@@ -53,7 +60,7 @@ processes_marked (u ∷ us) (m ∷ ms) = if u.process && m then u.number ∷ pro
 
 -- each unit with the processes that reach it
 abbrev pub row : List Unit → Unit → Reached
-row units u = record { unit = u.number; processes = processes_marked units (reaching units u.number) }
+row units u = record { unit = u.number; processes = processes_marked units (reaching units (u.number ∷ [])) }
 
 unfoldable pub rows : List Unit → List Reached
 rows units = map (row units) units

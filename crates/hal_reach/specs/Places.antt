@@ -1,7 +1,12 @@
 -- The places of numbers in a list.
-use Rattle.std.specs.Prelude.{ℕ, suc, ◌==◌, List, [], ◌∷◌, Option, Some, None, filter_map, if◌then◌else◌}
+use Rattle.std.specs.Prelude.{ℕ, suc, ◌==◌, Bool, List, [], ◌∷◌, Option, Some, None, filter_map, if◌then◌else◌}
 use Rattle.std.specs.Option.{option_map}
+use Rattle.std.specs.List.{list_any}
 use Rattle.hal_reach.specs.declared.call.Call.{Call}
+
+-- whether one of them is this number
+abbrev pub is_among : List ℕ → ℕ → Bool
+is_among ns k = list_any (λ n. n == k) ns
 
 -- the place of the first that is this number
 unfoldable pub place_among : List ℕ → ℕ → Option ℕ

@@ -1,10 +1,11 @@
-//! Marks of units, one beside the other: which of them reach a block by so many calls.
+//! Marks of units, one beside the other: which of them reach one of some blocks by so many calls.
 
 ghost use Rattle.std.specs.Prelude.{◌≡◌, IfOk, map};
 ghost use Rattle.std.specs.List.{list_any};
 ghost use Rattle.hal_reach.specs.Marks as marks;
 ghost use Rattle.hal_reach.specs.SeenUnits.{seen_unit};
 
+use crate::places::is_among;
 use crate::unit::Unit;
 use std::alloc::{AllocError, Global};
 
@@ -30,13 +31,13 @@ fn is_any_marked(marked: &[bool], places: &[usize]) -> bool
     false
 }
 
-/// The block with this number itself.
-fn itself(alloc: Global, units: &[Unit], to: usize) -> Result<Vec<bool>, AllocError>
-    ensures { IfOk result (λ marked. marked.items ≡ marks.itself (map seen_unit units.now) to) }
+/// Which of the units are one of these blocks.
+fn themselves(alloc: Global, units: &[Unit], blocks: &[usize]) -> Result<Vec<bool>, AllocError>
+    ensures { IfOk result (λ marked. marked.items ≡ marks.themselves (map seen_unit units.now) blocks.now) }
 {
     let mut marked = Vec::new(alloc);
     for unit in units {
-        marked.push(unit.number == to)?;
+        marked.push(is_among(blocks, unit.number))?;
     }
     Ok(marked)
 }
@@ -45,14 +46,14 @@ fn itself(alloc: Global, units: &[Unit], to: usize) -> Result<Vec<bool>, AllocEr
 fn callers(
     alloc: Global,
     units: &[Unit],
-    to: usize,
+    blocks: &[usize],
     marked: &[bool],
 ) -> Result<Vec<bool>, AllocError>
-    ensures { IfOk result (λ more. more.items ≡ marks.callers (map seen_unit units.now) to marked.now) }
+    ensures { IfOk result (λ more. more.items ≡ marks.callers (map seen_unit units.now) blocks.now marked.now) }
 {
     let mut more = Vec::new(alloc);
     for unit in units {
-        more.push(unit.number == to || is_any_marked(marked, &unit.callees))?;
+        more.push(is_among(blocks, unit.number) || is_any_marked(marked, &unit.callees))?;
     }
     Ok(more)
 }
@@ -76,15 +77,19 @@ fn are_same(one: &[bool], other: &[bool]) -> bool
     others.is_empty()
 }
 
-/// The units that reach the block with this number by as many calls as there are units.
+/// The units that reach one of these blocks by as many calls as there are units.
 #[tactic(auto, using(crate::proofs::Rounds::stays_from), unfolding(crate::specs::Marks::rounds))]
-pub(crate) fn reaching(alloc: Global, units: &[Unit], to: usize) -> Result<Vec<bool>, AllocError>
-    ensures { IfOk result (λ marked. marked.items ≡ marks.reaching (map seen_unit units.now) to) }
+pub(crate) fn reaching(
+    alloc: Global,
+    units: &[Unit],
+    blocks: &[usize],
+) -> Result<Vec<bool>, AllocError>
+    ensures { IfOk result (λ marked. marked.items ≡ marks.reaching (map seen_unit units.now) blocks.now) }
 {
-    let mut marked = itself(alloc, units, to)?;
+    let mut marked = themselves(alloc, units, blocks)?;
     let mut left = units.len();
     while let Some(fewer) = left.checked_sub(1) {
-        let more = callers(alloc, units, to, &marked)?;
+        let more = callers(alloc, units, blocks, &marked)?;
         if are_same(&marked, &more) {
             return Ok(marked);
         }

@@ -1,10 +1,17 @@
-//! The places of numbers in lists.
+//! Numbers in lists, and their places.
 
 ghost use Rattle.std.specs.Prelude.{◌≡◌, IfOk};
 ghost use Rattle.hal_reach.specs.Places as places;
 
 use crate::call::Call;
 use std::alloc::{AllocError, Global};
+
+/// Whether this is one of these numbers.
+pub fn is_among(numbers: &[usize], number: usize) -> bool
+    ensures { result ≡ places.is_among numbers.now number }
+{
+    numbers.contains(&number)
+}
 
 /// The place of the first of these numbers that is this one, from 0.
 #[tactic(auto, using(crate::proofs::Within::further), unfolding(crate::specs::Places::place_among))]

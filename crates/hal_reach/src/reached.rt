@@ -11,6 +11,7 @@ use crate::unit::{Reached, Unit};
 use crate::units::units_of;
 use hal_names::Names;
 use std::alloc::{AllocError, Global};
+use std::slice::from_ref;
 
 /// The processes among the units that are marked.
 #[tactic(auto, unfolding(crate::specs::Marks::processes_marked))]
@@ -44,7 +45,7 @@ fn rows(alloc: Global, units: &[Unit]) -> Result<Vec<Reached>, AllocError>
 {
     let mut rows = Vec::new(alloc);
     for unit in units {
-        let marked = reaching(alloc, units, unit.number)?;
+        let marked = reaching(alloc, units, from_ref(&unit.number))?;
         let processes = processes_marked(alloc, units, &marked)?;
         rows.push(Reached {
             unit: unit.number,

@@ -5,3 +5,4 @@ pub mod LeftNames
 pub mod PassedRests
 pub mod Ranges
 pub mod Reports
+mod Sizes

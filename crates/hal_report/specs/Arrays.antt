@@ -1,5 +1,5 @@
 -- Report names whose elements can be numbered.
-use Rattle.std.specs.Prelude.{ℕ, ◌≤◌, List, [], ◌∷◌, All}
+use Rattle.std.specs.Prelude.{ℕ, ◌≤◌, List, All}
 use Rattle.hal_values.specs.declared.tables.ReportName.{ReportName}
 use Rattle.hal_values.specs.ReportElements.{size_of}
 
@@ -7,10 +7,9 @@ use Rattle.hal_values.specs.ReportElements.{size_of}
 abbrev pub element_limit : ℕ
 element_limit = 4294967295
 
--- an array of these dimensions keeps the limit, and so does each part of it that its last dimensions make
+-- an array of these dimensions keeps the limit
 abbrev pub IsArray : List ℕ → Type 0
-IsArray [] = Unit {0}
-IsArray (dimension ∷ dimensions) = (size_of (dimension ∷ dimensions) ≤ element_limit) × IsArray dimensions
+IsArray dimensions = size_of dimensions ≤ element_limit
 
 -- each name is that of such an array
 abbrev pub AreArrays : List ReportName → Type 0

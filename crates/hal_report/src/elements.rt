@@ -11,7 +11,7 @@ use std::marker::Model;
 
 /// An element that the report shows: what its line calls it, where it lies, and its number there.
 #[derive(Drop)]
-pub(crate) struct Shown {
+pub struct Shown {
     pub(crate) label: Listing<u8>,
     pub(crate) base: ReportBase,
     pub(crate) number: usize,
@@ -25,18 +25,44 @@ impl Model for Shown {
     ghost view = { λ shown. record { label = shown.label; base = shown.base; number = shown.number } };
 }
 
+impl Shown {
+    ghost use Rattle.std.specs.Prelude.{◌≡◌};
+
+    /// Where it lies.
+    pub fn base(&self) -> ReportBase
+        ensures { result ≡ self.now.base }
+    {
+        self.base
+    }
+
+    /// Its number there.
+    pub fn number(&self) -> usize
+        ensures { result ≡ self.now.number }
+    {
+        self.number
+    }
+}
+
 /// How many elements an array of these dimensions has.
+#[tactic(auto, using(crate::proofs::Sizes::rest_is))]
 fn size_of(dimensions: &[u32]) -> u32
     requires { IsArray dimensions.now }
     ensures { result ≡ size_of dimensions.now }
 {
     match dimensions {
         [] => 1,
-        [dimension, others @ ..] => *dimension * size_of(others),
+        [dimension, others @ ..] => {
+            if *dimension > 0 {
+                *dimension * size_of(others)
+            } else {
+                0
+            }
+        }
     }
 }
 
 /// Adds the places of the element of this number, counted from 1.
+#[tactic(auto, using(crate::proofs::Sizes::rest_there, crate::proofs::Sizes::some_there))]
 fn add_places(found: &mut Vec<u32>, dimensions: &[u32], number: u32) -> Result<(), AllocError>
     requires array { IsArray dimensions.now }
     requires within { number < size_of dimensions.now }
@@ -228,7 +254,7 @@ fn structure_rest(head: &ReportName, names: &[ReportName]) -> usize
 }
 
 /// The elements that these names give, in their order.
-pub(crate) fn elements_of(alloc: Global, names: &[ReportName]) -> Result<Vec<Shown>, AllocError>
+pub fn elements_of(alloc: Global, names: &[ReportName]) -> Result<Vec<Shown>, AllocError>
     requires { AreArrays names.now }
     ensures { IfOk result (λ shown. shown.items ≡ elements_in (length names.now) names.now) }
 {

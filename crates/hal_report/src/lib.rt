@@ -7,4 +7,5 @@ mod report;
 mod values;
 
 pub use draining::drain;
+pub use elements::{Shown, elements_of};
 pub use report::report_text;

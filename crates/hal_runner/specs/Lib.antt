@@ -1,4 +1,3 @@
-pub mod Fits
 pub mod Copying
 pub mod Replies
 pub mod Ways

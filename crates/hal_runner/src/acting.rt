@@ -3,7 +3,7 @@
 ghost use Rattle.std.specs.Prelude.{◌<◌, ◌-◌, ◌^◌};
 ghost use Rattle.hal_code.specs.Machine.{act};
 ghost use Rattle.hal_machine.specs.Seen.{core_seen, setting_seen, Does};
-ghost use Rattle.hal_runner.specs.Fits.{Fits};
+ghost use Rattle.hal_right_values.specs.Finding.{Fits};
 
 use crate::choosing::{Handler, on, one, patch, pick, two};
 use crate::clearing::clear;

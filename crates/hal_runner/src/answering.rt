@@ -9,7 +9,7 @@ ghost use Rattle.hal_code.specs.Cores.{with_mode};
 ghost use Rattle.hal_code.specs.Images.{kinds_of};
 ghost use Rattle.hal_code.specs.Machine.{begun, tried_by, taken_by, given, after_answer};
 ghost use Rattle.hal_machine.specs.Seen.{core_seen, setting_seen, spot_seen, step_seen, wait_seen, Does};
-ghost use Rattle.hal_runner.specs.Fits.{CopiesFit};
+ghost use Rattle.hal_right_values.specs.Finding.{CopiesFit};
 ghost use Rattle.hal_runner.specs.Replies.{reply_seen};
 ghost use Rattle.hal_runner.specs.Ways.{AnswerFits, ShapesFit};
 
@@ -117,6 +117,7 @@ fn copied(
     place: u32,
 ) -> Stepped
     requires shapes { ShapesFit setting.now.image.now }
+    requires place { suc place < 2 ^ 32 }
     requires fits { CopiesFit (length (drop done (kinds_of setting.now.image.now shape))) (spot_seen from) (suc place) }
     ensures { step_seen setting.now.image.now result machine.new ≡ copied (setting_seen setting.now) (drop done (kinds_of setting.now.image.now shape)) (spot_seen from) (suc place) (placed place one (core_seen machine.old)) }
 {

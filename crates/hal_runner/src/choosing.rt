@@ -3,9 +3,8 @@
 ghost use Rattle.std.specs.Prelude.{◌<◌, ◌-◌, ◌^◌};
 ghost use Rattle.hal_code.specs.Computing.{act_one, act_two, act_pick, act_patch};
 ghost use Rattle.hal_code.specs.Controlling.{act_on};
-ghost use Rattle.hal_machine.specs.Fitting.{OneFits, TwoFits, PickFits, PatchFits};
+ghost use Rattle.hal_right_values.specs.Fitting.{OneFits, TwoFits, PickFits, PatchFits, ChosenFits};
 ghost use Rattle.hal_machine.specs.Seen.{core_seen, stack_seen, setting_seen, Does};
-ghost use Rattle.hal_runner.specs.Fits.{ChosenFits};
 
 use hal_code::{Choice, EventChange, Places, Response};
 use hal_machine::{Machine, Setting, Stepped, act_of, selector_of, side_of};

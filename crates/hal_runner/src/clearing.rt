@@ -3,7 +3,7 @@
 ghost use Rattle.std.specs.Prelude.{◌≡◌, ◌≤◌, ◌<◌, ◌+◌, ◌-◌, ◌^◌, length, map};
 ghost use Rattle.hal_code.specs.Addressing.{cleared, act_clear};
 ghost use Rattle.hal_machine.specs.Seen.{held_seen, core_seen, setting_seen, step_seen};
-ghost use Rattle.hal_runner.specs.Fits.{ClearFits};
+ghost use Rattle.hal_right_values.specs.Finding.{ClearFits};
 
 use hal_machine::{Held, Machine, Setting, Stepped};
 

@@ -7,11 +7,15 @@ mod choosing;
 mod clearing;
 mod copying;
 mod loading;
+mod machines;
 mod moving;
 mod naming;
 mod reply;
+mod requests;
 mod runner;
 
-pub use loading::Loaded;
+pub use loading::{Loaded, cells_of};
+pub use machines::{values_of, writes_of};
 pub use reply::Reply;
+pub use requests::request_of;
 pub use runner::Runner;

@@ -3,6 +3,7 @@
 ghost use Rattle.std.specs.Prelude.{◌≡◌, ◌<◌, ◌-◌, ◌^◌, [], ◌∷◌, ◌++◌, List, slice_get, map, IfOk, OnOk};
 ghost use Rattle.hal_values.specs.Answers.{Answered};
 ghost use Rattle.hal_states.specs.Spots.{held_in};
+ghost use Rattle.hal_code.specs.declared.image.ImageParts.{ImageParts};
 ghost use Rattle.hal_code.specs.Courses.{settled, course};
 ghost use Rattle.hal_code.specs.Machine.{after_answer};
 ghost use Rattle.hal_machine.specs.Seen.{core_seen, setting_seen, held_seen, wait_seen};
@@ -11,11 +12,12 @@ ghost use Rattle.hal_runner.specs.Runners.{asked_seen};
 ghost use Rattle.hal_runner.specs.Ways.{AnswerFits, ShapesFit, WayFits};
 
 use crate::answering::answered;
-use crate::clearing::copy_of;
 use crate::copying::held_in;
+use crate::machines::{machine_of, places_of};
 use crate::moving::settle;
 use crate::reply::Reply;
-use hal_machine::{Held, Machine, Operands, Rest, Setting, Wait};
+use crate::requests::{request_of, wait_of};
+use hal_machine::{Machine, Operands, Rest, Setting, Wait};
 use hal_values::{ErrNo, Request, Value};
 use std::alloc::{AllocError, Global};
 
@@ -33,24 +35,13 @@ pub struct Runner {
     wait: Wait,
 }
 
-/// What own places hold at first, once more.
-fn copies_of(alloc: Global, firsts: &[Held]) -> Result<Vec<Held>, AllocError>
-    ensures { IfOk result (λ places. map held_seen places.items ≡ map held_seen firsts.now) }
-{
-    let mut places = Vec::new(alloc);
-    for first in firsts {
-        places.push(copy_of(first))?;
-    }
-    Ok(places)
-}
-
 impl Runner {
     /// A process before any answer.
     pub fn start(setting: &Setting<'_>) -> Result<Runner, AllocError>
         requires { setting.now.begin < 2 ^ 64 - 1 }
         ensures { IfOk result (λ runner. asked_seen setting.now.image.now runner ≡ course (setting_seen setting.now) []) }
     {
-        let places = copies_of(setting.alloc, setting.firsts)?;
+        let places = places_of(setting.alloc, setting.firsts)?;
         let machine = Machine {
             at: setting.begin + 1,
             operands: Operands::new(setting.alloc),
@@ -71,6 +62,17 @@ impl Runner {
         })
     }
 
+    /// The same process once more.
+    pub fn copy(&self, alloc: Global) -> Result<Runner, AllocError>
+        ensures { IfOk result (λ copy. (image : ImageParts) → asked_seen image copy ≡ asked_seen image self.now) }
+    {
+        Ok(Runner {
+            machine: machine_of(alloc, &self.machine)?,
+            request: request_of(&self.request),
+            wait: wait_of(&self.wait),
+        })
+    }
+
     /// What the process asks.
     pub fn request(&self) -> &Request
         ensures { result.now ≡ self.now.request }
@@ -79,10 +81,10 @@ impl Runner {
     }
 
     /// The value that an own place of the process holds.
-    pub fn own(&self, number: u32) -> Value
+    pub fn own(&self, number: usize) -> Value
         ensures { result ≡ held_in (slice_get (core_seen self.now.machine).kept.places number) }
     {
-        held_in(&self.machine, number as usize)
+        held_in(&self.machine, number)
     }
 
     /// What the UPDATE block that was entered last wrote, in order.

@@ -44,8 +44,12 @@ told-heard unit heards zero answer.Opened one there of fit = absurd fit
 told-heard unit heards zero answer.Closed one there of fit = absurd fit
 told-heard unit heards zero answer.Killed one there of fit = told_one unit heards one Killed (of Killed refl) fit
 
+-- a single variable is an array of one element
+single : IsArray []
+single = omega arith
+
 -- the report names of a unit are those of single variables
 pub report_names-arrays : (unit : List ℕ) (cell : ℕ) (declarations : List Declaration) → AreArrays (report_names unit cell declarations)
 report_names-arrays unit cell [] = All-nil _
 report_names-arrays unit cell (declaration ∷ declarations) =
-    All-cons (λ (named : ReportName). IsArray named.dimensions) (report_name unit cell declaration.name) (report_names unit (suc cell) declarations) tt (report_names-arrays unit (suc cell) declarations)
+    All-cons (λ (named : ReportName). IsArray named.dimensions) (report_name unit cell declaration.name) (report_names unit (suc cell) declarations) single (report_names-arrays unit (suc cell) declarations)

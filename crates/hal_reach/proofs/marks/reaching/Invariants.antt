@@ -4,7 +4,7 @@ use Rattle.hal_reach.specs.SeenUnits.{seen_unit}
 use Rattle.hal_reach.proofs.marks.reaching.Given as goal
 
 abbrev pub invariant-loop-fewer : goal.invariant-loop-fewer
-invariant-loop-fewer l = rounds l.left (map seen_unit l.units) l.to l.marked.items ≡ reaching (map seen_unit l.units) l.to
+invariant-loop-fewer l = rounds l.left (map seen_unit l.units) l.blocks l.marked.items ≡ reaching (map seen_unit l.units) l.blocks
 
 abbrev pub decreases-loop-fewer : goal.decreases-loop-fewer
 decreases-loop-fewer l = l.left

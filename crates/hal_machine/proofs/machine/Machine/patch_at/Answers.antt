@@ -1,6 +1,6 @@
 use Rattle.std.proofs.Common.{drop, Option, sym, subst, ap, ◌∙◌}
 use Rattle.hal_values.specs.declared.value.Value.{Value}
-use Rattle.hal_machine.specs.Fitting.{AreTaken, value_on}
+use Rattle.hal_right_values.specs.Fitting.{AreTaken, value_on}
 use Rattle.hal_machine.specs.Seen.{stack_seen}
 use Rattle.hal_machine.proofs.TakenTops.{drop_drop}
 use Rattle.hal_machine.proofs.machine.Machine.patch_at.Goals as goal

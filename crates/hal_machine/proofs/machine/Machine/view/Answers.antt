@@ -1,7 +1,8 @@
 use Rattle.std.proofs.Common.{sym, subst, ap, ◌∙◌}
 use Rattle.hal_code.specs.Cores.{Step}
 use Rattle.hal_machine.specs.Seen.{core_seen, stack_seen, setting_seen, Does}
-use Rattle.hal_machine.specs.Spreading.{pointed_at, spread}
+use Rattle.hal_machine.specs.Spreading.{pointed_at}
+use Rattle.hal_right_values.specs.Spreading.{spread}
 use Rattle.hal_machine.proofs.Spreads.{saturated_same, viewed_spread}
 use Rattle.hal_machine.proofs.machine.Machine.view.Goals as goal
 

@@ -1,0 +1,39 @@
+-- What each site of the program is.
+use Rattle.std.specs.Prelude.{◌≡◌, ◌≤◌, ◌+◌, ◌==◌, ℕ, List, Option, length, map}
+use Rattle.std.specs.List.{position}
+use Rattle.std.specs.Borrow.{Bor}
+use Rattle.hal_own_places.specs.declared.place.Place as rust-place
+use Rattle.hal_own_places.specs.SeenPlaces.{seen_place}
+use Rattle.hal_meaning.specs.Bodies.{processes_of}
+use Rattle.hal_meaning.specs.Events.{declared_events}
+use Rattle.hal_meaning.specs.Places.{Place}
+use Rattle.hal_referents.specs.FirstCells.{AreFirstCells}
+use Rattle.hal_referents.specs.Referents.{referents}
+use Rattle.hal_referents.specs.SeenReferents.{seen_referent}
+use Rattle.hal_set.specs.SeenSets.{seen_set}
+use Rattle.hal_agreement.specs.Sites.{Site}
+use Rattle.hal_gen_expr.specs.Numbering.{Numbering, numbering}
+use Rattle.hal_gen_expr.specs.declared.site.Site as rust-site
+
+-- a place that is lent
+abbrev pub lent_place : Bor rust-place.Place → Place
+lent_place p = seen_place p.now
+
+-- the first of places that are lent which belongs to the phrase with this number
+abbrev pub lent_place_in : List (Bor rust-place.Place) → ℕ → Option ℕ
+lent_place_in places owner = position (λ (p : Bor rust-place.Place). p.now.owner == owner) places
+
+unfoldable pub seen_site : rust-site.Site → Site
+seen_site s = record { set = seen_set s.set.now; places = map lent_place s.places.now; unit = s.unit; block = s.block; marks = s.marks.now }
+
+-- no unit is called yet
+unfoldable pub seen_numbering : rust-site.Site → Numbering
+seen_numbering s = numbering s.views.now
+
+-- what is looked up is that of the set
+pub record IsSite (s : rust-site.Site) : Type 0 where
+  pub listed : map seen_referent s.referents.now ≡ referents (seen_set s.set.now).phrases (seen_set s.set.now).constants
+  pub processes : s.events.processes.now ≡ processes_of (seen_set s.set.now).phrases
+  pub declared : s.events.declared.now ≡ declared_events (seen_set s.set.now).phrases
+  pub few : length s.events.processes.now + length s.events.declared.now ≤ 65535
+  pub counted : AreFirstCells (seen_set s.set.now).phrases (seen_set s.set.now).constants s.cells.now

@@ -1,0 +1,35 @@
+//! Where phrases stand.
+
+use hal_code::View;
+use hal_own_places::Place;
+use hal_referents::{FirstCells, Referent};
+use hal_set::Set;
+use std::alloc::Global;
+
+/// The phrases that declare events, by their numbers.
+#[derive(Clone, Copy)]
+pub struct Events<'a> {
+    pub processes: &'a [usize],
+    pub declared: &'a [usize],
+}
+
+/// Where phrases stand, as far as their code goes by it.
+#[derive(Clone, Copy)]
+pub struct Site<'a> {
+    pub alloc: Global,
+    pub set: &'a Set<'a>,
+    /// What each phrase of the set declares.
+    pub referents: &'a [Referent],
+    pub cells: &'a FirstCells,
+    pub events: Events<'a>,
+    /// The own places of the process.
+    pub places: &'a [&'a Place],
+    /// The unit, by the number of its phrase.
+    pub unit: usize,
+    /// The block in which names are looked up.
+    pub block: usize,
+    /// The phrases of the unit that are looked up.
+    pub marks: &'a [usize],
+    /// The views, in the order of their numbers.
+    pub views: &'a [View],
+}

@@ -1,0 +1,5 @@
+pub mod Updates
+pub mod Naming
+pub mod Shared
+pub mod Groups
+pub mod SeenShared

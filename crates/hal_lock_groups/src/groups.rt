@@ -1,0 +1,93 @@
+//! The lock groups of an UPDATE block.
+
+ghost use Rattle.std.specs.Prelude.{◌≡◌};
+ghost use Rattle.hal_phrases.specs.SeenPhrases.{seen_phrase};
+ghost use Rattle.hal_names.specs.SeenNames.{seen_names};
+ghost use Rattle.hal_cells.specs.SeenStoring.{seen_storing};
+ghost use Rattle.hal_meaning.specs.LockGroups as locks;
+ghost use Rattle.hal_lock_groups.specs.Groups as groups;
+ghost use Rattle.hal_lock_groups.specs.SeenShared.{seen_shared};
+
+use crate::naming::storing_named;
+use crate::shared::{Shared, calls_one};
+use hal_cells::Storing;
+use hal_names::Names;
+use hal_phrases::Phrase;
+
+/// The bit of a lock group, 0 where there is no such group.
+#[tactic(auto, using(crate::proofs::Bits::one_bit))]
+fn bit_of(group: u8) -> u16
+    ensures { result ≡ groups.bit_of group }
+{
+    if group < 16 { 1u16 << group } else { 0 }
+}
+
+/// The bit of the group of data that are stored so, that of group 0 for an ASSIGN parameter.
+fn bit_stored(storing: Storing) -> u16
+    ensures { result ≡ groups.bit_stored (seen_storing storing) }
+{
+    match storing {
+        Storing::InCells(group) => bit_of(group),
+        Storing::ByReference => 1,
+        Storing::InPlaces | Storing::Unstored => 0,
+    }
+}
+
+/// The bits of the groups that a phrase uses: that of the data that it names, and that of group 0 where it calls a unit that uses it.
+fn bits_at(names: &Names<'_>, shared: &Shared, phrase: &Phrase<'_>) -> u16
+    ensures { result ≡ groups.bits_at (seen_names names.now) (seen_shared shared.now) (seen_phrase phrase.now) }
+{
+    let bit = bit_stored(storing_named(names, &shared.storings, phrase));
+    if calls_one(names, &shared.plain, phrase) {
+        bit | 1
+    } else {
+        bit
+    }
+}
+
+/// Whether the UPDATE block around a phrase, where there is one, is that with this number.
+fn is_this(around: Option<usize>, update: usize) -> bool
+    ensures { result ≡ groups.is_this around update }
+{
+    match around {
+        None => false,
+        Some(number) => number == update,
+    }
+}
+
+/// Whether a phrase stands in the UPDATE block with this number.
+fn is_inside(update: usize, phrase: &Phrase<'_>) -> bool
+    ensures { result ≡ locks.is_inside update (seen_phrase phrase.now) }
+{
+    is_this(phrase.around.update, update)
+}
+
+/// Bits, and those of the groups that a phrase uses where it stands in the UPDATE block with this number.
+fn with_bits(
+    names: &Names<'_>,
+    shared: &Shared,
+    update: usize,
+    bits: u16,
+    phrase: &Phrase<'_>,
+) -> u16
+    ensures { result ≡ groups.with_bits (seen_names names.now) (seen_shared shared.now) update bits (seen_phrase phrase.now) }
+{
+    if is_inside(update, phrase) {
+        bits | bits_at(names, shared, phrase)
+    } else {
+        bits
+    }
+}
+
+/// The bits of the lock groups of the UPDATE block with this number, by what is shared in the set.
+#[tactic(auto, unfolding(crate::specs::Groups::with_all_bits))]
+pub(crate) fn bits_in(names: &Names<'_>, shared: &Shared, update: usize) -> u16
+    ensures { result ≡ groups.bits_in (seen_names names.now) (seen_shared shared.now) update }
+{
+    let mut bits = 0;
+    let phrases = names.phrases();
+    for phrase in phrases {
+        bits = with_bits(names, shared, update, bits, phrase);
+    }
+    bits
+}

@@ -1,0 +1,12 @@
+//! The lock groups that the UPDATE blocks of a set of files use.
+#![tactic(auto)]
+
+mod block;
+mod blocks;
+mod groups;
+mod naming;
+mod plain;
+mod shared;
+
+pub use block::UpdateGroups;
+pub use blocks::{groups_of, update_groups};

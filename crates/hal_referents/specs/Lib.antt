@@ -1,0 +1,3 @@
+pub mod FirstCells
+pub mod Referents
+pub mod SeenReferents

@@ -1,0 +1,2 @@
+pub mod Turnless
+pub mod Ways

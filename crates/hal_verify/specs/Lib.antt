@@ -1,0 +1,14 @@
+pub mod Cursors
+pub mod Holding
+pub mod Limits
+pub mod Marking
+pub mod Naming
+pub mod Noting
+pub mod Placed
+pub mod Placing
+pub mod Rooms
+pub mod SeenBodies
+pub mod SeenSorts
+pub mod Starts
+pub mod Stepping
+pub mod Viewing

@@ -1,0 +1,7 @@
+mod Walks
+mod Filtered
+mod FittingLists
+mod Standing
+mod Arrays
+mod Looking
+mod Placing

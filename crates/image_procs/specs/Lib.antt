@@ -1,0 +1,5 @@
+pub mod Loads
+pub mod Tellings
+pub mod Owning
+pub mod Courses
+pub mod Running
