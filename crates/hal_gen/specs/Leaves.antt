@@ -1,11 +1,12 @@
 -- The code of statements without parts, and of the parts of statements that are no expressions: None where there is none yet.
 use Rattle.std.specs.Prelude.{ℕ, zero, suc, nat_lt, length, Bool, true, false, List, [], ◌∷◌, ◌++◌, Option, Some, None, if◌then◌else◌}
 use Rattle.std.specs.Option.{option_map, option_and_then}
-use Rattle.hal_grammar.specs.Leaves.{Naming, Integer}
+use Rattle.hal_grammar.specs.Leaves.{Naming, LiteralValue, Integer}
+use Rattle.hal_grammar.specs.Declarations as declarations
 use Rattle.hal_grammar.specs.Declarations.{CharacterKind}
 use Rattle.hal_grammar.specs.Expressions.{Expression, Literal, Decimal, Reference, Refers, Unsubscripted}
 use Rattle.hal_grammar.specs.Statements.{Selector, EveryError, GroupErrors, OneError, Eventful, EventAction, Signal, Set, Reset, Response}
-use Rattle.hal_grammar.specs.Units.{Head, Function, HasKind}
+use Rattle.hal_grammar.specs.Units.{Head, Function, Returns, NoKind, HasKind}
 use Rattle.hal_operations.specs.declared.operation.Op1.TheVariants as op1
 use Rattle.hal_values.specs.Tables.{process_count}
 use Rattle.hal_values.specs.declared.value.Kind.{Kind}
@@ -49,8 +50,12 @@ abbrev pub kind_of_receiver : Site → Reference → Kind
 kind_of_receiver site (Refers place name path subscript) = kind_referred path (referent site name)
 
 -- a channel that is written as an integer
+abbrev pub channel_in : LiteralValue → Option ℕ
+channel_in (Integer number) = below 256 number
+channel_in other = None
+
 abbrev pub channel_of : Expression → Option ℕ
-channel_of (Literal place (Integer number)) = below 256 number
+channel_of (Literal place literal) = channel_in literal
 channel_of other = None
 
 -- RETURN without a value
@@ -60,8 +65,16 @@ return_of ByReturn = Some (instr.Return ∷ [])
 return_of other = None
 
 -- RETURN behind a value, which becomes what the FUNCTION's type has it
+abbrev pub is_text : declarations.Kind → Bool
+is_text (CharacterKind at size) = true
+is_text other = false
+
+abbrev pub returns_text : Returns → Bool
+returns_text NoKind = false
+returns_text (HasKind kind precision) = is_text kind
+
 abbrev pub gives_text : Head → Bool
-gives_text (Function place inputs (HasKind (CharacterKind at size) precision) mode) = true
+gives_text (Function place inputs returns mode) = returns_text returns
 gives_text other = false
 
 abbrev pub text_result : Bool → List Instr
@@ -81,9 +94,12 @@ abbrev pub event_change_of : Site → Eventful → Option (List Instr)
 event_change_of site e = option_map (λ number. changes e.action number ∷ []) (below 65536 (event_named site.set.phrases site.block e.name.name))
 
 -- a pause whose time is written as a decimal
+abbrev pub decimal_of : Expression → Option ℕ
+decimal_of (Decimal place number) = Some number
+decimal_of other = None
+
 abbrev pub pause_of : (Time → Delay) → Expression → Option (List Instr)
-pause_of delays (Decimal place number) = Some (instr.Wait (delays (time.Milliseconds number)) ∷ [])
-pause_of delays other = None
+pause_of delays tree = option_map (λ number. instr.Wait (delays (time.Milliseconds number)) ∷ []) (decimal_of tree)
 
 -- a pause until an event expression of the set is TRUE
 abbrev pub event_pause_of : Site → List ℕ → Option (List Instr)

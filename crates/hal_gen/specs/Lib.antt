@@ -1,3 +1,12 @@
 pub mod Leaves
 pub mod Sizes
 pub mod StatementCode
+pub mod Leading
+pub mod SeenExits
+pub mod SeenLocks
+pub mod Sums
+pub mod Returning
+pub mod Storing
+pub mod Channels
+pub mod Pausing
+pub mod Asking

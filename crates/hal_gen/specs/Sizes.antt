@@ -56,6 +56,11 @@ abbrev pub listed_size : Option (List Naming) → ℕ
 listed_size None = 0
 listed_size (Some names) = length names
 
+-- RETURN, behind a value if it has one
+abbrev pub return_size : Numbering → Site → Option Expression → ℕ
+return_size n site None = 1
+return_size n site (Some tree) = expression_size n site tree + (length (as_result (body_at site.set site.unit)) + 1)
+
 -- CALL of what a name refers to
 abbrev pub call_size : Numbering → Site → Expressions → Place → Referent → ℕ
 call_size n site arguments place (BlockOf unit) = length_of (behind_arguments place (arguments_code n site [] place unit (inputs_at site.set unit) arguments) (call_of n site false unit))
@@ -73,8 +78,7 @@ abbrev mutual
   basic_size n site (DoLoop place g group) = (first_test_size n site g + 1) + (group_size n site group + test_size n site g)
   basic_size n site (Exit place label) = 1
   basic_size n site (Repeat place label) = 1
-  basic_size n site (Return place None) = 1
-  basic_size n site (Return place (Some tree)) = expression_size n site tree + (length (as_result (body_at site.set site.unit)) + 1)
+  basic_size n site (Return place value) = return_size n site value
   basic_size n site (Call place name arguments receivers) = call_size n site arguments place (referent site name.name)
   basic_size n site (Read place channel receivers) = reads_size receivers
   basic_size n site (Write place channel items) = items_size n site items + 1

@@ -1,6 +1,23 @@
 //! The code of statements: which instructions stand for each of them, with their targets, and that they do.
 #![tactic(auto)]
 
+mod channels;
+mod errors;
+mod events;
+mod exits;
+mod groups;
 mod laws;
+mod locks;
+mod marks;
+mod real_time;
+mod receivers;
+mod returns;
+mod sizes;
+mod statements;
 
+pub use exits::{Exits, Leaving, Opened};
 pub use laws::the_code_of_statements_stands_for_them;
+pub use locks::Locks;
+pub use marks::after_statement;
+pub use sizes::{statement_size, statements_size};
+pub use statements::{emit_statement, emit_statements};

@@ -18,7 +18,7 @@ use Rattle.hal_code.specs.declared.instr.Instr.{Instr}
 use Rattle.hal_agreement.specs.PlacedExpressions.{two, stay}
 use Rattle.hal_agreement.specs.Sites.{Site}
 use Rattle.hal_gen_expr.specs.Emitting.{Emitted, onwards, emit, length_of}
-use Rattle.hal_gen_expr.specs.ExpressionCode.{literal_instr, exponent_instr, power_of, behind_arguments, emit_one, one, sign_code, reference_code, called_code, expression_code, folded_code, terms_code, built_code, arguments_code}
+use Rattle.hal_gen_expr.specs.ExpressionCode.{where_they_stay, literal_instr, exponent_instr, power_of, behind_arguments, emit_one, one, sign_code, reference_code, called_code, expression_code, folded_code, terms_code, built_code, arguments_code}
 use Rattle.hal_gen_expr.specs.Leaves.{value_of, call_of}
 use Rattle.hal_gen_expr.specs.Numbering.{Numbering}
 use Rattle.hal_referents.specs.Referents.{Referent, DataOf, ConstantOf, EventOf, BlockOf, BuiltinOf, Unmeant}
@@ -53,6 +53,10 @@ call_behind None front r there place is = refl
 call_behind (Some js) front r there place is = onwards_behind front r there (λ middle. Ok (middle ++ js)) (λ middle. Ok (middle ++ js)) is (λ code. ap Ok (append_append front code js))
 
 module _ (n : Numbering) (site : Site) (front : List Instr) where
+  stay_behind : (b : Bool) (before : List Instr) (place : Place) → (if b then Ok (front ++ before) else Err place) ≡ behind front (if b then Ok before else Err place)
+  stay_behind true before place = refl
+  stay_behind false before place = refl
+
   sign_behind : (opening : Option Sign) (before : List Instr) (place : Place) → sign_code (front ++ before) place opening ≡ behind front (sign_code before place opening)
   sign_behind (Some Minus) before place = emit_behind front before place (Some (one op1.Minus ∷ []))
   sign_behind (Some Plus) before place = refl
@@ -81,11 +85,11 @@ module _ (n : Numbering) (site : Site) (front : List Instr) where
   mutual
     pub expression_behind : (tree : Expression) (before : List Instr) → expression_code n site (front ++ before) tree ≡ behind front (expression_code n site before tree)
     expression_behind (Or place first others) before =
-        if_behind (stay (is_condition first || are_conditions others) (MoreExpressions first others)) front _ _ place
-        (onwards_behind front (expression_code n site before first) _ _ _ (expression_behind first before) (λ code. folded_behind others place op2.Or code))
+        onwards_behind front (where_they_stay before place first others) _ _ _ (stay_behind (stay (is_condition first || are_conditions others) (MoreExpressions first others)) before place)
+        (λ begun. onwards_behind front (expression_code n site begun first) _ _ _ (expression_behind first begun) (λ code. folded_behind others place op2.Or code))
     expression_behind (And place first others) before =
-        if_behind (stay (is_condition first || are_conditions others) (MoreExpressions first others)) front _ _ place
-        (onwards_behind front (expression_code n site before first) _ _ _ (expression_behind first before) (λ code. folded_behind others place op2.And code))
+        onwards_behind front (where_they_stay before place first others) _ _ _ (stay_behind (stay (is_condition first || are_conditions others) (MoreExpressions first others)) before place)
+        (λ begun. onwards_behind front (expression_code n site begun first) _ _ _ (expression_behind first begun) (λ code. folded_behind others place op2.And code))
     expression_behind (Compare place left relation right) before =
         onwards_behind front (expression_code n site before left) _ _ _ (expression_behind left before)
         (λ code. onwards_behind front (expression_code n site code right) _ _ _ (expression_behind right code) (λ late. emit_behind front late place (Some (two (operation_of_relation relation) ∷ []))))

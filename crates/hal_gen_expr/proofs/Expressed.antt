@@ -44,6 +44,12 @@ pub unless_emitted : (b : Bool) (r : Emitted) (place : Place) (after : List Inst
 unless_emitted true r place after is = absurd (cc)
 unless_emitted false r place after is = (refl, is)
 
+-- where operands stay as they are
+stay_given : (b : Bool) (before : List Instr) (place : Place) (next : List Instr → Emitted) (after : List Instr) → onwards (if b then Ok before else Err place) next ≡ Ok after
+    → (b ≡ true) × (next before ≡ Ok after)
+stay_given true before place next after is = (refl, is)
+stay_given false before place next after is = absurd (cc)
+
 -- what is put on the stack for a literal, and for an exponent
 in_room : (b : Bool) (one i : Instr) → (if b then Some one else None) ≡ Some i → i ≡ one
 in_room true one i is = cc
@@ -143,12 +149,12 @@ module _ (code : Code) (n : Numbering) (site : Site) (numbered : IsNumbered code
     pub expression_at : (tree : Expression) (before after : List Instr) → expression_code n site before tree ≡ Ok after → Begins after code.image.code
         → Placed code before after (λ from to. ExpressionAt code site tree from to)
     expression_at (Or place first others) before after is begins =
-        let may = if_emitted (stay (is_condition first || are_conditions others) (MoreExpressions first others)) _ place after is in
+        let may = stay_given (stay (is_condition first || are_conditions others) (MoreExpressions first others)) before place _ after is in
         weaker code before after (λ from to at. (may.0, at))
         (both_placed code (expression_code n site before first) (λ middle. folded_code n site middle place op2.Or others) before after may.1 (λ middle there begun. expression_at first before middle there begun)
         (λ middle there. folded_at others place op2.Or middle after there begins))
     expression_at (And place first others) before after is begins =
-        let may = if_emitted (stay (is_condition first || are_conditions others) (MoreExpressions first others)) _ place after is in
+        let may = stay_given (stay (is_condition first || are_conditions others) (MoreExpressions first others)) before place _ after is in
         weaker code before after (λ from to at. (may.0, at))
         (both_placed code (expression_code n site before first) (λ middle. folded_code n site middle place op2.And others) before after may.1 (λ middle there begun. expression_at first before middle there begun)
         (λ middle there. folded_at others place op2.And middle after there begins))

@@ -5,7 +5,10 @@ pub mod Named
 pub mod Expressed
 pub mod Appending
 pub mod Forwarding
-mod Uncalled
+pub mod Uncalled
 mod Chosen
 mod Capped
 mod Lent
+mod Formed
+pub mod Sited
+pub mod Chained

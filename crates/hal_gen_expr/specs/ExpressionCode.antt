@@ -60,6 +60,10 @@ abbrev pub ends : Expressions → Bool
 ends NoExpressions = true
 ends (MoreExpressions first others) = false
 
+-- operands of AND or OR have code where they stay as they are
+abbrev pub where_they_stay : List Instr → Place → Expression → Expressions → Emitted
+where_they_stay before place first others = if stay (is_condition first || are_conditions others) (MoreExpressions first others) then Ok before else Err place
+
 -- a call, where it has code, behind its arguments
 abbrev pub behind_arguments : Place → Emitted → Option (List Instr) → Emitted
 behind_arguments place arguments None = Err place
@@ -86,13 +90,9 @@ called_code n site before place folded built arguments other = Err place
 abbrev mutual
   pub expression_code : Numbering → Site → List Instr → Expression → Emitted
   expression_code n site before (Or place first others) =
-      if stay (is_condition first || are_conditions others) (MoreExpressions first others)
-      then onwards (expression_code n site before first) (λ middle. folded_code n site middle place op2.Or others)
-      else Err place
+      onwards (where_they_stay before place first others) (λ begun. onwards (expression_code n site begun first) (λ middle. folded_code n site middle place op2.Or others))
   expression_code n site before (And place first others) =
-      if stay (is_condition first || are_conditions others) (MoreExpressions first others)
-      then onwards (expression_code n site before first) (λ middle. folded_code n site middle place op2.And others)
-      else Err place
+      onwards (where_they_stay before place first others) (λ begun. onwards (expression_code n site begun first) (λ middle. folded_code n site middle place op2.And others))
   expression_code n site before (Compare place left relation right) =
       onwards (expression_code n site before left)
       (λ middle. onwards (expression_code n site middle right) (λ last. emit_one last place (two (operation_of_relation relation))))

@@ -7,3 +7,4 @@ pub mod Standing
 pub mod SeenSites
 pub mod Emits
 pub mod Elements
+pub mod Called

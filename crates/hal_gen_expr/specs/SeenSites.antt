@@ -31,9 +31,9 @@ unfoldable pub seen_numbering : rust-site.Site → Numbering
 seen_numbering s = numbering s.views.now
 
 -- what is looked up is that of the set
-pub record IsSite (s : rust-site.Site) : Type 0 where
-  pub listed : map seen_referent s.referents.now ≡ referents (seen_set s.set.now).phrases (seen_set s.set.now).constants
-  pub processes : s.events.processes.now ≡ processes_of (seen_set s.set.now).phrases
-  pub declared : s.events.declared.now ≡ declared_events (seen_set s.set.now).phrases
-  pub few : length s.events.processes.now + length s.events.declared.now ≤ 65535
-  pub counted : AreFirstCells (seen_set s.set.now).phrases (seen_set s.set.now).constants s.cells.now
+pub data IsSite (s : rust-site.Site) : Type 0 where
+  Sited : (listed : map seen_referent s.referents.now ≡ referents (seen_set s.set.now).phrases (seen_set s.set.now).constants)
+      → (processes : s.events.processes.now ≡ processes_of (seen_set s.set.now).phrases)
+      → (declared : s.events.declared.now ≡ declared_events (seen_set s.set.now).phrases)
+      → (few : length s.events.processes.now + length s.events.declared.now ≤ 65535)
+      → (counted : AreFirstCells (seen_set s.set.now).phrases (seen_set s.set.now).constants s.cells.now) → IsSite s

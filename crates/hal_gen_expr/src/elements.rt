@@ -18,8 +18,8 @@ pub struct Element {
     pub kind: Kind,
 }
 
-/// Whether these names are the first of those.
-fn leads(path: &[Identifier], names: &[Name]) -> bool
+/// Whether these names are the first of those (language document, Structures).
+pub fn leads(path: &[Identifier], names: &[Name]) -> bool
     ensures { result ≡ elements.leads (map seen_name path.now) names.now }
 {
     let mut left = path;

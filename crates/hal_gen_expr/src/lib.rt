@@ -3,6 +3,7 @@
 
 mod conditions;
 mod elements;
+mod expressions;
 mod laws;
 mod leaves;
 mod names;
@@ -10,7 +11,8 @@ mod site;
 mod uncoded;
 mod views;
 
-pub use elements::{Element, element_named};
+pub use elements::{Element, element_named, leads};
+pub use expressions::emit_expression;
 pub use laws::the_code_of_an_expression_stands_for_it;
 pub use leaves::{emit_one, emit_two, one, push, pushes, two};
 pub use names::referent;

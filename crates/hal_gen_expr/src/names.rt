@@ -20,7 +20,7 @@ use hal_tree::Identifier;
 use hal_words::Name;
 
 /// What a name refers to there (language document, Names).
-#[tactic(auto, unfolding(crate::specs::SeenSites::seen_site))]
+#[tactic(auto, using(crate::proofs::Sited::listed_of), unfolding(crate::specs::SeenSites::seen_site))]
 pub fn referent<'a>(site: &Site<'a>, name: &Name) -> Meant<'a>
     requires site { IsSite site.now }
     ensures { seen_meant result ≡ referents.referent (seen_site site.now) name.now }

@@ -58,7 +58,7 @@ fn number_behind(first: usize, before: u32) -> Option<u32>
 }
 
 /// Where an element lies of the data that the phrase with this number declares and that are stored so (image document, Views).
-#[tactic(auto, unfolding(crate::specs::SeenSites::seen_site))]
+#[tactic(auto, using(crate::proofs::Sited::counted_of), unfolding(crate::specs::SeenSites::seen_site))]
 pub fn base_of(site: &Site<'_>, declared: usize, stored: Storing, before: u32) -> Option<Base>
     requires site { IsSite site.now }
     ensures { result ≡ numbers.base_of (seen_site site.now) declared before (seen_storing stored) }

@@ -1,0 +1,97 @@
+-- Sizes, as the program counts them.
+use Rattle.std.specs.Prelude.{ℕ, suc, ◌+◌, ◌-◌, ◌*◌, max, false, List, [], ◌∷◌, length, map, drop, Option, None}
+use Rattle.std.proofs.Common.{◌≡◌, ◌≤◌, refl, ap, subst, ◌∙◌, arith}
+use Rattle.std.proofs.lemmas.List.{drop_all}
+use Rattle.hal_base.specs.declared.refusal.Place.{Place}
+use Rattle.hal_grammar.specs.Leaves.{Naming}
+use Rattle.hal_grammar.specs.Expressions.{Expression, Expressions, Reference}
+use Rattle.hal_grammar.specs.Statements.{Statement}
+use Rattle.hal_tree.specs.Rows.{expressions, statements}
+use Rattle.hal_code.specs.declared.instr.Instr.{Instr}
+use Rattle.hal_code.specs.declared.row.View.{View}
+use Rattle.hal_meaning.specs.Expressions.{inputs_at}
+use Rattle.hal_agreement.specs.Sites.{Site}
+use Rattle.hal_referents.specs.Referents.{Referent, DataOf, ConstantOf, EventOf, BlockOf, BuiltinOf, Unmeant}
+use Rattle.hal_gen_expr.specs.Emitting.{length_of}
+use Rattle.hal_gen_expr.specs.ExpressionCode.{behind_arguments, arguments_code}
+use Rattle.hal_gen_expr.specs.Numbering.{Numbering, numbering}
+use Rattle.hal_gen_expr.specs.SeenSites.{seen_numbering}
+use Rattle.hal_gen_expr.specs.declared.site.Site as rust-site
+use Rattle.hal_gen_expr.proofs.Uncalled.{call_uncalled}
+use Rattle.hal_gen.specs.Sizes.{expression_size, items_size, receivers_size, reads_size, names_size, call_size, statement_size, statements_size}
+use Rattle.hal_gen.specs.Sums.{with_items, with_statements}
+
+further_on : (a b c : ℕ) → (a + b) + c ≡ a + (b + c)
+further_on a b c = omega arith
+
+none_more : (n : ℕ) → n ≡ n + 0
+none_more n = omega arith
+
+from_none : (n : ℕ) → 0 + n ≡ n
+from_none n = omega arith
+
+-- sums
+items_from : (n : Numbering) (site : Site) (size : ℕ) (items : List Expression) → with_items n site size items ≡ size + items_size n site (expressions items)
+unfolding with_items expressions
+items_from n site size [] = none_more size
+items_from n site size (item ∷ items) =
+    items_from n site (size + (expression_size n site item + 1)) items ∙ further_on size (expression_size n site item + 1) (items_size n site (expressions items))
+
+items_counted : (n : Numbering) (site : Site) (items : List Expression) → with_items n site 0 items ≡ items_size n site (expressions items)
+items_counted n site items = items_from n site 0 items ∙ from_none (items_size n site (expressions items))
+
+pub items_done : {X : Type 0} (f : X → Expression) (n : Numbering) (site : Site) (size place : ℕ) (xs : List X) → length xs ≤ place
+    → with_items n site size (map f (drop place xs)) ≡ with_items n site 0 (map f xs) → size ≡ items_size n site (expressions (map f xs))
+unfolding with_items
+items_done {X} f n site size place xs past kept =
+    subst (λ (rest : List X). with_items n site size (map f rest) ≡ with_items n site 0 (map f xs)) (drop_all place xs past) kept ∙ items_counted n site (map f xs)
+
+statements_from : (n : Numbering) (site : Site) (size : ℕ) (list : List Statement) → with_statements n site size list ≡ size + statements_size n site (statements list)
+unfolding with_statements statements
+statements_from n site size [] = none_more size
+statements_from n site size (one ∷ others) =
+    statements_from n site (size + statement_size n site one) others ∙ further_on size (statement_size n site one) (statements_size n site (statements others))
+
+statements_counted : (n : Numbering) (site : Site) (list : List Statement) → with_statements n site 0 list ≡ statements_size n site (statements list)
+statements_counted n site list = statements_from n site 0 list ∙ from_none (statements_size n site (statements list))
+
+pub statements_done : {X : Type 0} (f : X → Statement) (n : Numbering) (site : Site) (size place : ℕ) (xs : List X) → length xs ≤ place
+    → with_statements n site size (map f (drop place xs)) ≡ with_statements n site 0 (map f xs) → size ≡ statements_size n site (statements (map f xs))
+unfolding with_statements
+statements_done {X} f n site size place xs past kept =
+    subst (λ (rest : List X). with_statements n site size (map f rest) ≡ with_statements n site 0 (map f xs)) (drop_all place xs past) kept ∙ statements_counted n site (map f xs)
+
+-- lists of names
+pub reads_counted : {X : Type 0} (f : X → Reference) (xs : List X) → reads_size (map f xs) ≡ length xs * 3
+reads_counted f [] = omega arith
+reads_counted f (x ∷ xs) = let rest = reads_counted f xs in omega (arith, rest)
+
+pub receivers_counted : {X : Type 0} (f : X → Reference) (xs : List X) → receivers_size (map f xs) ≡ length xs * 3 - 1
+receivers_counted f [] = refl
+receivers_counted f (x ∷ []) = refl
+receivers_counted f (x ∷ y ∷ xs) = let rest = receivers_counted f (y ∷ xs) in omega (arith, rest)
+
+same_length : {X Y : Type 0} (f : X → Y) (xs : List X) → length (map f xs) ≡ length xs
+same_length f [] = refl
+same_length f (x ∷ xs) = ap suc (same_length f xs)
+
+pub names_counted : {X : Type 0} (f : X → Naming) (xs : List X) → names_size (map f xs) ≡ max (length xs) 1
+names_counted f [] = refl
+names_counted f (x ∷ xs) = let same = same_length f xs in omega (arith, same)
+
+-- no call has code, and so no size
+uncalled_by : (place : Place) (call : Option (List Instr)) (n : Numbering) (site : Site) (arguments : Expressions) (unit : ℕ) → call ≡ None
+    → length_of (behind_arguments place (arguments_code n site [] place unit (inputs_at site.set unit) arguments) call) ≡ 0
+uncalled_by place call n site arguments unit none = rw none refl
+
+call_by : (views : List View) (site : Site) (arguments : Expressions) (place : Place) (r : Referent) → call_size (numbering views) site arguments place r ≡ 0
+call_by views site arguments place (BlockOf unit) = uncalled_by place _ (numbering views) site arguments unit (call_uncalled views site false unit)
+call_by views site arguments place (DataOf k stored shape) = refl
+call_by views site arguments place (ConstantOf v) = refl
+call_by views site arguments place (EventOf e) = refl
+call_by views site arguments place (BuiltinOf b) = refl
+call_by views site arguments place Unmeant = refl
+
+pub call_counted : (s : rust-site.Site) (site : Site) (arguments : Expressions) (place : Place) (r : Referent) → call_size (seen_numbering s) site arguments place r ≡ 0
+unfolding seen_numbering
+call_counted s site arguments place r = call_by s.views.now site arguments place r

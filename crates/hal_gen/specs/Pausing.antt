@@ -1,0 +1,35 @@
+-- Pauses until event expressions are TRUE, and the processes that are named, one by one.
+use Rattle.std.specs.Prelude.{ℕ, ◌+◌, ◌==◌, List, [], ◌∷◌, Option, Some, None, Ok, slice_get, if◌then◌else◌}
+use Rattle.std.specs.Option.{option_map, option_and_then}
+use Rattle.hal_base.specs.declared.refusal.Place.{Place}
+use Rattle.hal_grammar.specs.Leaves.{Naming}
+use Rattle.hal_code.specs.declared.instr.Instr.{Instr}
+use Rattle.hal_code.specs.declared.instr.Instr.TheVariants as instr
+use Rattle.hal_code.specs.declared.operand.Delay.TheVariants as delay
+use Rattle.hal_meaning.specs.Events.{Stated}
+use Rattle.hal_agreement.specs.Sites.{Site}
+use Rattle.hal_gen_expr.specs.Emitting.{Emitted, onwards, emit}
+use Rattle.hal_gen_expr.specs.Numbering.{below}
+use Rattle.hal_gen.specs.Leaves.{named_process}
+
+-- the number of the first event expression of the statement whose phrase has this number, where they are numbered from this one on
+unfoldable pub first_stated : ℕ → ℕ → List Stated → Option ℕ
+first_stated n k [] = None
+first_stated n k (one ∷ others) = if one.statement == k then Some n else first_stated (n + 1) k others
+
+-- the pause until the event expression with this number is TRUE
+abbrev pub event_pause : ℕ → Option Instr
+event_pause x = option_map (λ number. instr.Wait (delay.Event number)) (below 4294967296 x)
+
+-- the pause of the WAIT FOR that is the mark with this number
+abbrev pub pause_at_mark : Site → ℕ → Option Instr
+pause_at_mark site m = elim (slice_get site.marks m) [ None ↦ None | Some k ↦ option_and_then event_pause (first_stated 0 k site.set.stated) ]
+
+-- the same instruction for a process that is named
+abbrev pub asked_code : Site → List Instr → Place → (ℕ → Instr) → Naming → Emitted
+asked_code site before place asks name = emit before place (option_map (λ p. asks p ∷ []) (named_process site name))
+
+-- and for each one
+unfoldable pub each_code : Site → List Instr → Place → (ℕ → Instr) → List Naming → Emitted
+each_code site before place asks [] = Ok before
+each_code site before place asks (name ∷ names) = onwards (asked_code site before place asks name) (λ middle. each_code site middle place asks names)

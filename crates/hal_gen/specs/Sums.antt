@@ -1,0 +1,17 @@
+-- Sizes of lists, summed from the first phrase to the last.
+use Rattle.std.specs.Prelude.{ℕ, ◌+◌, List, [], ◌∷◌}
+use Rattle.hal_grammar.specs.Expressions.{Expression}
+use Rattle.hal_grammar.specs.Statements.{Statement}
+use Rattle.hal_agreement.specs.Sites.{Site}
+use Rattle.hal_gen_expr.specs.Numbering.{Numbering}
+use Rattle.hal_gen.specs.Sizes.{expression_size, statement_size}
+
+-- a size with those of the items of WRITE
+unfoldable pub with_items : Numbering → Site → ℕ → List Expression → ℕ
+with_items n site size [] = size
+with_items n site size (item ∷ items) = with_items n site (size + (expression_size n site item + 1)) items
+
+-- a size with those of statements
+unfoldable pub with_statements : Numbering → Site → ℕ → List Statement → ℕ
+with_statements n site size [] = size
+with_statements n site size (one ∷ others) = with_statements n site (size + statement_size n site one) others

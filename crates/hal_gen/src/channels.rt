@@ -1,0 +1,146 @@
+//! READ and WRITE.
+
+ghost use Rattle.std.specs.Prelude.{◌≡◌, map};
+ghost use Rattle.hal_tree.specs.Rows.{expressions};
+ghost use Rattle.hal_tree.specs.SeenExpressions.{seen_expression, seen_reference};
+ghost use Rattle.hal_tree.specs.SeenLeaves.{seen_literal};
+ghost use Rattle.hal_code.specs.declared.instr.Instr.TheVariants as instr;
+ghost use Rattle.hal_gen_expr.specs.Emits.{Emits};
+ghost use Rattle.hal_gen_expr.specs.Emitting.{onwards};
+ghost use Rattle.hal_gen_expr.specs.ExpressionCode as expressing;
+ghost use Rattle.hal_gen_expr.specs.SeenSites.{seen_site, seen_numbering, IsSite};
+ghost use Rattle.hal_gen.specs.Channels as channels;
+ghost use Rattle.hal_gen.specs.Leaves as leaves;
+ghost use Rattle.hal_gen.specs.StatementCode as codes;
+
+use crate::receivers::{emit_receiver, kind_of_receiver};
+use crate::sizes::sum;
+use hal_base::Place;
+use hal_code::Instr;
+use hal_gen_expr::{Site, Uncoded, emit_expression, emit_one, push};
+use hal_tree::{Expr, LiteralValue, Reference};
+
+/// The channel that a literal is: an integer below 256.
+fn channel_in(literal: LiteralValue) -> Option<u8>
+    ensures { result ≡ leaves.channel_in (seen_literal literal) }
+{
+    match literal {
+        LiteralValue::Integer(number) => u8::try_from(number).ok(),
+        LiteralValue::Text(_) => None,
+        LiteralValue::Bits { .. } => None,
+        LiteralValue::True => None,
+        LiteralValue::False => None,
+        LiteralValue::On => None,
+        LiteralValue::Off => None,
+    }
+}
+
+/// The channel that an expression is, where it is written as an integer.
+#[tactic(auto, using(hal_tree::proofs::MadeExpressions::made_or, hal_tree::proofs::MadeExpressions::made_and, hal_tree::proofs::MadeExpressions::made_compare, hal_tree::proofs::MadeExpressions::made_cat, hal_tree::proofs::MadeExpressions::made_sum, hal_tree::proofs::MadeExpressions::made_product, hal_tree::proofs::MadeExpressions::made_power, hal_tree::proofs::MadeExpressions::made_not, hal_tree::proofs::MadeExpressions::made_literal, hal_tree::proofs::MadeExpressions::made_decimal, hal_tree::proofs::MadeExpressions::made_referred, hal_tree::proofs::MadeExpressions::made_call, hal_tree::proofs::MadeExpressions::made_convert, hal_tree::proofs::MadeExpressions::made_parenthesis))]
+fn channel_of(tree: &Expr) -> Option<u8>
+    ensures { result ≡ leaves.channel_of (seen_expression tree.now) }
+{
+    match tree {
+        Expr::Literal { place: _, literal } => channel_in(*literal),
+        Expr::Or { .. } => None,
+        Expr::And { .. } => None,
+        Expr::Compare { .. } => None,
+        Expr::Cat { .. } => None,
+        Expr::Sum { .. } => None,
+        Expr::Product { .. } => None,
+        Expr::Power { .. } => None,
+        Expr::Not { .. } => None,
+        Expr::Decimal { .. } => None,
+        Expr::Reference(_) => None,
+        Expr::Call { .. } => None,
+        Expr::Convert { .. } => None,
+        Expr::Parenthesis { .. } => None,
+    }
+}
+
+/// Adds INPUT of a receiver, behind which control goes to the next one where there is no datum, and its store.
+fn emit_read(
+    receiver: &Reference,
+    code: &mut Vec<Instr>,
+    site: &Site<'_>,
+    channel: u8,
+) -> Result<(), Uncoded>
+    requires site { IsSite site.now }
+    ensures { Emits (channels.read_code (seen_numbering site.now) (seen_site site.now) code.old.items channel (seen_reference receiver.now)) result code.new.items }
+{
+    let target = sum(code.len(), 3)?;
+    let kind = kind_of_receiver(receiver, site);
+    push(
+        code,
+        Instr::Input {
+            channel,
+            kind,
+            target: target as u64,
+        },
+    )?;
+    emit_receiver(receiver, code, site)
+}
+
+/// Adds INPUT of receivers, and their stores, from left to right.
+fn emit_reads(
+    receivers: &[Reference],
+    code: &mut Vec<Instr>,
+    site: &Site<'_>,
+    channel: u8,
+) -> Result<(), Uncoded>
+    requires site { IsSite site.now }
+    ensures { Emits (codes.reads_code (seen_numbering site.now) (seen_site site.now) code.old.items channel (map seen_reference receivers.now)) result code.new.items }
+{
+    for receiver in receivers {
+        emit_read(receiver, code, site, channel)?;
+    }
+    Ok(())
+}
+
+/// Adds READ (language document, Statements).
+pub(crate) fn emit_input(
+    channel: &Expr,
+    receivers: &[Reference],
+    code: &mut Vec<Instr>,
+    site: &Site<'_>,
+    place: Place,
+) -> Result<(), Uncoded>
+    requires site { IsSite site.now }
+    ensures { Emits (codes.with_channel place (leaves.channel_of (seen_expression channel.now)) (λ number. codes.reads_code (seen_numbering site.now) (seen_site site.now) code.old.items number (map seen_reference receivers.now))) result code.new.items }
+{
+    let Some(channel) = channel_of(channel) else {
+        return Err(Uncoded::At(place));
+    };
+    emit_reads(receivers, code, site, channel)
+}
+
+/// Adds items, each of which is added to the line.
+#[tactic(auto, unfolding(hal_tree::specs::Rows::expressions))]
+fn emit_items(items: &[Expr], code: &mut Vec<Instr>, site: &Site<'_>) -> Result<(), Uncoded>
+    requires site { IsSite site.now }
+    ensures { Emits (codes.items_code (seen_numbering site.now) (seen_site site.now) code.old.items (expressions (map seen_expression items.now))) result code.new.items }
+{
+    for item in items {
+        emit_expression(item, code, site)?;
+        push(code, Instr::Item)?;
+    }
+    Ok(())
+}
+
+/// Adds WRITE (language document, Statements).
+pub(crate) fn emit_output(
+    channel: &Expr,
+    items: &[Expr],
+    code: &mut Vec<Instr>,
+    site: &Site<'_>,
+    place: Place,
+) -> Result<(), Uncoded>
+    requires site { IsSite site.now }
+    ensures { Emits (codes.with_channel place (leaves.channel_of (seen_expression channel.now)) (λ number. onwards (codes.items_code (seen_numbering site.now) (seen_site site.now) code.old.items (expressions (map seen_expression items.now))) (λ middle. expressing.emit_one middle place (instr.Print number)))) result code.new.items }
+{
+    let Some(channel) = channel_of(channel) else {
+        return Err(Uncoded::At(place));
+    };
+    emit_items(items, code, site)?;
+    emit_one(code, place, Instr::Print(channel))
+}

@@ -1,0 +1,303 @@
+//! How many instructions statements have: so targets are known before the code that stands in between. An error comes where the code would have more
+//! than memory has room for.
+
+ghost use Rattle.std.specs.Prelude.{◌≡◌, ◌+◌, ◌*◌, IfOk, length, map};
+ghost use Rattle.std.specs.Option.{option_map};
+ghost use Rattle.hal_tree.specs.Rows.{expressions, statements};
+ghost use Rattle.hal_tree.specs.SeenExpressions.{seen_expression, seen_reference};
+ghost use Rattle.hal_tree.specs.SeenLeaves.{seen_name};
+ghost use Rattle.hal_tree.specs.SeenStatements.{seen_alternative, seen_basic, seen_group, seen_guard, seen_statement};
+ghost use Rattle.hal_meaning.specs.Sets.{body_at};
+ghost use Rattle.hal_gen_expr.specs.SeenSites.{seen_site, seen_numbering, IsSite};
+ghost use Rattle.hal_gen.specs.Leaves as leaves;
+ghost use Rattle.hal_gen.specs.Sizes as sizes;
+
+use crate::returns::gives_text;
+use hal_gen_expr::{Site, Uncoded, emit_expression};
+use hal_tree::{Basic, Expr, Group, Guard, Identifier, Reference, Statement};
+use std::alloc::AllocError;
+
+/// The size of two phrases.
+pub(crate) fn sum(first: usize, second: usize) -> Result<usize, AllocError>
+    ensures { IfOk result (λ size. size ≡ first + second) }
+{
+    match first.checked_add(second) {
+        None => Err(AllocError),
+        Some(size) => Ok(size),
+    }
+}
+
+/// The size of an expression, 0 where it has no code.
+pub(crate) fn expression_size(tree: &Expr, site: &Site<'_>) -> Result<usize, AllocError>
+    requires site { IsSite site.now }
+    ensures { IfOk result (λ size. size ≡ sizes.expression_size (seen_numbering site.now) (seen_site site.now) (seen_expression tree.now)) }
+{
+    let mut code = Vec::new(site.alloc);
+    match emit_expression(tree, &mut code, site) {
+        Ok(()) => Ok(code.len()),
+        Err(Uncoded::At(_)) => Ok(0),
+        Err(Uncoded::Memory(error)) => Err(error),
+    }
+}
+
+/// The size of the items of WRITE.
+#[tactic(auto, unfolding(crate::specs::Sums::with_items))]
+fn items_size(items: &[Expr], site: &Site<'_>) -> Result<usize, AllocError>
+    requires site { IsSite site.now }
+    ensures { IfOk result (λ size. size ≡ sizes.items_size (seen_numbering site.now) (seen_site site.now) (expressions (map seen_expression items.now))) }
+{
+    let mut size: usize = 0;
+    for item in items {
+        size = sum(size, sum(expression_size(item, site)?, 1)?)?;
+    }
+    Ok(size)
+}
+
+/// The size of WRITE with these items.
+fn write_size(items: &[Expr], site: &Site<'_>) -> Result<usize, AllocError>
+    requires site { IsSite site.now }
+    ensures { IfOk result (λ size. size ≡ sizes.items_size (seen_numbering site.now) (seen_site site.now) (expressions (map seen_expression items.now)) + 1) }
+{
+    sum(items_size(items, site)?, 1)
+}
+
+/// How many instructions there are, where there are three for each receiver.
+fn threefold(receivers: &[Reference]) -> Result<usize, AllocError>
+    ensures { IfOk result (λ size. size ≡ length receivers.now * 3) }
+{
+    match receivers.len().checked_mul(3) {
+        None => Err(AllocError),
+        Some(size) => Ok(size),
+    }
+}
+
+/// The size of the receivers of READ.
+#[tactic(auto, using(crate::proofs::Counted::reads_counted))]
+fn reads_size(receivers: &[Reference]) -> Result<usize, AllocError>
+    ensures { IfOk result (λ size. size ≡ sizes.reads_size (map seen_reference receivers.now)) }
+{
+    threefold(receivers)
+}
+
+/// The size of the receivers of an assignment.
+#[tactic(auto, using(crate::proofs::Counted::receivers_counted))]
+fn receivers_size(receivers: &[Reference]) -> Result<usize, AllocError>
+    ensures { IfOk result (λ size. size ≡ sizes.receivers_size (map seen_reference receivers.now)) }
+{
+    Ok(threefold(receivers)?.saturating_sub(1))
+}
+
+/// The size of an assignment.
+fn assignment_size(
+    receivers: &[Reference],
+    value: &Expr,
+    site: &Site<'_>,
+) -> Result<usize, AllocError>
+    requires site { IsSite site.now }
+    ensures { IfOk result (λ size. size ≡ sizes.expression_size (seen_numbering site.now) (seen_site site.now) (seen_expression value.now) + sizes.receivers_size (map seen_reference receivers.now)) }
+{
+    sum(expression_size(value, site)?, receivers_size(receivers)?)
+}
+
+/// The size of the first test of a loop.
+#[tactic(auto, using(hal_tree::proofs::MadeStatements::made_while, hal_tree::proofs::MadeStatements::made_until))]
+fn first_test_size(guard: &Guard, site: &Site<'_>) -> Result<usize, AllocError>
+    requires site { IsSite site.now }
+    ensures { IfOk result (λ size. size ≡ sizes.first_test_size (seen_numbering site.now) (seen_site site.now) (seen_guard guard.now)) }
+{
+    match guard {
+        Guard::While {
+            place: _,
+            condition,
+        } => sum(expression_size(condition, site)?, 1),
+        Guard::Until {
+            place: _,
+            condition: _,
+        } => Ok(0),
+    }
+}
+
+/// The size of each later one.
+#[tactic(auto, using(hal_tree::proofs::MadeStatements::made_while, hal_tree::proofs::MadeStatements::made_until))]
+fn test_size(guard: &Guard, site: &Site<'_>) -> Result<usize, AllocError>
+    requires site { IsSite site.now }
+    ensures { IfOk result (λ size. size ≡ sizes.test_size (seen_numbering site.now) (seen_site site.now) (seen_guard guard.now)) }
+{
+    match guard {
+        Guard::While {
+            place: _,
+            condition,
+        } => sum(expression_size(condition, site)?, 2),
+        Guard::Until {
+            place: _,
+            condition,
+        } => sum(expression_size(condition, site)?, 1),
+    }
+}
+
+/// The size of a jump over what stands after ELSE.
+pub(crate) fn jump_size(alternative: &Option<Box<Statement>>) -> usize
+    ensures { result ≡ sizes.jump_size (seen_alternative alternative.now) }
+{
+    match alternative {
+        None => 0,
+        Some(_) => 1,
+    }
+}
+
+/// The size of CANCEL or TERMINATE.
+#[tactic(auto, using(crate::proofs::Counted::names_counted))]
+fn names_size(names: &[Identifier]) -> usize
+    ensures { result ≡ sizes.names_size (map seen_name names.now) }
+{
+    names.len().max(1)
+}
+
+/// The size of RETURN with a value.
+fn result_size(value: &Expr, site: &Site<'_>) -> Result<usize, AllocError>
+    requires site { IsSite site.now }
+    ensures { IfOk result (λ size. size ≡ sizes.expression_size (seen_numbering site.now) (seen_site site.now) (seen_expression value.now) + (length (leaves.as_result (body_at (seen_site site.now).set (seen_site site.now).unit)) + 1)) }
+{
+    let size = expression_size(value, site)?;
+    if gives_text(site) {
+        sum(size, 2)
+    } else {
+        sum(size, 1)
+    }
+}
+
+/// The size of RETURN.
+fn return_size(value: &Option<Expr>, site: &Site<'_>) -> Result<usize, AllocError>
+    requires site { IsSite site.now }
+    ensures { IfOk result (λ size. size ≡ sizes.return_size (seen_numbering site.now) (seen_site site.now) (option_map seen_expression value.now)) }
+{
+    match value {
+        None => Ok(1),
+        Some(value) => result_size(value, site),
+    }
+}
+
+/// The size of a statement (image document, Code that stands for a set).
+#[cycle(sizes)]
+#[tactic(auto, using(hal_tree::proofs::MadeStatements::made_statement))]
+pub fn statement_size(tree: &Statement, site: &Site<'_>) -> Result<usize, AllocError>
+    requires site { IsSite site.now }
+    ensures { IfOk result (λ size. size ≡ sizes.statement_size (seen_numbering site.now) (seen_site site.now) (seen_statement tree.now)) }
+{
+    basic_size(&tree.basic, site)
+}
+
+/// The size of statements one after another.
+#[cycle(sizes)]
+#[tactic(auto, unfolding(crate::specs::Sums::with_statements))]
+pub fn statements_size(trees: &[Statement], site: &Site<'_>) -> Result<usize, AllocError>
+    requires site { IsSite site.now }
+    ensures { IfOk result (λ size. size ≡ sizes.statements_size (seen_numbering site.now) (seen_site site.now) (statements (map seen_statement trees.now))) }
+{
+    let mut size: usize = 0;
+    for tree in trees {
+        size = sum(size, statement_size(tree, site)?)?;
+    }
+    Ok(size)
+}
+
+/// The size of a group.
+#[cycle(sizes)]
+#[tactic(auto, using(hal_tree::proofs::MadeStatements::parts_of_group))]
+pub(crate) fn group_size(tree: &Group, site: &Site<'_>) -> Result<usize, AllocError>
+    requires site { IsSite site.now }
+    ensures { IfOk result (λ size. size ≡ sizes.group_size (seen_numbering site.now) (seen_site site.now) (seen_group tree.now)) }
+{
+    statements_size(&tree.statements, site)
+}
+
+/// The size of what stands after ELSE.
+#[cycle(sizes)]
+fn alternative_size(tree: &Option<Box<Statement>>, site: &Site<'_>) -> Result<usize, AllocError>
+    requires site { IsSite site.now }
+    ensures { IfOk result (λ size. size ≡ sizes.alternative_size (seen_numbering site.now) (seen_site site.now) (seen_alternative tree.now)) }
+{
+    match tree {
+        None => Ok(0),
+        Some(statement) => statement_size(statement, site),
+    }
+}
+
+/// The size of a loop.
+#[cycle(sizes)]
+pub(crate) fn loop_size(group: &Group, guard: &Guard, site: &Site<'_>) -> Result<usize, AllocError>
+    requires site { IsSite site.now }
+    ensures { IfOk result (λ size. size ≡ (sizes.first_test_size (seen_numbering site.now) (seen_site site.now) (seen_guard guard.now) + 1) + (sizes.group_size (seen_numbering site.now) (seen_site site.now) (seen_group group.now) + sizes.test_size (seen_numbering site.now) (seen_site site.now) (seen_guard guard.now))) }
+{
+    let begin = sum(first_test_size(guard, site)?, 1)?;
+    let turn = sum(group_size(group, site)?, test_size(guard, site)?)?;
+    sum(begin, turn)
+}
+
+/// The size of a statement without labels.
+#[cycle(sizes)]
+#[tactic(auto, using(hal_tree::proofs::MadeStatements::made_null, hal_tree::proofs::MadeStatements::made_assignment, hal_tree::proofs::MadeStatements::made_if, hal_tree::proofs::MadeStatements::made_do, hal_tree::proofs::MadeStatements::made_do_case, hal_tree::proofs::MadeStatements::made_do_loop, hal_tree::proofs::MadeStatements::made_do_for, hal_tree::proofs::MadeStatements::made_exit, hal_tree::proofs::MadeStatements::made_repeat, hal_tree::proofs::MadeStatements::made_return, hal_tree::proofs::MadeStatements::made_call_statement, hal_tree::proofs::MadeStatements::made_read, hal_tree::proofs::MadeStatements::made_write, hal_tree::proofs::MadeStatements::made_update, hal_tree::proofs::MadeStatements::made_schedule_statement, hal_tree::proofs::MadeStatements::made_cancel, hal_tree::proofs::MadeStatements::made_terminate, hal_tree::proofs::MadeStatements::made_wait, hal_tree::proofs::MadeStatements::made_wait_until, hal_tree::proofs::MadeStatements::made_wait_for_dependent, hal_tree::proofs::MadeStatements::made_wait_for, hal_tree::proofs::MadeStatements::made_event, hal_tree::proofs::MadeStatements::made_update_priority, hal_tree::proofs::MadeStatements::made_on_error_statement, hal_tree::proofs::MadeStatements::made_on_error_response, hal_tree::proofs::MadeStatements::made_off_error, hal_tree::proofs::MadeStatements::made_send_error, crate::proofs::Counted::call_counted))]
+fn basic_size(tree: &Basic, site: &Site<'_>) -> Result<usize, AllocError>
+    requires site { IsSite site.now }
+    ensures { IfOk result (λ size. size ≡ sizes.basic_size (seen_numbering site.now) (seen_site site.now) (seen_basic tree.now)) }
+{
+    match tree {
+        Basic::If {
+            place: _,
+            condition,
+            consequence,
+            alternative,
+        } => {
+            let test = sum(expression_size(condition, site)?, 1)?;
+            let consequence = statement_size(consequence, site)?;
+            let other = sum(jump_size(alternative), alternative_size(alternative, site)?)?;
+            sum(test, sum(consequence, other)?)
+        }
+        Basic::Do { place: _, group } => group_size(group, site),
+        Basic::DoLoop {
+            place: _,
+            guard,
+            group,
+        } => loop_size(group, guard, site),
+        Basic::Update {
+            place: _,
+            body,
+            close: _,
+        } => sum(statements_size(body, site)?, 2),
+        Basic::Assignment {
+            place: _,
+            receivers,
+            value,
+        } => assignment_size(receivers, value, site),
+        Basic::Return { place: _, value } => return_size(value, site),
+        Basic::Read {
+            place: _,
+            channel: _,
+            receivers,
+        } => reads_size(receivers),
+        Basic::Write {
+            place: _,
+            channel: _,
+            items,
+        } => write_size(items, site),
+        Basic::Cancel { place: _, names } => Ok(names_size(names)),
+        Basic::Terminate { place: _, names } => Ok(names_size(names)),
+        Basic::Exit { .. } => Ok(1),
+        Basic::Repeat { .. } => Ok(1),
+        Basic::Wait { .. } => Ok(1),
+        Basic::WaitUntil { .. } => Ok(1),
+        Basic::WaitForDependent { .. } => Ok(1),
+        Basic::WaitFor { .. } => Ok(1),
+        Basic::Event(_) => Ok(1),
+        Basic::OnErrorResponse { .. } => Ok(1),
+        Basic::OffError { .. } => Ok(1),
+        Basic::SendError { .. } => Ok(1),
+        Basic::Call { .. } => Ok(0),
+        Basic::Null { .. } => Ok(0),
+        Basic::DoCase { .. } => Ok(0),
+        Basic::DoFor { .. } => Ok(0),
+        Basic::Schedule { .. } => Ok(0),
+        Basic::UpdatePriority { .. } => Ok(0),
+        Basic::OnErrorStatement { .. } => Ok(0),
+    }
+}

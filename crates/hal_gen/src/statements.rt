@@ -1,0 +1,242 @@
+//! The code of statements.
+
+ghost use Rattle.std.specs.Prelude.{◌≡◌, ◌+◌, suc, length, map};
+ghost use Rattle.hal_tree.specs.Rows.{statements};
+ghost use Rattle.hal_tree.specs.SeenLeaves.{seen_name};
+ghost use Rattle.hal_tree.specs.SeenStatements.{seen_alternative, seen_basic, seen_group, seen_statement};
+ghost use Rattle.hal_meaning.specs.Marks as marks;
+ghost use Rattle.hal_agreement.specs.PlacedStatements as placed;
+ghost use Rattle.hal_gen_expr.specs.Emits.{Emits};
+ghost use Rattle.hal_gen_expr.specs.SeenSites.{seen_site, seen_numbering, IsSite};
+ghost use Rattle.hal_gen.specs.SeenExits.{seen_exits};
+ghost use Rattle.hal_gen.specs.SeenLocks.{AreGroups};
+ghost use Rattle.hal_gen.specs.Sizes as sizes;
+ghost use Rattle.hal_gen.specs.StatementCode as codes;
+
+use crate::channels::{emit_input, emit_output};
+use crate::errors::{emit_off, emit_raise, emit_response};
+use crate::events::{emit_event, emit_event_pause};
+use crate::exits::{Exits, Leaving};
+use crate::groups::{
+    emit_again, emit_exit, emit_first_test, emit_open, emit_test, in_group, in_loop, other_branch,
+};
+use crate::locks::Locks;
+use crate::marks::{after_statement, next};
+use crate::real_time::{Ask, emit_named, emit_wait, emit_wait_until};
+use crate::receivers::emit_receivers;
+use crate::returns::emit_return;
+use crate::sizes::{loop_size, statement_size, statements_size, sum};
+use hal_code::{Delay, Instr};
+use hal_gen_expr::{Site, Uncoded, emit_expression, emit_one, push};
+use hal_tree::{Basic, Group, Identifier, Statement};
+
+/// Adds the code of a statement before which the next mark has this number, or tells the place of the first part of it that has none yet (image document, Code
+/// that stands for a set).
+#[cycle(statements)]
+#[tactic(auto, using(hal_tree::proofs::MadeStatements::made_statement))]
+pub fn emit_statement<'a>(
+    tree: &'a Statement,
+    code: &mut Vec<Instr>,
+    site: &Site<'_>,
+    locks: &Locks<'_>,
+    exits: &Exits<'a>,
+    mark: usize,
+) -> Result<(), Uncoded>
+    requires site { IsSite site.now }
+    requires locks { AreGroups site.now locks.now }
+    ensures { Emits (codes.statement_code (seen_numbering site.now) (seen_site site.now) code.old.items (seen_exits exits.now) mark (seen_statement tree.now)) result code.new.items }
+{
+    emit_basic(&tree.basic, &tree.labels, code, site, locks, exits, mark)
+}
+
+/// Adds the code of statements one after another (image document, Code that stands for a set).
+#[cycle(statements)]
+#[tactic(auto, unfolding(hal_tree::specs::Rows::statements))]
+pub fn emit_statements<'a>(
+    list: &'a [Statement],
+    code: &mut Vec<Instr>,
+    site: &Site<'_>,
+    locks: &Locks<'_>,
+    exits: &Exits<'a>,
+    mark: usize,
+) -> Result<(), Uncoded>
+    requires site { IsSite site.now }
+    requires locks { AreGroups site.now locks.now }
+    ensures { Emits (codes.statements_code (seen_numbering site.now) (seen_site site.now) code.old.items (seen_exits exits.now) mark (statements (map seen_statement list.now))) result code.new.items }
+{
+    let mut following = mark;
+    for tree in list {
+        emit_statement(tree, code, site, locks, exits, following)?;
+        following = after_statement(tree, following)?;
+    }
+    Ok(())
+}
+
+/// Adds the code of a group.
+#[cycle(statements)]
+#[tactic(auto, using(hal_tree::proofs::MadeStatements::parts_of_group))]
+fn emit_group<'a>(
+    tree: &'a Group,
+    code: &mut Vec<Instr>,
+    site: &Site<'_>,
+    locks: &Locks<'_>,
+    exits: &Exits<'a>,
+    mark: usize,
+) -> Result<(), Uncoded>
+    requires site { IsSite site.now }
+    requires locks { AreGroups site.now locks.now }
+    ensures { Emits (codes.group_code (seen_numbering site.now) (seen_site site.now) code.old.items (seen_exits exits.now) mark (seen_group tree.now)) result code.new.items }
+{
+    emit_statements(&tree.statements, code, site, locks, exits, mark)
+}
+
+/// Adds the code of what stands after ELSE, with a jump over it before it; before the consequence the next mark has this number.
+#[cycle(statements)]
+fn emit_alternative<'a>(
+    tree: &'a Option<Box<Statement>>,
+    consequence: &Statement,
+    code: &mut Vec<Instr>,
+    site: &Site<'_>,
+    locks: &Locks<'_>,
+    exits: &Exits<'a>,
+    mark: usize,
+) -> Result<(), Uncoded>
+    requires site { IsSite site.now }
+    requires locks { AreGroups site.now locks.now }
+    ensures { Emits (codes.alternative_code (seen_numbering site.now) (seen_site site.now) code.old.items (seen_exits exits.now) (marks.after_statement mark (seen_statement consequence.now)) (seen_alternative tree.now)) result code.new.items }
+{
+    match tree {
+        None => Ok(()),
+        Some(statement) => {
+            let end = sum(next(code.len())?, statement_size(statement, site)?)?;
+            push(code, Instr::Jump(end as u64))?;
+            let following = after_statement(consequence, mark)?;
+            emit_statement(statement, code, site, locks, exits, following)
+        }
+    }
+}
+
+/// Adds the code of the statements of an UPDATE block, whose end stands behind them.
+#[cycle(statements)]
+#[tactic(auto, using(crate::proofs::Ended::ended))]
+fn emit_updating(
+    body: &Vec<Statement>,
+    code: &mut Vec<Instr>,
+    site: &Site<'_>,
+    locks: &Locks<'_>,
+    mark: usize,
+) -> Result<(), Uncoded>
+    requires site { IsSite site.now }
+    requires locks { AreGroups site.now locks.now }
+    ensures { Emits (codes.statements_code (seen_numbering site.now) (seen_site site.now) code.old.items (placed.of_block placed.NoReturn (λ place. length code.old.items + sizes.statements_size (seen_numbering site.now) (seen_site site.now) (statements (map seen_statement body.now.items)))) (suc mark) (statements (map seen_statement body.now.items))) result code.new.items }
+{
+    let end = sum(code.len(), statements_size(body, site)?)?;
+    let inner = Exits::of_block(site.alloc, Leaving::NoReturn, end);
+    emit_statements(body, code, site, locks, &inner, next(mark)?)
+}
+
+/// Adds the code of a statement with these labels; those without code yet tell their place.
+#[cycle(statements)]
+#[tactic(auto, using(hal_tree::proofs::MadeStatements::made_null, hal_tree::proofs::MadeStatements::made_assignment, hal_tree::proofs::MadeStatements::made_if, hal_tree::proofs::MadeStatements::made_do, hal_tree::proofs::MadeStatements::made_do_case, hal_tree::proofs::MadeStatements::made_do_loop, hal_tree::proofs::MadeStatements::made_do_for, hal_tree::proofs::MadeStatements::made_exit, hal_tree::proofs::MadeStatements::made_repeat, hal_tree::proofs::MadeStatements::made_return, hal_tree::proofs::MadeStatements::made_call_statement, hal_tree::proofs::MadeStatements::made_read, hal_tree::proofs::MadeStatements::made_write, hal_tree::proofs::MadeStatements::made_update, hal_tree::proofs::MadeStatements::made_schedule_statement, hal_tree::proofs::MadeStatements::made_cancel, hal_tree::proofs::MadeStatements::made_terminate, hal_tree::proofs::MadeStatements::made_wait, hal_tree::proofs::MadeStatements::made_wait_until, hal_tree::proofs::MadeStatements::made_wait_for_dependent, hal_tree::proofs::MadeStatements::made_wait_for, hal_tree::proofs::MadeStatements::made_event, hal_tree::proofs::MadeStatements::made_update_priority, hal_tree::proofs::MadeStatements::made_on_error_statement, hal_tree::proofs::MadeStatements::made_on_error_response, hal_tree::proofs::MadeStatements::made_off_error, hal_tree::proofs::MadeStatements::made_send_error, crate::proofs::Called::call_uncoded))]
+fn emit_basic<'a>(
+    tree: &'a Basic,
+    labels: &'a [Identifier],
+    code: &mut Vec<Instr>,
+    site: &Site<'_>,
+    locks: &Locks<'_>,
+    exits: &Exits<'a>,
+    mark: usize,
+) -> Result<(), Uncoded>
+    requires site { IsSite site.now }
+    requires locks { AreGroups site.now locks.now }
+    ensures { Emits (codes.basic_code (seen_numbering site.now) (seen_site site.now) code.old.items (seen_exits exits.now) mark (map seen_name labels.now) (seen_basic tree.now)) result code.new.items }
+{
+    match tree {
+        Basic::If {
+            place: _,
+            condition,
+            consequence,
+            alternative,
+        } => {
+            emit_expression(condition, code, site)?;
+            let other = other_branch(consequence, alternative, site, code.len())?;
+            push(code, Instr::JumpNot(other as u64))?;
+            emit_statement(consequence, code, site, locks, exits, mark)?;
+            emit_alternative(alternative, consequence, code, site, locks, exits, mark)
+        }
+        Basic::Do { place: _, group } => {
+            let inner = in_group(exits, labels, group, site, code.len())?;
+            emit_group(group, code, site, locks, &inner, next(mark)?)
+        }
+        Basic::DoLoop {
+            place: _,
+            guard,
+            group,
+        } => {
+            let exit = sum(code.len(), loop_size(group, guard, site)?)?;
+            emit_first_test(guard, code, site, exit)?;
+            let turn = code.len();
+            push(code, Instr::Turn(exit as u64))?;
+            let inner = in_loop(exits, labels, group, site, turn, exit)?;
+            emit_group(group, code, site, locks, &inner, next(mark)?)?;
+            emit_test(guard, code, site, turn, exit)
+        }
+        Basic::Update {
+            place,
+            body,
+            close: _,
+        } => {
+            emit_open(code, site, locks, *place, mark)?;
+            emit_updating(body, code, site, locks, mark)?;
+            emit_one(code, *place, Instr::Close)
+        }
+        Basic::Null { place: _ } => Ok(()),
+        Basic::Assignment {
+            place,
+            receivers,
+            value,
+        } => {
+            emit_expression(value, code, site)?;
+            emit_receivers(receivers, code, site, *place)
+        }
+        Basic::Exit { place, label } => emit_exit(code, exits, *place, label),
+        Basic::Repeat { place, label } => emit_again(code, exits, *place, label),
+        Basic::Return { place, value } => emit_return(value, code, site, exits, *place),
+        Basic::Read {
+            place,
+            channel,
+            receivers,
+        } => emit_input(channel, receivers, code, site, *place),
+        Basic::Write {
+            place,
+            channel,
+            items,
+        } => emit_output(channel, items, code, site, *place),
+        Basic::Event(change) => emit_event(change, code, site),
+        Basic::Cancel { place, names } => emit_named(names, code, site, *place, Ask::Cancel),
+        Basic::Terminate { place, names } => emit_named(names, code, site, *place, Ask::Terminate),
+        Basic::Wait { place, time } => emit_wait(time, code, *place),
+        Basic::WaitUntil { place, time } => emit_wait_until(time, code, *place),
+        Basic::WaitForDependent { place } => emit_one(code, *place, Instr::Wait(Delay::Dependents)),
+        Basic::WaitFor { place, .. } => emit_event_pause(code, site, *place, mark),
+        Basic::OnErrorResponse {
+            place,
+            selector,
+            response,
+            event,
+        } => emit_response(code, site, *place, *selector, *response, event),
+        Basic::OffError { place, selector } => emit_off(code, *place, *selector),
+        Basic::SendError {
+            place,
+            group,
+            number,
+            ..
+        } => emit_raise(code, *place, *group, *number),
+        Basic::Call { place, .. } => Err(Uncoded::At(*place)),
+        Basic::DoCase { place, .. } => Err(Uncoded::At(*place)),
+        Basic::DoFor { place, .. } => Err(Uncoded::At(*place)),
+        Basic::Schedule { place, .. } => Err(Uncoded::At(*place)),
+        Basic::UpdatePriority { place, .. } => Err(Uncoded::At(*place)),
+        Basic::OnErrorStatement { place, .. } => Err(Uncoded::At(*place)),
+    }
+}

@@ -1,0 +1,27 @@
+-- What is looked up where phrases stand.
+use Rattle.std.specs.Prelude.{ℕ, ◌+◌, ◌≤◌, length, map}
+use Rattle.std.proofs.Common.{◌≡◌}
+use Rattle.hal_meaning.specs.Bodies.{processes_of}
+use Rattle.hal_meaning.specs.Events.{declared_events}
+use Rattle.hal_meaning.specs.ReportNames.{first_cell}
+use Rattle.hal_referents.specs.FirstCells.{first_in}
+use Rattle.hal_referents.specs.Referents.{referents}
+use Rattle.hal_referents.specs.SeenReferents.{seen_referent}
+use Rattle.hal_set.specs.SeenSets.{seen_set}
+use Rattle.hal_gen_expr.specs.SeenSites.{IsSite, Sited}
+use Rattle.hal_gen_expr.specs.declared.site.Site as rust-site
+
+pub listed_of : (s : rust-site.Site) → IsSite s → map seen_referent s.referents.now ≡ referents (seen_set s.set.now).phrases (seen_set s.set.now).constants
+listed_of s (Sited listed processes declared few counted) = listed
+
+pub processes_there : (s : rust-site.Site) → IsSite s → s.events.processes.now ≡ processes_of (seen_set s.set.now).phrases
+processes_there s (Sited listed processes declared few counted) = processes
+
+pub declared_there : (s : rust-site.Site) → IsSite s → s.events.declared.now ≡ declared_events (seen_set s.set.now).phrases
+declared_there s (Sited listed processes declared few counted) = declared
+
+pub few_there : (s : rust-site.Site) → IsSite s → length s.events.processes.now + length s.events.declared.now ≤ 65535
+few_there s (Sited listed processes declared few counted) = few
+
+pub counted_of : (s : rust-site.Site) (k : ℕ) → IsSite s → first_in s.cells.now k ≡ first_cell (seen_set s.set.now).phrases (seen_set s.set.now).constants k
+counted_of s k (Sited listed processes declared few counted) = counted k

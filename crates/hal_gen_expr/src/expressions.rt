@@ -1,0 +1,359 @@
+//! The code of expressions.
+
+ghost use Rattle.std.specs.Prelude.{◌≡◌, ◌∷◌, [], map};
+ghost use Rattle.std.specs.Option.{option_map};
+ghost use Rattle.hal_tree.specs.Rows.{expressions, terms};
+ghost use Rattle.hal_tree.specs.SeenExpressions.{seen_expression, seen_reference, seen_signed};
+ghost use Rattle.hal_tree.specs.SeenLeaves.{seen_conversion, seen_literal};
+ghost use Rattle.hal_constants.specs.declared.operation.Operation.TheVariants as operation;
+ghost use Rattle.hal_meaning.specs.Expressions as meaning;
+ghost use Rattle.hal_referents.specs.Referents.{BuiltinOf};
+ghost use Rattle.hal_referents.specs.SeenReferents.{seen_meant, seen_referent};
+ghost use Rattle.hal_gen_expr.specs.Called as called;
+ghost use Rattle.hal_gen_expr.specs.Emits.{Emits};
+ghost use Rattle.hal_gen_expr.specs.Emitting as emitting;
+ghost use Rattle.hal_gen_expr.specs.ExpressionCode as codes;
+ghost use Rattle.hal_gen_expr.specs.SeenSites.{seen_site, seen_numbering, IsSite};
+
+use crate::conditions::stay;
+use crate::leaves::{
+    emit_one, emit_sign, emit_two, exponent_instr, literal_instr, one, operation_of_relation, two,
+};
+use crate::names::{emit_value, referent};
+use crate::site::Site;
+use crate::uncoded::Uncoded;
+use hal_base::Place;
+use hal_code::Instr;
+use hal_constants::{Operation, operation_of, operation_of_conversion, operation_of_sign};
+use hal_operations::{Op1, Op2};
+use hal_referents::{Meant, Referent};
+use hal_scope::Builtin;
+use hal_tree::{Conversion, Expr, LiteralValue, Reference, SignedTerm, Subscript};
+
+/// Whether a built-in function is SIZE.
+fn is_size(builtin: Builtin) -> bool
+    ensures { result ≡ meaning.is_size builtin }
+{
+    match builtin {
+        Builtin::Size => true,
+        _ => false,
+    }
+}
+
+/// Whether there are no more expressions.
+#[tactic(auto, unfolding(hal_tree::specs::Rows::expressions))]
+fn ends(trees: &[Expr]) -> bool
+    ensures { result ≡ codes.ends (expressions (map seen_expression trees.now)) }
+{
+    match trees.split_first() {
+        None => true,
+        Some(_) => false,
+    }
+}
+
+/// What a name with a list is.
+#[derive(Clone, Copy)]
+enum Form {
+    /// A product of the name's value and the list.
+    Multiplied,
+    /// An operation of one argument.
+    One(Op1),
+    /// An operation of two arguments.
+    Two(Op2),
+    /// Nothing that has code yet.
+    Uncoded,
+}
+
+/// What a name is before a list that refers to this declaration; no call has code yet.
+fn declared_form(referent: &Referent) -> Form
+    ensures { result ≡ called.form_of (seen_referent referent.now) }
+{
+    match referent {
+        Referent::Data { .. } => Form::Multiplied,
+        Referent::Constant(_) => Form::Multiplied,
+        Referent::Event(_) => Form::Uncoded,
+        Referent::Block(_) => Form::Uncoded,
+        Referent::Nothing => Form::Uncoded,
+    }
+}
+
+/// What a built-in function is before a list; SIZE has no code yet.
+fn builtin_form(builtin: Builtin) -> Form
+    ensures { result ≡ called.form_of (BuiltinOf builtin) }
+{
+    if is_size(builtin) {
+        return Form::Uncoded;
+    }
+    match operation_of(builtin) {
+        Operation::One(op) => Form::One(op),
+        Operation::Two(op) => Form::Two(op),
+        Operation::Size => Form::Uncoded,
+        Operation::Nothing => Form::Uncoded,
+    }
+}
+
+/// What a name is before a list.
+fn form_of(meant: Meant<'_>) -> Form
+    ensures { result ≡ called.form_of (seen_meant meant.entry) }
+{
+    match meant {
+        Meant::Declared(referent) => declared_form(referent),
+        Meant::Builtin(builtin) => builtin_form(builtin),
+        Meant::Nothing => Form::Uncoded,
+    }
+}
+
+/// Tells the place of AND or OR whose operands don't stay as they are.
+fn require_stay(
+    code: &Vec<Instr>,
+    place: Place,
+    first: &Expr,
+    others: &Vec<Expr>,
+) -> Result<(), Uncoded>
+    ensures { Emits (codes.where_they_stay code.now.items place (seen_expression first.now) (expressions (map seen_expression others.now.items))) result code.now.items }
+{
+    if stay(first, others) {
+        Ok(())
+    } else {
+        Err(Uncoded::At(place))
+    }
+}
+
+/// The instruction of a conversion.
+#[tactic(auto, unfolding(hal_constants::specs::Constants::operation_of_conversion))]
+fn converts(conversion: Conversion) -> Instr
+    ensures { result ≡ codes.one (meaning.operation_of_conversion (seen_conversion conversion)) }
+{
+    one(operation_of_conversion(conversion))
+}
+
+/// Adds the code of a literal.
+fn emit_literal(code: &mut Vec<Instr>, place: Place, literal: LiteralValue) -> Result<(), Uncoded>
+    ensures { Emits (emitting.emit code.old.items place (option_map (λ i. i ∷ []) (codes.literal_instr (seen_literal literal)))) result code.new.items }
+{
+    match literal_instr(literal) {
+        None => Err(Uncoded::At(place)),
+        Some(instr) => emit_one(code, place, instr),
+    }
+}
+
+/// Adds the code of a reference; those with subscripts have none yet.
+#[tactic(auto, using(hal_tree::proofs::MadeExpressions::made_reference, hal_tree::proofs::MadeExpressions::made_unsubscripted, hal_tree::proofs::MadeExpressions::made_by_name, hal_tree::proofs::MadeExpressions::made_by_integer, hal_tree::proofs::MadeExpressions::made_by_parts))]
+fn emit_reference(
+    code: &mut Vec<Instr>,
+    site: &Site<'_>,
+    reference: &Reference,
+) -> Result<(), Uncoded>
+    requires site { IsSite site.now }
+    ensures { Emits (codes.reference_code (seen_numbering site.now) (seen_site site.now) code.old.items (seen_reference reference.now)) result code.new.items }
+{
+    match &reference.subscript {
+        Subscript::None => emit_value(
+            code,
+            site,
+            reference.place,
+            &reference.further,
+            referent(site, &reference.name),
+        ),
+        Subscript::Name { .. } => Err(Uncoded::At(reference.place)),
+        Subscript::Integer { .. } => Err(Uncoded::At(reference.place)),
+        Subscript::Parts { .. } => Err(Uncoded::At(reference.place)),
+    }
+}
+
+/// Adds the code of an expression, which leaves its value on the stack, or tells the place of the first part of it that has none yet (image document, Code
+/// that stands for a set).
+#[cycle(expressions)]
+#[tactic(auto, using(hal_tree::proofs::MadeExpressions::made_or, hal_tree::proofs::MadeExpressions::made_and, hal_tree::proofs::MadeExpressions::made_compare, hal_tree::proofs::MadeExpressions::made_cat, hal_tree::proofs::MadeExpressions::made_sum, hal_tree::proofs::MadeExpressions::made_product, hal_tree::proofs::MadeExpressions::made_power, hal_tree::proofs::MadeExpressions::made_not, hal_tree::proofs::MadeExpressions::made_literal, hal_tree::proofs::MadeExpressions::made_decimal, hal_tree::proofs::MadeExpressions::made_referred, hal_tree::proofs::MadeExpressions::made_call, hal_tree::proofs::MadeExpressions::made_convert, hal_tree::proofs::MadeExpressions::made_parenthesis, crate::proofs::Formed::called_formed))]
+pub fn emit_expression(tree: &Expr, code: &mut Vec<Instr>, site: &Site<'_>) -> Result<(), Uncoded>
+    requires site { IsSite site.now }
+    ensures { Emits (codes.expression_code (seen_numbering site.now) (seen_site site.now) code.old.items (seen_expression tree.now)) result code.new.items }
+{
+    match tree {
+        Expr::Or {
+            place,
+            first,
+            others,
+        } => {
+            require_stay(code, *place, first, others)?;
+            emit_expression(first, code, site)?;
+            emit_folded(others, code, site, *place, Op2::Or)
+        }
+        Expr::And {
+            place,
+            first,
+            others,
+        } => {
+            require_stay(code, *place, first, others)?;
+            emit_expression(first, code, site)?;
+            emit_folded(others, code, site, *place, Op2::And)
+        }
+        Expr::Compare {
+            place,
+            left,
+            relation,
+            right,
+        } => {
+            emit_expression(left, code, site)?;
+            emit_expression(right, code, site)?;
+            emit_one(code, *place, two(operation_of_relation(*relation)))
+        }
+        Expr::Cat {
+            place,
+            first,
+            others,
+        } => {
+            emit_expression(first, code, site)?;
+            emit_folded(others, code, site, *place, Op2::Cat)
+        }
+        Expr::Sum {
+            place,
+            opening,
+            first,
+            others,
+        } => {
+            emit_expression(first, code, site)?;
+            emit_sign(code, *place, *opening)?;
+            emit_terms(others, code, site)
+        }
+        Expr::Product {
+            place,
+            first,
+            others,
+        } => {
+            emit_expression(first, code, site)?;
+            emit_folded(others, code, site, *place, Op2::Product)
+        }
+        Expr::Power {
+            place,
+            base,
+            exponent,
+        } => {
+            emit_expression(base, code, site)?;
+            emit_two(code, *place, exponent_instr(exponent), two(Op2::Power))
+        }
+        Expr::Not { place, operand } => {
+            emit_expression(operand, code, site)?;
+            emit_one(code, *place, one(Op1::Not))
+        }
+        Expr::Literal { place, literal } => emit_literal(code, *place, *literal),
+        Expr::Decimal { place, .. } => Err(Uncoded::At(*place)),
+        Expr::Reference(reference) => emit_reference(code, site, reference),
+        Expr::Call {
+            place,
+            name,
+            arguments,
+        } => match form_of(referent(site, name)) {
+            Form::Multiplied => {
+                emit_value(code, site, *place, &[], referent(site, name))?;
+                emit_folded(arguments, code, site, *place, Op2::Product)
+            }
+            Form::One(op) => emit_of_one(arguments, code, site, *place, op),
+            Form::Two(op) => emit_of_two(arguments, code, site, *place, op),
+            Form::Uncoded => Err(Uncoded::At(*place)),
+        },
+        Expr::Convert {
+            place,
+            conversion,
+            operand,
+        } => {
+            emit_expression(operand, code, site)?;
+            emit_one(code, *place, converts(*conversion))
+        }
+        Expr::Parenthesis { inner, .. } => emit_expression(inner, code, site),
+    }
+}
+
+/// Adds the code of operands behind a value, each with the operation.
+#[cycle(expressions)]
+#[tactic(auto, unfolding(hal_tree::specs::Rows::expressions))]
+fn emit_folded(
+    trees: &Vec<Expr>,
+    code: &mut Vec<Instr>,
+    site: &Site<'_>,
+    place: Place,
+    op: Op2,
+) -> Result<(), Uncoded>
+    requires site { IsSite site.now }
+    ensures { Emits (codes.folded_code (seen_numbering site.now) (seen_site site.now) code.old.items place op (expressions (map seen_expression trees.now.items))) result code.new.items }
+{
+    for tree in trees {
+        emit_expression(tree, code, site)?;
+        emit_one(code, place, two(op))?;
+    }
+    Ok(())
+}
+
+/// Adds the code of terms behind a value.
+#[cycle(expressions)]
+#[tactic(auto, unfolding(hal_tree::specs::Rows::terms))]
+fn emit_terms(list: &Vec<SignedTerm>, code: &mut Vec<Instr>, site: &Site<'_>) -> Result<(), Uncoded>
+    requires site { IsSite site.now }
+    ensures { Emits (codes.terms_code (seen_numbering site.now) (seen_site site.now) code.old.items (terms (map seen_signed list.now.items))) result code.new.items }
+{
+    for term in list {
+        emit_term(term, code, site)?;
+    }
+    Ok(())
+}
+
+/// Adds the code of a term behind a value.
+#[cycle(expressions)]
+#[tactic(auto, using(hal_tree::proofs::MadeExpressions::made_signed), unfolding(hal_constants::specs::Constants::operation_of_sign))]
+fn emit_term(term: &SignedTerm, code: &mut Vec<Instr>, site: &Site<'_>) -> Result<(), Uncoded>
+    requires site { IsSite site.now }
+    ensures { Emits (called.term_code (seen_numbering site.now) (seen_site site.now) code.old.items (seen_signed term.now)) result code.new.items }
+{
+    emit_expression(&term.term, code, site)?;
+    emit_one(code, term.place, two(operation_of_sign(term.sign)))
+}
+
+/// Adds the code of an operation of one argument.
+#[cycle(expressions)]
+#[tactic(auto, unfolding(hal_tree::specs::Rows::expressions))]
+fn emit_of_one(
+    arguments: &Vec<Expr>,
+    code: &mut Vec<Instr>,
+    site: &Site<'_>,
+    place: Place,
+    op: Op1,
+) -> Result<(), Uncoded>
+    requires site { IsSite site.now }
+    ensures { Emits (codes.built_code (seen_numbering site.now) (seen_site site.now) code.old.items place (operation.One op) (expressions (map seen_expression arguments.now.items))) result code.new.items }
+{
+    let Some((operand, others)) = arguments.split_first() else {
+        return Err(Uncoded::At(place));
+    };
+    if !ends(others) {
+        return Err(Uncoded::At(place));
+    }
+    emit_expression(operand, code, site)?;
+    emit_one(code, place, one(op))
+}
+
+/// Adds the code of an operation of two arguments.
+#[cycle(expressions)]
+#[tactic(auto, unfolding(hal_tree::specs::Rows::expressions))]
+fn emit_of_two(
+    arguments: &Vec<Expr>,
+    code: &mut Vec<Instr>,
+    site: &Site<'_>,
+    place: Place,
+    op: Op2,
+) -> Result<(), Uncoded>
+    requires site { IsSite site.now }
+    ensures { Emits (codes.built_code (seen_numbering site.now) (seen_site site.now) code.old.items place (operation.Two op) (expressions (map seen_expression arguments.now.items))) result code.new.items }
+{
+    let Some((left, others)) = arguments.split_first() else {
+        return Err(Uncoded::At(place));
+    };
+    let Some((right, more)) = others.split_first() else {
+        return Err(Uncoded::At(place));
+    };
+    if !ends(more) {
+        return Err(Uncoded::At(place));
+    }
+    emit_expression(left, code, site)?;
+    emit_expression(right, code, site)?;
+    emit_one(code, place, two(op))
+}
