@@ -1,2 +1,9 @@
 pub mod ProcessCode
 pub mod Linking
+pub mod Views
+pub mod Placing
+pub mod Links
+pub mod Members
+pub mod Processes
+pub mod SeenLinking
+pub mod Finding

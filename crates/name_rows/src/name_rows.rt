@@ -1,8 +1,10 @@
-//! Rows of names and types. `UNIT ~~ UNIT => rule 601 0 3:7` is a set of units that breaks a rule in unit 0 at a line and a column, and `UNIT => right` one
-//! that breaks none: no rule of names where it is tried as `names`, and none of types either where it is tried as `types`. A newline in a unit is written `\n`.
+//! Rows of names, types and locks. `UNIT ~~ UNIT => rule 601 0 3:7` is a set of units that breaks a rule in unit 0 at a line and a column, and `UNIT => right` one
+//! that breaks none: no rule of names where it is tried as `names`, none of types either where it is tried as `types`, and none of locks either where it is tried as
+//! `locks`. A newline in a unit is written `\n`.
 
 use hal_base::{Fault, Place, Refusal, Rule};
 use hal_lexer::tokens;
+use hal_locks::check_locks;
 use hal_parse::parse;
 use hal_scope::resolve;
 use hal_tree::File;
@@ -28,6 +30,7 @@ impl Rows for NameRows {
         let outcome = match way {
             "names" => names_of(alloc, units),
             "types" => types_of(alloc, units),
+            "locks" => locks_of(alloc, units),
             _ => return String::from_str(alloc, "a way in which nothing is tried"),
         };
         let came = match outcome {
@@ -82,4 +85,12 @@ fn types_of(alloc: Global, units: &str) -> Result<(), Fault> {
     let files = files_of(alloc, units)?;
     let names = resolve(alloc, files.as_slice())?;
     check_types(alloc, &names)
+}
+
+/// Whether a set of units breaks no rule of names, none of types and none of locks.
+fn locks_of(alloc: Global, units: &str) -> Result<(), Fault> {
+    let files = files_of(alloc, units)?;
+    let names = resolve(alloc, files.as_slice())?;
+    check_types(alloc, &names)?;
+    check_locks(alloc, &names)
 }

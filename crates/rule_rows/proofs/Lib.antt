@@ -3,3 +3,4 @@ pub mod Rules60
 pub mod Rules70
 pub mod Rules71
 pub mod Rules72
+pub mod Rules80

@@ -5,6 +5,7 @@ use Rattle.hal_grammar.specs.Units.{File}
 use Rattle.hal_phrases.specs.GatheredUnits.{phrases_of}
 use Rattle.hal_scope.specs.Rules.{Breaks, IsSound, rows}
 use Rattle.hal_types.specs.Rules.{type_rows}
+use Rattle.hal_locks.specs.Rules.{lock_rows}
 
 -- it breaks this rule of names at this place
 abbrev pub BreaksNames : List File → ℕ → Place → Type 0
@@ -25,3 +26,11 @@ IsTyped files = IsNamed files × IsSound type_rows (phrases_of files)
 -- it breaks this rule of types at this place, whatever it breaks of names
 abbrev pub MistypesAlone : List File → ℕ → Place → Type 0
 MistypesAlone files rule place = Breaks type_rows (phrases_of files) rule place
+
+-- it breaks no rule of names and none of types, and this rule of locks at this place
+abbrev pub BreaksLocks : List File → ℕ → Place → Type 0
+BreaksLocks files rule place = IsTyped files × Breaks lock_rows (phrases_of files) rule place
+
+-- it breaks no rule of names, none of types and none of locks
+abbrev pub KeepsLocks : List File → Type 0
+KeepsLocks files = IsTyped files × IsSound lock_rows (phrases_of files)

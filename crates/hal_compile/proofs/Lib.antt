@@ -1,0 +1,5 @@
+pub mod Broken
+pub mod Fitting
+pub mod Meanings
+pub mod Readings
+pub mod Running

@@ -1,0 +1,112 @@
+-- A set of texts has one meaning at most, and one with a meaning breaks no rule.
+use Rattle.std.proofs.Common.{◌≡◌, ℕ, ◌+◌, inl, inr, List, [], ◌∷◌, map, length, Some, Ok, Err, refl, ap, ap₂, sym, subst, ◌∙◌, arith}
+use Rattle.hal_base.specs.declared.refusal.Place.{Place}
+use Rattle.hal_base.specs.declared.refusal.Refusal.{Refusal}
+use Rattle.hal_words.specs.declared.word.Token.{Token}
+use Rattle.hal_words.specs.declared.word.Word.{Word}
+use Rattle.hal_words.specs.Pieces.{Piece, Is}
+use Rattle.hal_words.specs.Lines.{Item}
+use Rattle.hal_words.specs.Words.{IsCut, word_item}
+use Rattle.hal_lexer.proofs.NoBreach.{no_breach}
+use Rattle.hal_grammar.specs.Units.{File}
+use Rattle.hal_grammar.specs.SpellsFiles.{SpellsFile}
+use Rattle.hal_grammar.proofs.OneFile.{one_file}
+use Rattle.hal_phrases.specs.Phrases.{Phrase}
+use Rattle.hal_phrases.specs.GatheredUnits.{phrases_of}
+use Rattle.hal_constants.specs.Known.{Known, known}
+use Rattle.hal_limits.specs.Limits.{IsWithin, BreaksLimit}
+use Rattle.hal_parse.specs.Parsed.{IsFileOf}
+use Rattle.hal_compile.specs.Compiling.{Compiles, FilesBreak, IsChecked, IsUncompiled, linked_in}
+use Rattle.hal_compile.specs.Reading.{IsRead, AreRead, TextBreaks, TextsBreak}
+use Rattle.hal_compile.specs.Texts.{Breaks, HasMeaning}
+
+abbrev token_at : Word → Place → Token
+token_at word place = record { word = word; place = place }
+
+-- the word of a piece, or else this one
+word_or : Word → Piece → Word
+word_or other (Is word) = word
+word_or other piece = other
+
+-- the first item, or else this one, and the other items
+first_or : Item → List Item → Item
+first_or other [] = other
+first_or other (one ∷ items) = one
+
+others : List Item → List Item
+others [] = []
+others (one ∷ items) = items
+
+same_token : (a b : Token) → word_item a ≡ word_item b → a ≡ b
+unfolding word_or
+same_token a b is = ap₂ token_at (ap (λ (one : Item). word_or a.word one.piece) is) (ap (λ (one : Item). one.place) is)
+
+same_tokens : (xs ys : List Token) → map word_item xs ≡ map word_item ys → xs ≡ ys
+unfolding first_or others
+same_tokens [] [] is = refl
+same_tokens [] (y ∷ ys) is = absurd (omega (arith, ap length is))
+same_tokens (x ∷ xs) [] is = absurd (omega (arith, ap length is))
+same_tokens (x ∷ xs) (y ∷ ys) is =
+    ap₂ (λ (t : Token) (ts : List Token). t ∷ ts) (same_token x y (ap (first_or (word_item x)) is)) (same_tokens xs ys (ap others is))
+
+-- a text has one list of words
+pub one_cut : (number : ℕ) (text : List ℕ) (xs ys : List Token) → IsCut number text xs → IsCut number text ys → xs ≡ ys
+one_cut number text xs ys one other = same_tokens xs ys (sym one.words ∙ other.words)
+
+-- and is that of one file
+pub one_read : (number : ℕ) (text : List ℕ) (f g : File) → IsRead number text f → IsRead number text g → f ≡ g
+one_read number text f g one other =
+    (one_file one.parsed.spelled (subst (λ (tokens : List Token). SpellsFile g tokens []) (one_cut number text other.tokens one.tokens other.cut one.cut) other.parsed.spelled)).0
+
+-- texts are those of one list of files
+pub one_list : (number : ℕ) (texts : List (List ℕ)) (fs gs : List File) → AreRead number texts fs → AreRead number texts gs → fs ≡ gs
+one_list number [] [] [] one other = refl
+one_list number [] (f ∷ fs) gs one other = absurd one
+one_list number [] [] (g ∷ gs) one other = absurd other
+one_list number (text ∷ texts) [] gs one other = absurd one
+one_list number (text ∷ texts) (f ∷ fs) [] one other = absurd other
+one_list number (text ∷ texts) (f ∷ fs) (g ∷ gs) one other =
+    ap₂ (λ (x : File) (xs : List File). x ∷ xs) (one_read number text f g one.0 other.0) (one_list (number + 1) texts fs gs one.1 other.1)
+
+pub one_meaning : (texts : List (List ℕ)) (files others : List File) → HasMeaning texts files → HasMeaning texts others → files ≡ others
+one_meaning texts files others has also = one_list 0 texts files others has.read also.read
+
+-- a text that is that of a file breaks no rule of words, nor 401
+read_breaks_nothing : (number : ℕ) (text : List ℕ) (file : File) (refusal : Refusal) → IsRead number text file → TextBreaks number text refusal → ⊥
+read_breaks_nothing number text file refusal read (inl breach) = no_breach number text read.tokens refusal.rule.0 refusal.place read.cut breach
+read_breaks_nothing number text file refusal read (inr unread) =
+    unread.unread.none file (subst (λ (tokens : List Token). IsFileOf tokens file) (one_cut number text read.tokens unread.tokens read.cut unread.cut) read.parsed)
+
+all_break_nothing : (number : ℕ) (texts : List (List ℕ)) (files : List File) (refusal : Refusal) → AreRead number texts files → TextsBreak number texts refusal → ⊥
+all_break_nothing number [] files refusal read breaks = absurd breaks
+all_break_nothing number (text ∷ texts) [] refusal read breaks = absurd read
+all_break_nothing number (text ∷ texts) (file ∷ files) refusal read (inl first) = read_breaks_nothing number text file refusal read.0 first
+all_break_nothing number (text ∷ texts) (file ∷ files) refusal read (inr (other, also, later)) = all_break_nothing (number + 1) texts files refusal read.1 later
+
+-- limits that are kept are not passed
+within_limits : (ps : List Phrase) (vs : Known) (rule : ℕ) → IsWithin ps vs → BreaksLimit ps vs rule → ⊥
+within_limits ps vs rule within (inl (is, inl cells)) = omega (arith, within.cells, cells)
+within_limits ps vs rule within (inl (is, inr views)) = omega (arith, within.views, views)
+within_limits ps vs rule within (inr (inl processes)) = omega (arith, within.processes, processes.1)
+within_limits ps vs rule within (inr (inr events)) = omega (arith, within.events, events.1)
+
+-- files with an image lack none
+compiled_lacks_none : (files : List File) (image : _) (place : Place) → Compiles files image → IsUncompiled files place → ⊥
+compiled_lacks_none files image place compiled (inl told) = clash (linked_in files) compiled.linked told
+  where
+    clash : (found : _) → found ≡ Ok image → found ≡ Err (Some place) → ⊥
+    clash found ok err = cc
+compiled_lacks_none files image place compiled (inr (at, none)) = none image compiled
+
+unbroken : (files : List File) (image : _) (refusal : Refusal) → IsChecked (phrases_of files) → Compiles files image → FilesBreak files refusal → ⊥
+unbroken files image refusal checked compiled (inl breaks) = checked.lawful.typed.named refusal.rule.0 refusal.place breaks
+unbroken files image refusal checked compiled (inr (inl breaks)) = checked.lawful.typed.typed refusal.rule.0 refusal.place breaks
+unbroken files image refusal checked compiled (inr (inr (inl breaks))) = checked.lawful.locked refusal.rule.0 refusal.place breaks
+unbroken files image refusal checked compiled (inr (inr (inr (inl exceeds)))) = within_limits (phrases_of files) (known (phrases_of files)) refusal.rule.0 checked.within exceeds.exceeded
+unbroken files image refusal checked compiled (inr (inr (inr (inr lacks)))) = compiled_lacks_none files image refusal.place compiled lacks.uncompiled
+
+pub meaning_breaks_nothing : (texts : List (List ℕ)) (files : List File) (refusal : Refusal) → HasMeaning texts files → Breaks texts refusal → ⊥
+meaning_breaks_nothing texts files refusal has (inl breaks) = all_break_nothing 0 texts files refusal has.read breaks
+meaning_breaks_nothing texts files refusal has (inr breaks) =
+    unbroken files has.image refusal has.checked has.compiled
+    (subst (λ (fs : List File). FilesBreak fs refusal) (one_list 0 texts breaks.files files breaks.read has.read) breaks.broken)

@@ -1,0 +1,101 @@
+-- When files have an image that can run.
+use Rattle.std.specs.Prelude.{IfOk}
+use Rattle.std.proofs.Common.{◌≡◌, ◌↔◌, inl, inr, ℕ, Bool, true, false, IsTrue, List, Option, Some, None, Result, Ok, Err, refl, ap, sym, subst, ◌∙◌}
+use Rattle.std.specs.declared.alloc.AllocError.{AllocError}
+use Rattle.hal_base.specs.declared.refusal.Place.{Place}
+use Rattle.hal_phrases.specs.Phrases.{Phrase}
+use Rattle.hal_phrases.specs.GatheredUnits.{phrases_of}
+use Rattle.hal_constants.specs.Known.{Known, known}
+use Rattle.hal_meaning.specs.Bodies.{Body, bodies_of}
+use Rattle.hal_grammar.specs.Units.{File}
+use Rattle.hal_code.specs.declared.image.ImageParts.{ImageParts}
+use Rattle.hal_code.specs.Right.{IsRight}
+use Rattle.hal_layout.specs.Layouts.{Layout, IsNarrow, layout_of, tables_of}
+use Rattle.hal_limits.specs.Limits.{beginning}
+use Rattle.hal_link.specs.Linking.{image_of}
+use Rattle.hal_link.specs.Views.{views_of}
+use Rattle.hal_meaning.specs.Sets.{Set, set_of}
+use Rattle.hal_values.specs.Loads.{turn_limit}
+use Rattle.hal_compile.specs.Compiling.{CanRun, Fits, IsImageOf, linked_in, set_in}
+use Rattle.hal_compile.specs.Fitness.{have_cells, is_narrow}
+use Rattle.hal_compile.proofs.Fitting.{celled, narrow}
+
+abbrev found : ImageParts → Result ImageParts (Option Place)
+found image = Ok image
+
+abbrev nowhere : Result ImageParts (Option Place)
+nowhere = Err None
+
+clash : (b : Bool) → b ≡ true → b ≡ false → ⊥
+clash b is not = cc
+
+-- an image can run where it is right and has cells
+pub runs_with : (image : ImageParts) (right cells : Bool) → IsTrue right ↔ IsRight image → right ≡ true → cells ≡ have_cells image → IsTrue cells ↔ CanRun image
+runs_with image right cells told is same = (
+  λ all. record { right = told.0 is; cells = (celled image).0 (sym same ∙ all) },
+  λ runs. same ∙ (celled image).1 runs.cells,
+)
+
+-- and only there
+pub runs_not : (image : ImageParts) (right : Bool) → IsTrue right ↔ IsRight image → right ≡ false → IsTrue false ↔ CanRun image
+runs_not image right told is = (λ one. absurd (clash false one refl), λ runs. sym is ∙ told.1 runs.right)
+
+pub fits : (image : ImageParts) (told : Bool) → IsTrue told ↔ CanRun image → told ≡ true → Fits (Ok image) (Ok image)
+fits image told by is = (refl, by.0 is)
+
+pub cannot_run : (image : ImageParts) (told : Bool) → IsTrue told ↔ CanRun image → told ≡ false → Fits (Ok image) (Err beginning)
+cannot_run image told by is = inr (refl, λ other same runs. clash told (by.1 (runs_as other same runs)) is)
+  where
+    runs_as : (other : ImageParts) → found image ≡ found other → CanRun other → CanRun image
+    runs_as other same runs =
+        let equal : image ≡ other = cc in
+        subst (λ (one : ImageParts). CanRun one) (sym equal) runs
+
+-- what linking told
+pub linked_image : (wanted : Result ImageParts (Option Place)) (image : ImageParts) (answer : Result (Result ImageParts Place) AllocError) → wanted ≡ Ok image → IfOk answer (Fits (Ok image)) → IfOk answer (Fits wanted)
+linked_image wanted image answer is fit = subst (λ (w : Result ImageParts (Option Place)). IfOk answer (Fits w)) (sym is) fit
+
+pub told_there : (wanted : Result ImageParts (Option Place)) (place : Place) → wanted ≡ Err (Some place) → Fits wanted (Err place)
+told_there wanted place is = inl is
+
+pub told_nowhere : (wanted : Result ImageParts (Option Place)) → wanted ≡ Err None → Fits wanted (Err beginning)
+told_nowhere wanted is = inr (refl, λ image also runs. apart image (sym is ∙ also))
+  where
+    apart : (image : ImageParts) → nowhere ≡ found image → ⊥
+    apart image same = cc
+
+-- linking the set of files is linking them
+pub linked_set : (files : List File) (s : Set) (answer : Result (Result ImageParts Place) AllocError) → s ≡ set_of turn_limit files → IfOk answer (Fits (image_of s (views_of s))) → IfOk answer (Fits (linked_in files))
+unfolding linked_in set_in
+linked_set files s answer is fit = subst (λ (one : Set). IfOk answer (Fits (image_of one (views_of one)))) is fit
+
+-- the set of these parts
+abbrev pub the_set : List Phrase → Known → Layout → List Body → ℕ → Set
+the_set ps vs l bs turns = record { phrases = ps; constants = vs; bodies = bs; stated = l.expressions; tables = tables_of l; turns = turns }
+
+pub set_as : (files : List File) (ps : List Phrase) (vs : Known) (l : Layout) (bs : List Body) (turns : ℕ) → ps ≡ phrases_of files → vs ≡ known (phrases_of files)
+    → l ≡ layout_of (phrases_of files) (known (phrases_of files)) → bs ≡ bodies_of files ps → turns ≡ turn_limit → the_set ps vs l bs turns ≡ set_of turn_limit files
+set_as files ps vs l bs turns p v laid b t =
+    ap (λ (qs : List Phrase). the_set qs vs l bs turns) p
+    ∙ ap (λ (ws : Known). the_set (phrases_of files) ws l bs turns) v
+    ∙ ap (λ (k : Layout). the_set (phrases_of files) (known (phrases_of files)) k bs turns) laid
+    ∙ ap (λ (cs : List Body). the_set (phrases_of files) (known (phrases_of files)) (layout_of (phrases_of files) (known (phrases_of files))) cs turns) (b ∙ ap (λ (qs : List Phrase). bodies_of files qs) p)
+    ∙ ap (λ (n : ℕ). the_set (phrases_of files) (known (phrases_of files)) (layout_of (phrases_of files) (known (phrases_of files))) (bodies_of files (phrases_of files)) n) t
+
+-- where tables have room, what linking came to tells whether there is an image
+found_by : (files : List File) (answer : Result ImageParts Place) → IsNarrow (layout_of (phrases_of files) (known (phrases_of files))) → Fits (linked_in files) answer → IsImageOf files answer
+found_by files (Ok image) room fit = record { linked = fit.0; narrow = room; runs = fit.1 }
+found_by files (Err place) room (inl told) = inl told
+found_by files (Err place) room (inr (at, none)) = inr (at, λ image compiled. none image compiled.linked compiled.runs)
+
+pub image_found : (files : List File) (answer : Result (Result ImageParts Place) AllocError) (l : Layout) → l ≡ layout_of (phrases_of files) (known (phrases_of files)) → IsNarrow l
+    → IfOk answer (Fits (linked_in files)) → IfOk answer (IsImageOf files)
+image_found files (Ok found) l same room fit = found_by files found (subst IsNarrow same room) fit
+image_found files (Err error) l same room fit = tt
+
+pub room_for : (l : Layout) (told : Bool) → told ≡ is_narrow l → told ≡ true → IsNarrow l
+room_for l told is room = (narrow l).0 (sym is ∙ room)
+
+-- where they have none, there is none
+pub too_wide : (files : List File) (l : Layout) (told : Bool) → l ≡ layout_of (phrases_of files) (known (phrases_of files)) → told ≡ is_narrow l → told ≡ false → IsImageOf files (Err beginning)
+too_wide files l told same is wide = inr (refl, λ image compiled. clash (is_narrow l) ((narrow l).1 (subst IsNarrow (sym same) compiled.narrow)) (sym is ∙ wide))

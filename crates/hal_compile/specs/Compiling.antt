@@ -1,0 +1,115 @@
+-- When a set of files has an image, and which rules it breaks otherwise.
+use Rattle.std.specs.Prelude.{◌≡◌, ◌⊎◌, List, Option, Some, Result, Ok, Err, ⊤}
+use Rattle.hal_base.specs.declared.refusal.Place.{Place}
+use Rattle.hal_base.specs.declared.refusal.Refusal.{Refusal}
+use Rattle.hal_base.specs.declared.refusal.Fault.{Fault}
+use Rattle.hal_base.specs.declared.refusal.Fault.TheVariants as fault
+use Rattle.hal_grammar.specs.Units.{File}
+use Rattle.hal_phrases.specs.Phrases.{Phrase}
+use Rattle.hal_phrases.specs.GatheredUnits.{phrases_of}
+use Rattle.hal_scope.specs.Rules.{Row, IsSound, rows}
+use Rattle.hal_scope.specs.Rules as scope
+use Rattle.hal_types.specs.Rules.{type_rows}
+use Rattle.hal_locks.specs.Rules.{lock_rows}
+use Rattle.hal_constants.specs.Known.{known}
+use Rattle.hal_limits.specs.Limits.{IsWithin, BreaksLimit, beginning}
+use Rattle.hal_layout.specs.Layouts.{IsNarrow, layout_of}
+use Rattle.hal_values.specs.Loads.{turn_limit}
+use Rattle.hal_meaning.specs.Sets.{Set, set_of}
+use Rattle.hal_code.specs.declared.image.ImageParts.{ImageParts}
+use Rattle.hal_code.specs.Right.{IsRight}
+use Rattle.hal_right_values.specs.Finding.{HaveCells}
+use Rattle.hal_link.specs.Linking as linking
+use Rattle.hal_link.specs.Views.{views_of}
+
+-- the set of these files, whose UPDATE blocks have as many turns as they may have
+unfoldable pub set_in : List File → Set
+set_in files = set_of turn_limit files
+
+-- no rule of names or types is broken
+pub record IsTyped (ps : List Phrase) : Type 0 where
+  pub named : IsSound rows ps
+  pub typed : IsSound type_rows ps
+
+-- nor one of locks
+pub record IsLawful (ps : List Phrase) : Type 0 where
+  pub typed : IsTyped ps
+  pub locked : IsSound lock_rows ps
+
+-- nor one of limits
+pub record IsChecked (ps : List Phrase) : Type 0 where
+  pub lawful : IsLawful ps
+  pub within : IsWithin ps (known ps)
+
+-- the image can run: it is right, and each of its views has a cell
+pub record CanRun (image : ImageParts) : Type 0 where
+  pub right : IsRight image
+  pub cells : HaveCells image
+
+-- what linking the files comes to
+unfoldable pub linked_in : List File → Result ImageParts (Option Place)
+linked_in files = linking.image_of (set_in files) (views_of (set_in files))
+
+-- this is the image of the files; its tables have room, and it can run
+pub record Compiles (files : List File) (image : ImageParts) : Type 0 where
+  pub linked : linked_in files ≡ Ok image
+  pub narrow : IsNarrow (layout_of (phrases_of files) (known (phrases_of files)))
+  pub runs : CanRun image
+
+-- the files have no image: this is the place of the first phrase that has no code yet, or the beginning of the set where all have code
+abbrev pub IsUncompiled : List File → Place → Type 0
+IsUncompiled files place = (linked_in files ≡ Err (Some place)) ⊎ ((place ≡ beginning) × ((image : ImageParts) → Compiles files image → ⊥))
+
+-- what linking came to gives an image that can run, or lacks one, as at this place
+abbrev pub Lacks : Result ImageParts (Option Place) → Place → Type 0
+Lacks wanted place = (wanted ≡ Err (Some place)) ⊎ ((place ≡ beginning) × ((image : ImageParts) → wanted ≡ Ok image → CanRun image → ⊥))
+
+abbrev pub Fits : Result ImageParts (Option Place) → Result ImageParts Place → Type 0
+Fits wanted (Ok image) = (wanted ≡ Ok image) × CanRun image
+Fits wanted (Err place) = Lacks wanted place
+
+-- the image of files, or the place that lacks code
+abbrev pub IsImageOf : List File → Result ImageParts Place → Type 0
+IsImageOf files (Ok image) = Compiles files image
+IsImageOf files (Err place) = IsUncompiled files place
+
+-- one of these phrases breaks a row of a table of rules
+abbrev pub BreaksRow : List Row → List Phrase → Refusal → Type 0
+BreaksRow table ps refusal = scope.Breaks table ps refusal.rule.0 refusal.place
+
+-- a rule of limits, told where no rule of names, types or locks is broken
+pub record ExceedsLimit (ps : List Phrase) (refusal : Refusal) : Type 0 where
+  pub lawful : IsLawful ps
+  pub exceeded : BreaksLimit ps (known ps) refusal.rule.0
+  pub at : refusal.place ≡ beginning
+
+-- want of memory says nothing
+abbrev pub ExceedsBy : List Phrase → Fault → Type 0
+ExceedsBy ps (fault.Broken refusal) = ExceedsLimit ps refusal
+ExceedsBy ps (fault.Memory error) = ⊤
+
+-- rule 410, told where no other is broken
+pub record LacksImage (files : List File) (refusal : Refusal) : Type 0 where
+  pub checked : IsChecked (phrases_of files)
+  pub rule_is : refusal.rule.0 ≡ 410
+  pub uncompiled : IsUncompiled files refusal.place
+
+-- the files break a rule of names, of types, of locks, of limits, or 410
+abbrev pub FilesBreak : List File → Refusal → Type 0
+FilesBreak files refusal =
+    BreaksRow rows (phrases_of files) refusal ⊎ BreaksRow type_rows (phrases_of files) refusal ⊎ BreaksRow lock_rows (phrases_of files) refusal ⊎ ExceedsLimit (phrases_of files) refusal
+    ⊎ LacksImage files refusal
+
+abbrev pub FilesBreakBy : List File → Fault → Type 0
+FilesBreakBy files (fault.Broken refusal) = FilesBreak files refusal
+FilesBreakBy files (fault.Memory error) = ⊤
+
+-- rule 410 at this place
+abbrev pub IsToldAt : Place → Fault → Type 0
+IsToldAt place (fault.Broken refusal) = (refusal.rule.0 ≡ 410) × (refusal.place ≡ place)
+IsToldAt place (fault.Memory error) = ⊥
+
+-- memory is wanting
+abbrev pub IsOfMemory : Fault → Type 0
+IsOfMemory (fault.Broken refusal) = ⊥
+IsOfMemory (fault.Memory error) = ⊤

@@ -1,0 +1,4 @@
+pub mod Compiling
+pub mod Fitness
+pub mod Reading
+pub mod Texts

@@ -1,0 +1,39 @@
+-- What a set of texts means, and which rules it breaks.
+use Rattle.std.specs.Prelude.{◌≡◌, ℕ, ◌⊎◌, List, ⊤}
+use Rattle.hal_base.specs.declared.refusal.Refusal.{Refusal}
+use Rattle.hal_base.specs.declared.refusal.Fault.{Fault}
+use Rattle.hal_base.specs.declared.refusal.Fault.TheVariants as fault
+use Rattle.hal_grammar.specs.Units.{File}
+use Rattle.hal_phrases.specs.GatheredUnits.{phrases_of}
+use Rattle.hal_code.specs.declared.image.ImageParts.{ImageParts}
+use Rattle.hal_compile.specs.Compiling.{IsChecked, Compiles, FilesBreak}
+use Rattle.hal_compile.specs.Reading.{AreRead, TextsBreak}
+
+-- the texts are those of these files, which break no rule, and have an image: what a set means is what its files mean
+pub record HasMeaning (texts : List (List ℕ)) (files : List File) : Type 0 where
+  pub read : AreRead 0 texts files
+  pub checked : IsChecked (phrases_of files)
+  pub image : ImageParts
+  pub compiled : Compiles files image
+
+-- the texts are those of files that break a rule
+pub record SetBreaks (texts : List (List ℕ)) (refusal : Refusal) : Type 0 where
+  pub files : List File
+  pub read : AreRead 0 texts files
+  pub broken : FilesBreak files refusal
+
+-- a rule of words or 401, or one of the set
+abbrev pub Breaks : List (List ℕ) → Refusal → Type 0
+Breaks texts refusal = TextsBreak 0 texts refusal ⊎ SetBreaks texts refusal
+
+-- want of memory says nothing
+abbrev pub BreakBy : List (List ℕ) → Fault → Type 0
+BreakBy texts (fault.Broken refusal) = Breaks texts refusal
+BreakBy texts (fault.Memory error) = ⊤
+
+-- the texts have a meaning, and this is the image of their files; no other files are theirs
+pub record MakesImage (texts : List (List ℕ)) (image : ImageParts) : Type 0 where
+  pub files : List File
+  pub has : HasMeaning texts files
+  pub compiled : Compiles files image
+  pub only : (other : List File) → HasMeaning texts other → other ≡ files

@@ -1,0 +1,105 @@
+//! The image of a file, by all checks.
+
+ghost use Rattle.std.specs.Prelude.{◌≡◌, ◌∷◌, [], IfErr, IfOk};
+ghost use Rattle.hal_tree.specs.SeenUnits.{seen_file};
+ghost use Rattle.hal_phrases.specs.GatheredUnits.{phrases_of};
+ghost use Rattle.hal_names.specs.SeenNames.{seen_names};
+ghost use Rattle.hal_constants.specs.Known as facts;
+ghost use Rattle.hal_constants.specs.SeenKnown.{seen_known};
+ghost use Rattle.hal_compile.specs.Compiling.{Compiles, ExceedsBy, FilesBreakBy, IsChecked, IsLawful, IsOfMemory, IsToldAt};
+
+use crate::linking::image_in;
+use hal_base::{Fault, Place, Refusal, Rule};
+use hal_code::ImageParts;
+use hal_constants::Known;
+use hal_limits::check_limits;
+use hal_locks::check_locks;
+use hal_names::Names;
+use hal_scope::resolve;
+use hal_tree::File;
+use hal_types::check_types;
+use std::alloc::Global;
+use std::slice::from_ref;
+
+/// The rule that a set without an image breaks.
+const UNCOMPILED: Rule = Rule(410);
+
+/// Rule 410, broken at this place.
+fn uncompiled(place: Place) -> Fault
+    ensures { IsToldAt place result }
+{
+    Fault::Broken(Refusal {
+        rule: UNCOMPILED,
+        place,
+    })
+}
+
+/// The names of a file that breaks no rule of names, types or locks; or a rule of these that it breaks, at its place; or want of memory.
+#[tactic(auto, using(crate::proofs::Broken::wrong_names, crate::proofs::Broken::wrong_types, crate::proofs::Broken::wrong_locks))]
+fn lawful_names<'a>(alloc: Global, file: &'a File) -> Result<Names<'a>, Fault>
+    ensures names { IfOk result (λ names. seen_names names ≡ phrases_of (seen_file file.now ∷ [])) }
+    ensures lawful { IfOk result (λ names. IsLawful (phrases_of (seen_file file.now ∷ []))) }
+    ensures broken { IfErr result (FilesBreakBy (seen_file file.now ∷ [])) }
+{
+    let names = resolve(alloc, from_ref(file))?;
+    check_types(alloc, &names)?;
+    check_locks(alloc, &names)?;
+    Ok(names)
+}
+
+/// The values of the constants.
+fn known_of(alloc: Global, names: &Names<'_>) -> Result<Known, Fault>
+    ensures known { IfOk result (λ known. seen_known known ≡ facts.known (seen_names names.now)) }
+    ensures wanting { IfErr result IsOfMemory }
+{
+    match Known::of(alloc, names) {
+        Ok(known) => Ok(known),
+        Err(error) => Err(Fault::Memory(error)),
+    }
+}
+
+/// The constants of a set with these names that keeps the limits; or a rule of limits that it breaks, at its place; or want of memory.
+#[tactic(auto, using(crate::proofs::Broken::within_limits, crate::proofs::Broken::beyond_limits))]
+fn limited(alloc: Global, names: &Names<'_>) -> Result<Known, Fault>
+    requires lawful { IsLawful (seen_names names.now) }
+    ensures known { IfOk result (λ known. seen_known known ≡ facts.known (seen_names names.now)) }
+    ensures checked { IfOk result (λ known. IsChecked (seen_names names.now)) }
+    ensures broken { IfErr result (ExceedsBy (seen_names names.now)) }
+{
+    let known = known_of(alloc, names)?;
+    check_limits(alloc, names, &known)?;
+    Ok(known)
+}
+
+/// The image of a file that keeps the rules but perhaps 410, or this rule, at its place; or want of memory.
+#[tactic(auto, using(crate::proofs::Broken::counted, crate::proofs::Broken::without_image))]
+fn image_checked(
+    alloc: Global,
+    file: &File,
+    names: &Names<'_>,
+    known: &Known,
+) -> Result<ImageParts, Fault>
+    requires names { seen_names names.now ≡ phrases_of (seen_file file.now ∷ []) }
+    requires constants { seen_known known.now ≡ facts.known (phrases_of (seen_file file.now ∷ [])) }
+    requires checked { IsChecked (phrases_of (seen_file file.now ∷ [])) }
+    ensures compiled { IfOk result (Compiles (seen_file file.now ∷ [])) }
+    ensures broken { IfErr result (FilesBreakBy (seen_file file.now ∷ [])) }
+{
+    match image_in(alloc, from_ref(file), names, known) {
+        Ok(Ok(image)) => Ok(image),
+        Ok(Err(place)) => Err(uncompiled(place)),
+        Err(error) => Err(Fault::Memory(error)),
+    }
+}
+
+/// The image of the set of one file, or a rule that it breaks, at its place; or want of memory.
+#[tactic(auto, using(crate::proofs::Broken::limit_breaks))]
+pub(crate) fn image_of(alloc: Global, file: &File) -> Result<ImageParts, Fault>
+    ensures checked { IfOk result (λ image. IsChecked (phrases_of (seen_file file.now ∷ []))) }
+    ensures compiled { IfOk result (Compiles (seen_file file.now ∷ [])) }
+    ensures broken { IfErr result (FilesBreakBy (seen_file file.now ∷ [])) }
+{
+    let names = lawful_names(alloc, file)?;
+    let known = limited(alloc, &names)?;
+    image_checked(alloc, file, &names, &known)
+}

@@ -1,0 +1,130 @@
+//! The image of a set that is known to keep the rules.
+
+ghost use Rattle.std.specs.Prelude.{◌≡◌, ◌≤◌, ◌+◌, ◌↔◌, ◌∷◌, [], IfOk, IsTrue, Ok, length, map};
+ghost use Rattle.hal_tree.specs.SeenUnits.{seen_file};
+ghost use Rattle.hal_phrases.specs.GatheredUnits.{phrases_of};
+ghost use Rattle.hal_names.specs.Laws.{IsCounted};
+ghost use Rattle.hal_names.specs.SeenNames.{seen_names};
+ghost use Rattle.hal_constants.specs.Known as facts;
+ghost use Rattle.hal_constants.specs.SeenKnown.{seen_known};
+ghost use Rattle.hal_layout.specs.Layouts as layouts;
+ghost use Rattle.hal_layout.specs.SeenLayout.{seen_layout};
+ghost use Rattle.hal_set.specs.SeenSets.{seen_set};
+ghost use Rattle.hal_meaning.specs.Bodies as meant;
+ghost use Rattle.hal_meaning.specs.Events as events;
+ghost use Rattle.hal_limits.specs.Limits.{IsWithin};
+ghost use Rattle.hal_link.specs.Linking as links;
+ghost use Rattle.hal_link.specs.Views as views;
+ghost use Rattle.hal_compile.specs.Compiling.{CanRun, Fits, IsImageOf, linked_in};
+
+use crate::fitness::{have_cells, is_narrow};
+use hal_base::Place;
+use hal_code::ImageParts;
+use hal_constants::Known;
+use hal_layout::{Layout, layout_of};
+use hal_link::{Unlinked, link};
+use hal_names::Names;
+use hal_set::{Set, bodies_of};
+use hal_tree::File;
+use hal_verify::is_right;
+use std::alloc::{AllocError, Global};
+
+/// How many turns an UPDATE block has at most.
+pub const TURN_LIMIT: u16 = 65_535;
+
+/// The beginning of a set.
+const BEGINNING: Place = Place {
+    unit: 0,
+    line: 1,
+    column: 1,
+};
+
+/// Whether an image can run.
+#[tactic(auto, using(crate::proofs::Running::runs_with, crate::proofs::Running::runs_not))]
+fn can_run(alloc: Global, image: &ImageParts) -> Result<bool, AllocError>
+    ensures { IfOk result (λ told. IsTrue told ↔ CanRun image.now) }
+{
+    let right = is_right(alloc, image)?;
+    if right {
+        Ok(have_cells(image))
+    } else {
+        Ok(false)
+    }
+}
+
+/// This image, where it can run.
+#[tactic(auto, using(crate::proofs::Running::fits, crate::proofs::Running::cannot_run))]
+fn runnable(alloc: Global, image: ImageParts) -> Result<Result<ImageParts, Place>, AllocError>
+    ensures { IfOk result (Fits (Ok image)) }
+{
+    if can_run(alloc, &image)? {
+        Ok(Ok(image))
+    } else {
+        Ok(Err(BEGINNING))
+    }
+}
+
+/// The image of a set whose tables have room, where it can run; or the place that lacks code.
+#[tactic(auto, using(crate::proofs::Running::linked_image, crate::proofs::Running::told_there, crate::proofs::Running::told_nowhere))]
+fn image_of_set(alloc: Global, set: &Set<'_>) -> Result<Result<ImageParts, Place>, AllocError>
+    requires few_processes { length (meant.processes_of (seen_set set.now).phrases) ≤ 128 }
+    requires few_events { length (meant.processes_of (seen_set set.now).phrases) + length (events.declared_events (seen_set set.now).phrases) ≤ 65535 }
+    requires laid { seen_layout set.now.layout.now ≡ layouts.layout_of (seen_set set.now).phrases (seen_set set.now).constants }
+    requires narrow { layouts.IsNarrow (seen_layout set.now.layout.now) }
+    ensures { IfOk result (Fits (links.image_of (seen_set set.now) (views.views_of (seen_set set.now)))) }
+{
+    match link(alloc, set) {
+        Ok(image) => runnable(alloc, image),
+        Err(Unlinked::At(place)) => Ok(Err(place)),
+        Err(Unlinked::Lost | Unlinked::Wide) => Ok(Err(BEGINNING)),
+        Err(Unlinked::Memory(error)) => Err(error),
+    }
+}
+
+/// The image of files with these names, constants and layout, whose tables have room, where it can run; or the place that lacks code.
+#[tactic(auto, using(crate::proofs::Running::linked_set))]
+fn image_laid(
+    alloc: Global,
+    files: &[File],
+    names: &Names<'_>,
+    known: &Known,
+    layout: &Layout,
+) -> Result<Result<ImageParts, Place>, AllocError>
+    requires names { seen_names names.now ≡ phrases_of (map seen_file files.now) }
+    requires constants { seen_known known.now ≡ facts.known (phrases_of (map seen_file files.now)) }
+    requires within { IsWithin (phrases_of (map seen_file files.now)) (facts.known (phrases_of (map seen_file files.now))) }
+    requires layout { seen_layout layout.now ≡ layouts.layout_of (phrases_of (map seen_file files.now)) (facts.known (phrases_of (map seen_file files.now))) }
+    requires narrow { layouts.IsNarrow (seen_layout layout.now) }
+    ensures { IfOk result (Fits (linked_in (map seen_file files.now))) }
+{
+    let set = Set {
+        names,
+        known,
+        layout,
+        bodies: bodies_of(alloc, files, names)?,
+        turns: u32::from(TURN_LIMIT),
+    };
+    image_of_set(alloc, &set)
+}
+
+/// The image of files with these names and constants, or the place that lacks code.
+#[tactic(auto, using(crate::proofs::Running::room_for, crate::proofs::Running::image_found, crate::proofs::Running::too_wide))]
+pub(crate) fn image_in(
+    alloc: Global,
+    files: &[File],
+    names: &Names<'_>,
+    known: &Known,
+) -> Result<Result<ImageParts, Place>, AllocError>
+    requires names { seen_names names.now ≡ phrases_of (map seen_file files.now) }
+    requires constants { seen_known known.now ≡ facts.known (phrases_of (map seen_file files.now)) }
+    requires counted { IsCounted (seen_names names.now) }
+    requires within { IsWithin (phrases_of (map seen_file files.now)) (facts.known (phrases_of (map seen_file files.now))) }
+    ensures { IfOk result (IsImageOf (map seen_file files.now)) }
+{
+    let layout = layout_of(alloc, names, known)?;
+    if is_narrow(&layout) {
+        image_laid(alloc, files, names, known, &layout)
+    } else {
+        Ok(Err(BEGINNING))
+    }
+}

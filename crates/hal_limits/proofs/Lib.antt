@@ -1,0 +1,6 @@
+pub mod Counted
+pub mod Sized
+pub mod Celled
+pub mod Chosen
+pub mod Behind
+pub mod Noted

@@ -1,0 +1,24 @@
+-- The code of a process, as the program emits it.
+use Rattle.std.specs.Prelude.{ℕ, List, [], ◌∷◌, ◌++◌, Ok}
+use Rattle.std.proofs.Common.{◌≡◌, sym, ap, ◌∙◌}
+use Rattle.hal_grammar.specs.Statements.{Statements}
+use Rattle.hal_code.specs.declared.instr.Instr.{Instr}
+use Rattle.hal_code.specs.declared.instr.Instr.TheVariants as instr
+use Rattle.hal_agreement.specs.PlacedStatements.{Exits}
+use Rattle.hal_agreement.specs.Sites.{Site}
+use Rattle.hal_gen_expr.specs.Emitting.{Emitted, onwards}
+use Rattle.hal_gen_expr.specs.Numbering.{Numbering}
+use Rattle.hal_gen.specs.StatementCode.{statements_code}
+use Rattle.hal_link.specs.ProcessCode.{to_finish, finish_of, process_code}
+
+abbrev pub with_finish : List Instr → Emitted
+with_finish middle = Ok (middle ++ (instr.Finish ∷ []))
+
+-- its statements behind BEGIN
+pub process_begun : (n : Numbering) (site : Site) (before begun : List Instr) (exits : Exits) (finish : ℕ) (body list : Statements) → begun ≡ before ++ (instr.Begin ∷ []) → exits ≡ to_finish finish
+    → finish ≡ finish_of n site before body → body ≡ list → process_code n site before body ≡ onwards (statements_code n site begun exits 0 list) with_finish
+process_begun n site before begun exits finish body list begins leads ends same =
+    ap (λ one. onwards (statements_code n site (before ++ (instr.Begin ∷ [])) (to_finish (finish_of n site before body)) 0 one) with_finish) same
+    ∙ ap (λ f. onwards (statements_code n site (before ++ (instr.Begin ∷ [])) (to_finish f) 0 list) with_finish) (sym ends)
+    ∙ ap (λ one. onwards (statements_code n site (before ++ (instr.Begin ∷ [])) one 0 list) with_finish) (sym leads)
+    ∙ ap (λ start. onwards (statements_code n site start exits 0 list) with_finish) (sym begins)

@@ -1,0 +1,36 @@
+-- Places that are lent one by one, and their rows.
+use Rattle.std.specs.Prelude.{ℕ, ◌+◌, List, [], ◌∷◌, ◌++◌, length, map, drop, get_or}
+use Rattle.std.specs.Borrow.{Bor}
+use Rattle.std.proofs.Common.{◌≡◌, ◌<◌, sym, ap, ◌∙◌, add-one}
+use Rattle.std.proofs.Math.Seq.{drop-cons}
+use Rattle.hal_elements.proofs.Repeated.{behind}
+use Rattle.hal_own_places.specs.declared.place.Place as rust-place
+use Rattle.hal_own_places.specs.SeenPlaces.{seen_place}
+use Rattle.hal_code.specs.declared.row.OwnPlace.{OwnPlace}
+use Rattle.hal_code.specs.declared.row.Run.{Run}
+use Rattle.hal_meaning.specs.Places.{Place}
+use Rattle.hal_gen_expr.specs.SeenSites.{lent_place}
+use Rattle.hal_link.specs.Linking.{alone, own_row}
+
+-- one, and those behind it
+next_one : {X : Type 0} (xs : List X) (i : ℕ) (x : X) → i < length xs → x ≡ get_or xs i x → drop i xs ≡ x ∷ drop (i + 1) xs
+next_one xs i x within is = drop-cons xs i x within ∙ ap (λ n. get_or xs i x ∷ drop n xs) (sym (add-one i)) ∙ ap (λ y. y ∷ drop (i + 1) xs) (sym is)
+
+-- a place behind those so far
+pub place_more : (before after all : List Place) (places : List rust-place.Place) (i : ℕ) (x : rust-place.Place) → i < length places → x ≡ get_or places i x → after ≡ before ++ (seen_place x ∷ [])
+    → before ++ map seen_place (drop i places) ≡ all → after ++ map seen_place (drop (i + 1) places) ≡ all
+place_more before after all places i x within is more so_far =
+    ap (λ list. list ++ map seen_place (drop (i + 1) places)) more
+    ∙ behind before (seen_place x ∷ []) (map seen_place (drop (i + 1) places))
+    ∙ ap (λ list. before ++ map seen_place list) (sym (next_one places i x within is))
+    ∙ so_far
+
+-- a row behind those so far
+pub row_more : (before after all : List (Run OwnPlace)) (places : List (Bor rust-place.Place)) (i : ℕ) (b : Bor rust-place.Place) (row : OwnPlace) → i < length places → b ≡ get_or places i b
+    → row ≡ own_row (lent_place b) → after ≡ before ++ (alone row ∷ []) → before ++ map alone (map own_row (map lent_place (drop i places))) ≡ all
+    → after ++ map alone (map own_row (map lent_place (drop (i + 1) places))) ≡ all
+row_more before after all places i b row within is row_is more so_far =
+    ap (λ list. list ++ map alone (map own_row (map lent_place (drop (i + 1) places)))) (more ∙ ap (λ one. before ++ (alone one ∷ [])) row_is)
+    ∙ behind before (alone (own_row (lent_place b)) ∷ []) (map alone (map own_row (map lent_place (drop (i + 1) places))))
+    ∙ ap (λ list. before ++ map alone (map own_row (map lent_place list))) (sym (next_one places i b within is))
+    ∙ so_far

@@ -1,0 +1,33 @@
+-- What linking looks up.
+use Rattle.std.specs.Prelude.{◌≡◌, ℕ, nat_le, List, [], ◌∷◌, ◌++◌, ◌+◌, length, Option, Some, None, map, if◌then◌else◌}
+use Rattle.std.specs.declared.alloc.Global.{Global}
+use Rattle.std.specs.declared.vec.Vec.{Vec}
+use Rattle.hal_own_places.specs.Owned.{own_places}
+use Rattle.hal_own_places.specs.SeenPlaces.{seen_own}
+use Rattle.hal_set.specs.declared.set.Set as rust-set
+use Rattle.hal_set.specs.SeenSets.{seen_set}
+use Rattle.hal_code.specs.declared.row.Process.{Process}
+use Rattle.hal_meaning.specs.Sets.{Set}
+use Rattle.hal_meaning.specs.Runs.{places_of_process}
+use Rattle.hal_link.specs.Linking.{alone, own_row}
+
+-- the own places of the set's layout are those of the set
+abbrev pub IsLaid : rust-set.Set → Type 0
+IsLaid s = seen_own s.layout.now.own ≡ own_places (seen_set s).phrases (seen_set s).constants
+
+-- the row of a process
+abbrev pub process_row : Set → ℕ → List ℕ → Process
+process_row s p name = record { name = name; block = p; places = map alone (map own_row (places_of_process s p)) }
+
+-- the rows of processes from this one on
+unfoldable pub rows_from : Set → ℕ → List (List ℕ) → List Process
+rows_from s p [] = []
+rows_from s p (name ∷ names) = process_row s p name ∷ rows_from s (p + 1) names
+
+-- the same behind rows so far; None where a name has more than 255 bytes
+unfoldable pub rows_if : Set → ℕ → List Process → List (List ℕ) → Option (List Process)
+rows_if s p rows [] = Some rows
+rows_if s p rows (name ∷ names) = if nat_le (length name) 255 then rows_if s (p + 1) (rows ++ (process_row s p name ∷ [])) names else None
+
+abbrev pub seen_rows : Vec Process Global → List Process
+seen_rows rows = rows.items

@@ -1,0 +1,190 @@
+//! The image of a set of files.
+
+ghost use Rattle.std.specs.Prelude.{◌≡◌, ◌≤◌, ◌+◌, [], IfOk, length, map};
+ghost use Rattle.std.specs.Option.{option_map};
+ghost use Rattle.hal_processes.specs.SeenPaths.{seen_path};
+ghost use Rattle.hal_layout.specs.Layouts.{layout_of};
+ghost use Rattle.hal_layout.specs.SeenLayout.{seen_layout};
+ghost use Rattle.hal_referents.specs.FirstCells.{AreFirstCells};
+ghost use Rattle.hal_referents.specs.Referents as naming;
+ghost use Rattle.hal_referents.specs.SeenReferents.{seen_referent};
+ghost use Rattle.hal_set.specs.SeenSets.{seen_set};
+ghost use Rattle.hal_meaning.specs.Bodies.{processes_of};
+ghost use Rattle.hal_meaning.specs.Events.{declared_events};
+ghost use Rattle.hal_gen_expr.specs.SeenSites.{IsSite};
+ghost use Rattle.hal_link.specs.Links.{HasImage, MakesImage};
+ghost use Rattle.hal_link.specs.Linking as linking;
+ghost use Rattle.hal_link.specs.SeenLinking as seen;
+
+use crate::linking::{link_processes, views_of};
+use crate::places::places_of;
+use crate::rows::{cell_rows, event_rows, place_rows};
+use crate::unlinked::Unlinked;
+use hal_code::{Block, ImageParts, Instr, Process, View};
+use hal_events::declared_events;
+use hal_gen_expr::{Events, Site};
+use hal_layout::items_of;
+use hal_reach::processes_of;
+use hal_referents::{FirstCells, Referent, referents_of};
+use hal_set::Set;
+use hal_values::{Listing, ReportName, Text};
+use std::alloc::{AllocError, Global};
+
+/// The site from which those of processes are made.
+fn whole_of<'a>(
+    alloc: Global,
+    set: &'a Set<'a>,
+    referents: &'a [Referent],
+    cells: &'a FirstCells,
+    events: Events<'a>,
+) -> Site<'a>
+    requires listed { map seen_referent referents.now ≡ naming.referents (seen_set set.now).phrases (seen_set set.now).constants }
+    requires counted { AreFirstCells (seen_set set.now).phrases (seen_set set.now).constants cells.now }
+    requires processes { events.processes.now ≡ processes_of (seen_set set.now).phrases }
+    requires declared { events.declared.now ≡ declared_events (seen_set set.now).phrases }
+    requires few { length events.processes.now + length events.declared.now ≤ 65535 }
+    ensures site { IsSite result }
+    ensures set { result.set.now ≡ set.now }
+{
+    Site {
+        alloc,
+        set,
+        referents,
+        cells,
+        events,
+        places: &[],
+        unit: 0,
+        block: 0,
+        marks: &[],
+        views: &[],
+    }
+}
+
+/// The row of a process of this name.
+#[tactic(auto, using(crate::proofs::Placed::places_laid))]
+fn process_row(
+    alloc: Global,
+    set: &Set<'_>,
+    process: usize,
+    name: Text,
+) -> Result<Process, AllocError>
+    requires few { process ≤ 255 }
+    requires laid { seen.IsLaid set.now }
+    ensures { IfOk result (λ row. row ≡ seen.process_row (seen_set set.now) process name) }
+{
+    let places = places_of(alloc, &set.layout.own, process)?;
+    Ok(Process {
+        name,
+        block: process as u32,
+        places: place_rows(alloc, &places)?,
+    })
+}
+
+/// The rows of processes of these names, None where one of them has more than 255 bytes.
+#[tactic(auto, unfolding(crate::specs::SeenLinking::rows_if))]
+fn process_rows(
+    alloc: Global,
+    set: &Set<'_>,
+    names: &[Vec<u8>],
+) -> Result<Option<Vec<Process>>, AllocError>
+    requires few { length names.now ≤ 128 }
+    requires laid { seen.IsLaid set.now }
+    ensures { IfOk result (λ found. option_map seen.seen_rows found ≡ seen.rows_if (seen_set set.now) 0 [] (map seen_path names.now)) }
+{
+    let mut rows = Vec::new(alloc);
+    for (process, name) in names.iter().enumerate() {
+        let Some(text) = Text::of(name) else {
+            return Ok(None);
+        };
+        rows.push(process_row(alloc, set, process, text)?)?;
+    }
+    Ok(Some(rows))
+}
+
+/// A name of the report, once more.
+fn copied_name(alloc: Global, name: &ReportName) -> Result<ReportName, AllocError>
+    ensures { IfOk result (λ copy. copy ≡ name.now) }
+{
+    let mut text = Listing::empty(alloc);
+    text.extend(name.name.as_slice())?;
+    let mut dimensions = Listing::empty(alloc);
+    dimensions.extend(name.dimensions.as_slice())?;
+    Ok(ReportName {
+        name: text,
+        base: name.base,
+        first: name.first,
+        copies: name.copies,
+        stride: name.stride,
+        dimensions,
+    })
+}
+
+/// The names of the report, once more.
+#[tactic(auto, using(hal_elements::proofs::Repeated::behind, hal_elements::proofs::Repeated::none_behind))]
+fn copied_names(alloc: Global, names: &[ReportName]) -> Result<Listing<ReportName>, AllocError>
+    ensures { IfOk result (λ copies. copies ≡ names.now) }
+{
+    let mut list = Vec::new(alloc);
+    for name in names {
+        list.push(copied_name(alloc, name)?)?;
+    }
+    Ok(Listing::new(list))
+}
+
+/// The image of a set with these views, code and blocks.
+#[tactic(auto, using(crate::proofs::Narrow::rows_narrow, crate::proofs::Narrow::rows_wide))]
+fn image_with(
+    alloc: Global,
+    set: &Set<'_>,
+    views: Vec<View>,
+    code: Vec<Instr>,
+    blocks: Vec<Block>,
+) -> Result<ImageParts, Unlinked>
+    requires few { length (seen_layout set.now.layout.now).processes ≤ 128 }
+    requires laid { seen.IsLaid set.now }
+    ensures { MakesImage set.now (linking.image_with (seen_set set.now) views.items (linking.linked code.items blocks.items)) result }
+{
+    let layout = set.layout;
+    let Some(processes) = process_rows(alloc, set, &layout.processes)? else {
+        return Err(Unlinked::Wide);
+    };
+    let Ok(first) = u8::try_from(layout.first) else {
+        return Err(Unlinked::Wide);
+    };
+    Ok(ImageParts {
+        cells: cell_rows(alloc, &layout.cells)?,
+        events: event_rows(alloc, &layout.events)?,
+        common: Listing::empty(alloc),
+        processes: Listing::new(processes),
+        first,
+        shapes: Listing::empty(alloc),
+        views: Listing::new(views),
+        expressions: Listing::new(items_of(alloc, &layout.expressions)?),
+        blocks: Listing::new(blocks),
+        names: copied_names(alloc, &layout.names)?,
+        code: Listing::new(code),
+    })
+}
+
+/// The image of a set of files in which no unit is called, or the place of the first phrase that has no code yet (image document, The image of a set).
+pub fn link(alloc: Global, set: &Set<'_>) -> Result<ImageParts, Unlinked>
+    requires few_processes { length (processes_of (seen_set set.now).phrases) ≤ 128 }
+    requires few_events { length (processes_of (seen_set set.now).phrases) + length (declared_events (seen_set set.now).phrases) ≤ 65535 }
+    requires laid { seen_layout set.now.layout.now ≡ layout_of (seen_set set.now).phrases (seen_set set.now).constants }
+    ensures { HasImage set.now result }
+{
+    let referents = referents_of(alloc, set.names, set.known)?;
+    let cells = FirstCells::new(alloc, set.names, set.known)?;
+    let processes = processes_of(alloc, set.names)?;
+    let declared = declared_events(alloc, set.names)?;
+    let events = Events {
+        processes: &processes,
+        declared: &declared,
+    };
+    let whole = whole_of(alloc, &*set, &referents, &cells, events);
+    let views = views_of(&whole, &processes)?;
+    let mut code = Vec::new(alloc);
+    let mut blocks = Vec::new(alloc);
+    link_processes(&mut code, &mut blocks, &whole, &views, &processes)?;
+    image_with(alloc, set, views, code, blocks)
+}

@@ -1,0 +1,184 @@
+//! The views that code names.
+
+ghost use Rattle.std.specs.Prelude.{◌≡◌, OnOk, map};
+ghost use Rattle.std.specs.List.{list_any};
+ghost use Rattle.hal_cells.specs.SeenStoring.{seen_storing};
+ghost use Rattle.hal_phrases.specs.SeenPhrases.{seen_node, seen_phrase};
+ghost use Rattle.hal_referents.specs.SeenReferents.{seen_meant, seen_referent};
+ghost use Rattle.hal_tree.specs.SeenExpressions.{seen_reference};
+ghost use Rattle.hal_tree.specs.SeenLeaves.{seen_name};
+ghost use Rattle.hal_gen_expr.specs.Numbering.{is_cell_view};
+ghost use Rattle.hal_gen_expr.specs.SeenSites.{seen_site, IsSite};
+ghost use Rattle.hal_link.specs.Views as views;
+
+use hal_cells::Storing;
+use hal_code::{Base, Target, View};
+use hal_gen_expr::{Element, Site, base_of, element_named, is_cell_view, referent};
+use hal_phrases::{Node, Phrase};
+use hal_referents::{Meant, Referent};
+use hal_tree::{Identifier, Reference, Subscript};
+use hal_values::{Kind, Listing};
+use std::alloc::AllocError;
+
+/// Whether the view of the cell of this kind there is among these.
+fn has_view(views: &[View], kind: Kind, from: Base) -> bool
+    ensures { result ≡ list_any (is_cell_view from kind) views.now }
+{
+    views.iter().any(|view| is_cell_view(from, kind, view))
+}
+
+/// Adds the view of the cell of this kind there, unless it is among them.
+fn push_cell(
+    into: &mut Vec<View>,
+    site: &Site<'_>,
+    kind: Kind,
+    from: Option<Base>,
+) -> Result<(), AllocError>
+    ensures { OnOk result (into.new.items ≡ views.with_cell kind into.old.items from) }
+{
+    let Some(base) = from else {
+        return Ok(());
+    };
+    if has_view(into, kind, base) {
+        return Ok(());
+    }
+    into.push(View {
+        base,
+        dimensions: Listing::empty(site.alloc),
+        target: Target::Cell(kind),
+    })?;
+    Ok(())
+}
+
+/// Adds that of an element.
+fn push_element(
+    into: &mut Vec<View>,
+    site: &Site<'_>,
+    declared: usize,
+    stored: Storing,
+    one: Option<Element>,
+) -> Result<(), AllocError>
+    requires site { IsSite site.now }
+    ensures { OnOk result (into.new.items ≡ views.with_element (seen_site site.now) declared (seen_storing stored) into.old.items one) }
+{
+    match one {
+        None => Ok(()),
+        Some(one) => {
+            let from = base_of(site, declared, stored, one.before);
+            push_cell(into, site, one.kind, from)
+        }
+    }
+}
+
+/// Adds that of the one element to which names lead, where it is one.
+fn push_declared(
+    into: &mut Vec<View>,
+    site: &Site<'_>,
+    path: &[Identifier],
+    referent: &Referent,
+) -> Result<(), AllocError>
+    requires site { IsSite site.now }
+    ensures { OnOk result (into.new.items ≡ views.with_referent (seen_site site.now) into.old.items (map seen_name path.now) (seen_referent referent.now)) }
+{
+    match referent {
+        Referent::Data {
+            declared,
+            stored,
+            shape,
+        } => {
+            if shape.copies.is_some() {
+                return Ok(());
+            }
+            let one = element_named(path, &shape.components);
+            push_element(into, site, *declared, *stored, one)
+        }
+        Referent::Constant(_) => Ok(()),
+        Referent::Event(_) => Ok(()),
+        Referent::Block(_) => Ok(()),
+        Referent::Nothing => Ok(()),
+    }
+}
+
+fn push_meant(
+    into: &mut Vec<View>,
+    site: &Site<'_>,
+    path: &[Identifier],
+    meant: Meant<'_>,
+) -> Result<(), AllocError>
+    requires site { IsSite site.now }
+    ensures { OnOk result (into.new.items ≡ views.with_referent (seen_site site.now) into.old.items (map seen_name path.now) (seen_meant meant.entry)) }
+{
+    match meant {
+        Meant::Declared(referent) => push_declared(into, site, path, referent),
+        Meant::Builtin(_) => Ok(()),
+        Meant::Nothing => Ok(()),
+    }
+}
+
+/// Adds that of a reference.
+#[tactic(auto, using(hal_tree::proofs::MadeExpressions::made_reference, hal_tree::proofs::MadeExpressions::made_unsubscripted, hal_tree::proofs::MadeExpressions::made_by_name, hal_tree::proofs::MadeExpressions::made_by_integer, hal_tree::proofs::MadeExpressions::made_by_parts))]
+fn push_reference(
+    into: &mut Vec<View>,
+    site: &Site<'_>,
+    reference: &Reference,
+) -> Result<(), AllocError>
+    requires site { IsSite site.now }
+    ensures { OnOk result (into.new.items ≡ views.with_reference (seen_site site.now) into.old.items (seen_reference reference.now)) }
+{
+    match &reference.subscript {
+        Subscript::None => push_meant(
+            into,
+            site,
+            &reference.further,
+            referent(site, &reference.name),
+        ),
+        Subscript::Name { .. } => Ok(()),
+        Subscript::Integer { .. } => Ok(()),
+        Subscript::Parts { .. } => Ok(()),
+    }
+}
+
+/// Adds that of a phrase.
+fn push_node(into: &mut Vec<View>, site: &Site<'_>, node: Node<'_>) -> Result<(), AllocError>
+    requires site { IsSite site.now }
+    ensures { OnOk result (into.new.items ≡ views.with_node (seen_site site.now) into.old.items (seen_node node.entry)) }
+{
+    match node {
+        Node::Reference { role: _, reference } => push_reference(into, site, reference),
+        Node::CallForm {
+            place: _,
+            name,
+            arguments: _,
+        } => push_meant(into, site, &[], referent(site, name)),
+        _ => Ok(()),
+    }
+}
+
+/// Adds that of a phrase, where it stands in the unit.
+#[tactic(auto, unfolding(hal_gen_expr::specs::SeenSites::seen_site))]
+fn push_phrase(into: &mut Vec<View>, site: &Site<'_>, phrase: &Phrase<'_>) -> Result<(), AllocError>
+    requires site { IsSite site.now }
+    ensures { OnOk result (into.new.items ≡ views.with_phrase (seen_site site.now) into.old.items (seen_phrase phrase.now)) }
+{
+    if phrase.around.home == site.unit {
+        push_node(into, site, phrase.node)
+    } else {
+        Ok(())
+    }
+}
+
+/// Adds those of phrases.
+#[tactic(auto, unfolding(crate::specs::Views::with_phrases))]
+pub(crate) fn push_phrases(
+    into: &mut Vec<View>,
+    site: &Site<'_>,
+    phrases: &[Phrase<'_>],
+) -> Result<(), AllocError>
+    requires site { IsSite site.now }
+    ensures { OnOk result (into.new.items ≡ views.with_phrases (seen_site site.now) into.old.items (map seen_phrase phrases.now)) }
+{
+    for phrase in phrases {
+        push_phrase(into, site, phrase)?;
+    }
+    Ok(())
+}
