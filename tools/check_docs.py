@@ -24,6 +24,7 @@ WRONG_BODY = re.compile(r'^\| `(\w+)` \| `(\w+)` \| .*?(\(tried by the gate\) )?
 NAMES = re.compile(r'^## Names\n(.*?)^## ', re.MULTILINE | re.DOTALL)
 KINDS = re.compile(r'^## Kinds\n(.*?)^## ', re.MULTILINE | re.DOTALL)
 LOCKS = re.compile(r'^## Locks\n(.*?)^## ', re.MULTILINE | re.DOTALL)
+CALLS = re.compile(r'^## Calls\n(.*?)^## ', re.MULTILINE | re.DOTALL)
 NAMED_UNIT = re.compile(r'^\| `( [^`]*;)` \| (?:(\d+), (\d+:\d+)|right) \|$', re.MULTILINE)
 
 
@@ -79,7 +80,7 @@ def main():
     for folder in sorted((ROOT / 'examples').iterdir()):
         faults += [f'{folder.relative_to(ROOT)}: {fault}' for fault in example_faults(folder)]
     faults += [f'docs/CLAIMS.md: {fault}' for fault in wrong_body_faults()]
-    for section, name in (NAMES, 'language.rows'), (KINDS, 'kinds.rows'), (LOCKS, 'lock_rules.rows'):
+    for section, name in (NAMES, 'language.rows'), (KINDS, 'kinds.rows'), (LOCKS, 'lock_rules.rows'), (CALLS, 'call_rules.rows'):
         faults += [f'docs/LANGUAGE.md: {fault}' for fault in named_unit_faults(section, name)]
     for path in own_files():
         text = path.read_text(errors='replace')

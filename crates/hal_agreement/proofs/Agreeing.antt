@@ -12,7 +12,7 @@ use Rattle.hal_values.specs.Answers.{Answered}
 use Rattle.hal_values.specs.Answers as answered
 use Rattle.hal_values.specs.Loads.{Agree}
 use Rattle.hal_values.specs.Tables.{process_count}
-use Rattle.hal_states.specs.Spots.{Held, Kept, kept}
+use Rattle.hal_states.specs.Spots.{Held, Kept}
 use Rattle.hal_states.specs.Modes.{asking}
 use Rattle.hal_states.specs.Telling.{writes_asked, own_values}
 use Rattle.hal_meaning.specs.Bodies.{Body}
@@ -24,7 +24,7 @@ use Rattle.hal_meaning.specs.Runs as tree
 use Rattle.hal_meaning.specs.Runs.{first_kept, here_in, places_of_process, course_of, asked, asked_kept, asked_mode, tasks}
 use Rattle.hal_meaning.proofs.Asking.{IsAsked, process_asks}
 use Rattle.hal_code.specs.declared.image.ImageParts.{ImageParts}
-use Rattle.hal_code.specs.Images.{tables_of, first_of, held_first}
+use Rattle.hal_code.specs.Images.{tables_of, first_of}
 use Rattle.hal_code.specs.Cores.{Setting, Step}
 use Rattle.hal_code.specs.Machine.{begun}
 use Rattle.hal_code.specs.Courses as machine

@@ -35,7 +35,8 @@ use Rattle.hal_agreement.proofs.Leading.{stays}
 use Rattle.hal_agreement.proofs.Reaching.{Nest, setting, core_at, Reaches, bind_reaches, asks_reaches, acts}
 use Rattle.hal_agreement.proofs.Raising.{Standing, bind_bind, asks_then, raised_reaches}
 use Rattle.hal_agreement.proofs.Expressing.{name_same}
-use Rattle.hal_agreement.proofs.Stating.{FlowsAt, final, goes_on_reaches, received_reaches}
+use Rattle.hal_agreement.proofs.Receiving.{received_reaches}
+use Rattle.hal_agreement.proofs.Stating.{FlowsAt, final, goes_on_reaches}
 
 -- nothing more is done
 bind_gives : (r : Evaluated (Unit {0})) → bind r (λ nothing after. Gives nothing after) ≡ r
@@ -69,7 +70,7 @@ module _ (code : Code) (begin : ℕ) (rec : Meaning) (sound : Sound code begin r
       (bind (datum_of h a st) (λ datum after. bind (datum_received rec h receiver datum after) (λ done later. all_read rec h channel receivers later)))
   taken channel receiver receivers from next to at later (answered.Told v) st =
       bind_reaches (setting code begin h) n (λ (done : Unit {0}) after. Moves (core_at next [] [] n after)) _ _ st.left _ (λ done after. all_read rec h channel receivers after)
-      (received_reaches code begin rec sound h n standing out receiver v (suc from) next [] st at) (λ done after. later after)
+      (received_reaches code begin rec sound h n standing receiver v (suc from) next [] st at) (λ done after. later after)
   taken channel receiver receivers from next to at later (answered.Wrong e) st =
       subst (λ r. Ready to (given (setting code begin h) (Takes next) (answered.Wrong e) (core_at (suc from) [] [] n st)) st.left r)
       (sym (bind_bind (raise h e st) (λ ignored after. Gives None after) (λ datum after. bind (datum_received rec h receiver datum after) (λ done more. all_read rec h channel receivers more))))

@@ -1,8 +1,8 @@
 -- The code of an expression leaves the value on the stack that the tree gives.
-use Rattle.std.specs.Prelude.{◌≡◌, ℕ, suc, nat_lt, Bool, true, false, not, ◌&&◌, ◌||◌, List, [], ◌∷◌, pos, Option, Some, None, slice_get, if◌then◌else◌}
-use Rattle.std.proofs.Common.{refl, sym, subst}
+use Rattle.std.specs.Prelude.{◌≡◌, ℕ, suc, nat_lt, length, Bool, true, false, not, ◌&&◌, ◌||◌, List, [], ◌∷◌, ◌++◌, ℤ, pos, Option, Some, None, slice_get, if◌then◌else◌}
+use Rattle.std.proofs.Common.{refl, sym, ap, subst, ◌∙◌}
 use Rattle.hal_grammar.specs.Leaves.{Naming, Sign, Plus, Minus}
-use Rattle.hal_grammar.specs.Expressions.{Expression, Or, And, Compare, Cat, Sum, Product, Power, Not, Literal, Decimal, Referred, Called, Convert, Parenthesis, Expressions, NoExpressions, MoreExpressions, Terms, NoTerms, MoreTerms, Reference, Refers, Unsubscripted, ByName, ByInteger, ByParts}
+use Rattle.hal_grammar.specs.Expressions.{Expression, Or, And, Compare, Cat, Sum, Product, Power, Not, Literal, Decimal, Referred, Called, Convert, Parenthesis, Expressions, NoExpressions, MoreExpressions, Terms, NoTerms, MoreTerms, Reference, Refers, Subscript, Unsubscripted, ByName, ByInteger, ByParts, Subscripts, NoSubscripts, MoreSubscripts, Sub, Every, Range, Portion, One as OnePlace, Position, FromBeginning, FromEnd}
 use Rattle.hal_phrases.specs.Phrases.{Node, Phrase}
 use Rattle.hal_scope.specs.declared.builtin.Builtin.{Builtin}
 use Rattle.hal_scope.specs.declared.builtin.Builtin.TheVariants as builtin
@@ -12,9 +12,13 @@ use Rattle.hal_operations.specs.declared.operation.Op1.TheVariants as op1
 use Rattle.hal_operations.specs.declared.operation.Op2.TheVariants as op2
 use Rattle.hal_operations.specs.Values.{value_of_one, value_of_two}
 use Rattle.hal_operations.specs.Mended.{mended_of_one, mended_of_two}
+use Rattle.hal_operations.specs.declared.part.Part.{Part}
+use Rattle.hal_operations.specs.declared.part.Part.TheVariants as part
+use Rattle.hal_operations.specs.Parts.{picked, mended_pick, place_count}
 use Rattle.hal_constants.specs.declared.operation.Operation.{Operation}
 use Rattle.hal_constants.specs.declared.operation.Operation.TheVariants as operation
 use Rattle.hal_constants.specs.Naming.{operation_of}
+use Rattle.hal_constants.specs.Constants.{is_none}
 use Rattle.hal_values.specs.declared.request.Request.TheVariants as request
 use Rattle.hal_values.specs.declared.request.Spot.TheVariants as asked
 use Rattle.hal_values.specs.declared.value.Kind.{Kind}
@@ -24,29 +28,35 @@ use Rattle.hal_values.specs.declared.value.Value.TheVariants as value
 use Rattle.hal_values.specs.Answers.{Answered}
 use Rattle.hal_values.specs.Tables.{event_count}
 use Rattle.hal_states.specs.Spots.{Spot, Held, further}
+use Rattle.hal_states.specs.Numbers.{integer_of}
 use Rattle.hal_states.specs.OfKinds.{told}
-use Rattle.hal_meaning.specs.Elements.{chosen, offset}
-use Rattle.hal_meaning.specs.States.{State, Evaluated, Gives, bind}
+use Rattle.hal_meaning.specs.Elements.{Shape, chosen, offset}
+use Rattle.hal_meaning.specs.States.{State, Evaluated, Gives, Asks, Caught, Restarts, Lost, bind}
 use Rattle.hal_meaning.specs.Access.{Here, ask, read}
 use Rattle.hal_meaning.specs.Calls.{Passed, Plain, call}
 use Rattle.hal_meaning.specs.Bodies.{meant}
-use Rattle.hal_meaning.specs.Variables.{Meant, MeantData, MeantConstant, MeantEvent, MeantBlock, MeantBuiltin, MeantNothing, meant_by, declaration_meant, builtin_meant, name_meant, kind_of_first}
-use Rattle.hal_meaning.specs.Expressions.{literal_value, is_condition, are_conditions, becomes_condition, as_operand, apply_one, apply_two, signed, exponent_of, operation_of_relation, operation_of_sign, operation_of_conversion, event_value, alone_value, plain_value, built, size_argument, inputs_at, call_form, subscripted, expression, joined, folded, summed, values, argument, passed, chosen_by, referred, data_chosen, component}
+use Rattle.hal_meaning.specs.Variables.{Meant, MeantData, MeantConstant, MeantEvent, MeantBlock, MeantBuiltin, MeantNothing, meant_by, declaration_meant, builtin_meant, name_meant, kind_of_first, Index, Single, Dimension, dimensions_of, is_arrayed}
+use Rattle.hal_meaning.specs.Expressions.{literal_value, is_condition, are_conditions, becomes_condition, as_operand, apply_one, apply_two, signed, exponent_of, operation_of_relation, operation_of_sign, operation_of_conversion, event_value, alone_value, plain_value, built, size_argument, inputs_at, call_form, subscripted, expression, joined, folded, summed, values, argument, passed, chosen_by, referred, data_chosen, component, Located, located, named_value, sizes_named, copies_of, spoken, array_indexes, indexes, index, position, part_of, parts_of, part_chosen}
 use Rattle.hal_meaning.specs.Tasks.{Meaning}
 use Rattle.hal_code.specs.declared.choice.Choice.TheVariants as choice
 use Rattle.hal_code.specs.declared.instr.Instr.{Instr}
 use Rattle.hal_code.specs.declared.instr.Instr.TheVariants as instr
+use Rattle.hal_code.specs.declared.operand.Places.{Places}
+use Rattle.hal_code.specs.declared.operand.Places.TheVariants as places
 use Rattle.hal_code.specs.Cores.{Operand, Val, At, Pushes, Step, Waits, Moves}
 use Rattle.hal_code.specs.Addressing.{pushed}
+use Rattle.hal_code.specs.Raising.{stuck}
+use Rattle.hal_code.specs.Computing.{part_taken, part_picked}
 use Rattle.hal_code.specs.Machine.{act}
 use Rattle.hal_agreement.specs.Codes.{Code}
 use Rattle.hal_agreement.specs.Sites.{site_of, here_at}
-use Rattle.hal_agreement.specs.PlacedExpressions.{One, pushes, two, AddressAt, AloneAt, ValueAt, ReferenceAt, SignAt, stay, ExpressionAt, FoldedAt, TermsAt, CalledAt, BuiltAt, ArgumentsAt}
+use Rattle.hal_agreement.specs.PlacedExpressions.{One, pushes, two, AddressAt, BehindAt, AloneAt, ValueAt, NameAt, EitherAt, PlaceAt, ArrayAt, SubscriptedAt, SignAt, stay, ExpressionAt, FoldedAt, TermsAt, CalledAt, BuiltAt, ArgumentsAt, ReferenceAt, ChosenAt, IndexesAt, PositionAt, ComponentAt, PartsAt, PartAt, picks, places_of}
 use Rattle.hal_agreement.proofs.Calling.{args_step, inputs_same, call_reaches, function_reaches}
 use Rattle.hal_agreement.proofs.Knowing.{Sound}
 use Rattle.hal_agreement.proofs.Leading.{stays}
 use Rattle.hal_agreement.proofs.Reaching.{Nest, setting, core_at, Arrives, Reaches, OnStep, bind_reaches, bind_on, acts}
-use Rattle.hal_agreement.proofs.Viewing.{address_reaches}
+use Rattle.hal_agreement.proofs.Viewing.{further_none, address_reaches}
+use Rattle.hal_agreement.proofs.Indexing.{laid, single, singles, laid_both, singles_both, lengths_both, none_first, none_behind, element_reaches}
 use Rattle.hal_agreement.proofs.Raising.{Standing, bind_bind, asks_then, tested_reaches, read_reaches}
 
 -- what a declaration means goes by the site alone
@@ -82,6 +92,22 @@ both_right false b is = absurd (cc)
 as_it_is : (b : Bool) (v : Value) → not b ≡ true → as_operand b v ≡ v
 as_it_is true v is = absurd (cc)
 as_it_is false v is = refl
+
+-- something is followed by the same
+same_bind : {A B : Type 0} (r : Evaluated A) (go next : A → State → Evaluated B) → ((v : A) (st : State) → go v st ≡ next v st) → bind r go ≡ bind r next
+same_bind (Gives v st) go next same = same v st
+same_bind (Asks r k m) go next same = refl
+same_bind (Caught level place st) go next same = refl
+same_bind (Restarts k left) go next same = refl
+same_bind Lost go next same = refl
+
+-- what may come of a phrase in which something follows subscripts: a value, or nothing. What is proved of all phrases together can't speak of every type
+pub data Outcome : Type 0 where
+  OfValue OfNothing : Outcome
+
+abbrev pub Of : Outcome → Type 0
+Of OfValue = Value
+Of OfNothing = Unit {0}
 
 module _ (code : Code) (begin : ℕ) (rec : Meaning) (sound : Sound code begin rec) (h : Here) (n : Nest) (standing : Standing code h n) where
   -- a value is left on the stack, and control goes on there
@@ -183,15 +209,152 @@ module _ (code : Code) (begin : ℕ) (rec : Meaning) (sound : Sound code begin r
   meant_reaches path (MeantBuiltin b) from to stack line st here = kept_reaches to stack line (From from stack line st) st.left _ (alone_reaches b from to stack line st here)
   meant_reaches path MeantNothing from to stack line st here = absurd here
 
-  -- a reference without subscripts
-  referred_reaches : (reference : Reference) (from to : ℕ) (stack : List Operand) (line : List ℕ) (st : State) → ReferenceAt code (site_of h) reference from to
-      → ValuesAt to stack line (From from stack line st) st.left (referred rec h reference st)
-  referred_reaches (Refers place name path Unsubscripted) from to stack line st here =
-      meant_reaches path (name_meant h name st.kept.places) from to stack line st
-      (subst (λ m. ValueAt code (site_of h) path st.kept.places m from to) (name_same h name st.kept.places) (here st.kept.places))
-  referred_reaches (Refers place name path (ByName at other)) from to stack line st here = absurd here
-  referred_reaches (Refers place name path (ByInteger at mark number)) from to stack line st here = absurd here
-  referred_reaches (Refers place name path (ByParts at copies arrays components)) from to stack line st here = absurd here
+  -- a value that is done with
+  done : (from to : ℕ) (v : Value) (stack : List Operand) (line : List ℕ) (st : State) → from ≡ to → ValuesAt to stack line (From from (Val v ∷ stack) line st) st.left (Gives v st)
+  done from to v stack line st same = subst (λ end. ValuesAt end stack line (From from (Val v ∷ stack) line st) st.left (Gives v st)) same (gives from stack line v st)
+
+  -- a name without subscripts
+  named_reaches : (name : List ℕ) (path : List Naming) (from to : ℕ) (stack : List Operand) (line : List ℕ) (st : State) → NameAt code (site_of h) name path from to
+      → ValuesAt to stack line (From from stack line st) st.left (plain_value rec h path (name_meant h name st.kept.places) st)
+  named_reaches name path from to stack line st here =
+      value_reaches path (name_meant h name st.kept.places) from to stack line st (subst (λ m. ValueAt code (site_of h) path st.kept.places m from to) (name_same h name st.kept.places) (here st.kept.places))
+
+  -- something is done with the address on the stack, as it is with the data that the tree chooses
+  abbrev pub Addressed : {A : Type 0} (fine : A → State → Option Step) (k : Kind) (to : ℕ) (stack : List Operand) (line : List ℕ) (go : Located → State → Evaluated A) → Type 0
+  Addressed fine k to stack line go = (place : Spot) (after : State) → Reaches (setting code begin h) n fine (From to (At place k ∷ stack) line after) after.left (go (record { at = place; kind = k }) after)
+
+  -- the address of a cell, behind which something is done
+  plain_address : {A : Type 0} (fine : A → State → Option Step) (k : Kind) (spot : Spot) (from to : ℕ) (stack : List Operand) (line : List ℕ) (st : State) (go : Located → State → Evaluated A)
+      → AddressAt code st.kept.places k spot from → suc from ≡ to → Addressed fine k to stack line go
+      → Reaches (setting code begin h) n fine (From from stack line st) st.left (go (record { at = spot; kind = k }) st)
+  plain_address fine k spot from to stack line st go at same each =
+      address_reaches code begin h n fine k spot from stack line st (go (record { at = spot; kind = k }) st) at
+      (subst (λ end. Reaches (setting code begin h) n fine (From end (At spot k ∷ stack) line st) st.left (go (record { at = spot; kind = k }) st)) (sym same) (each spot st))
+
+  -- that of an element, behind its places. Where there are none, the own places hold what they did
+  element_address : {A : Type 0} (fine : A → State → Option Step) (held : List Held) (ds : List Dimension) (k : Kind) (spot : Spot) (vs : List Value) (from to : ℕ) (stack : List Operand) (line : List ℕ) (st : State) (go : Located → State → Evaluated A)
+      → BehindAt code held ds k spot from → suc from ≡ to → length vs ≡ length ds → (ds ≡ [] → st.kept.places ≡ held) → Addressed fine k to stack line go
+      → Reaches (setting code begin h) n fine (From from (laid vs stack) line st) st.left (bind (located h spot k ds (singles vs) st) go)
+  element_address fine held [] k spot [] from to stack line st go at same many still each =
+      subst (λ place. Reaches (setting code begin h) n fine (From from stack line st) st.left (go (record { at = place; kind = k }) st)) (sym (further_none spot))
+      (plain_address fine k spot from to stack line st go (subst (λ places. AddressAt code places k spot from) (sym (still refl)) at) same each)
+  element_address fine held [] k spot (v ∷ vs) from to stack line st go at same many still each = absurd (cc)
+  element_address fine held (d ∷ ds) k spot vs from to stack line st go at same many still each =
+      element_reaches code begin h n standing fine (d ∷ ds) k spot vs from stack line st go at many
+      (λ place after. subst (λ end. Reaches (setting code begin h) n fine (From end (At place k ∷ stack) line after) after.left (go (record { at = place; kind = k }) after)) (sym same) (each place after))
+
+  -- a subscript without a mark: it is the array's where there is one
+  place_reaches : {A : Type 0} (fine : A → State → Option Step) (placed : ℕ → ℕ → Type 0) (place : Evaluated Value) (k : Kind) (spot : Spot) (sizes : List ℕ) (from to : ℕ) (stack : List Operand) (line : List ℕ) (st : State) (go : Located → State → Evaluated A)
+      → ((middle : ℕ) → placed from middle → ValuesAt middle stack line (From from stack line st) st.left place)
+      → PlaceAt code st.kept.places placed k spot sizes from to → Addressed fine k to stack line go
+      → Reaches (setting code begin h) n fine (From from stack line st) st.left
+      (bind (if is_arrayed sizes then bind place (λ v after. located h spot k (dimensions_of sizes) (Single (integer_of v) ∷ []) after) else Gives (record { at = spot; kind = k }) st) go)
+  place_reaches fine placed place k spot [] from to stack line st go stands here each = plain_address fine k spot from to stack line st go here.0 here.1 each
+  place_reaches fine placed place k spot (n1 ∷ ns) from to stack line st go stands here each =
+      subst (λ r. Reaches (setting code begin h) n fine (From from stack line st) st.left r)
+      (sym (bind_bind place (λ v after. located h spot k (dimensions_of (n1 ∷ ns)) (Single (integer_of v) ∷ []) after) go))
+      (bind_reaches (setting code begin h) n (λ v after. From here.0 (Val v ∷ stack) line after) fine _ st.left place (λ v after. bind (located h spot k (dimensions_of (n1 ∷ ns)) (Single (integer_of v) ∷ []) after) go) (stands here.0 here.1)
+      (λ v after. element_address fine after.kept.places (dimensions_of (n1 ∷ ns)) k spot (v ∷ []) here.0 to stack line after go here.3 here.4 (ap (λ sizes. length (dimensions_of (n1 ∷ sizes))) (sym here.2)) (λ none. refl) each))
+
+  -- array subscripts without a mark are places of the array's dimensions
+  array_same : (sizes : List ℕ) (list : Subscripts) (from to : ℕ) (st : State) → IndexesAt code (site_of h) (dimensions_of sizes) list from to → array_indexes rec h sizes list st ≡ indexes rec h (dimensions_of sizes) list st
+  array_same [] NoSubscripts from to st here = refl
+  array_same (size ∷ sizes) (MoreSubscripts (OnePlace one) others) from to st here =
+      same_bind (index rec h size (OnePlace one) st) (λ i after. bind (array_indexes rec h sizes others after) (λ is later. Gives (i ∷ is) later)) (λ i after. bind (indexes rec h (dimensions_of sizes) others after) (λ is later. Gives (i ∷ is) later))
+      (λ i after. ap (λ r. bind r (λ is later. Gives (i ∷ is) later)) (array_same sizes others here.0 to after here.2))
+  array_same [] (MoreSubscripts first others) from to st here = absurd here
+  array_same (size ∷ sizes) NoSubscripts from to st here = absurd here
+  array_same (size ∷ sizes) (MoreSubscripts (Every place) others) from to st here = absurd here
+  array_same (size ∷ sizes) (MoreSubscripts (Range first behind) others) from to st here = absurd here
+  array_same (size ∷ sizes) (MoreSubscripts (Portion count first) others) from to st here = absurd here
+
+  -- copies without subscripts have no places
+  spoken_same : (list : Subscripts) (ds : List Dimension) (st : State) → indexes rec h ds list st ≡ indexes rec h (spoken list ds) list st
+  spoken_same NoSubscripts ds st = refl
+  spoken_same (MoreSubscripts first others) ds st = refl
+
+  -- places are put on these operands, and something is done with them. Nothing is done before where there are none
+  abbrev Laying : {A : Type 0} (fine : A → State → Option Step) (ds : List Dimension) (to : ℕ) (stack : List Operand) (line : List ℕ) (st : State) (go : List Index → State → Evaluated A) → Type 0
+  Laying fine ds to stack line st go = (vs : List Value) (after : State) → length vs ≡ length ds → (ds ≡ [] → after ≡ st) → Reaches (setting code begin h) n fine (From to (laid vs stack) line after) after.left (go (singles vs) after)
+
+  -- the places of a list are, wherever they stand
+  abbrev Lays : {A : Type 0} (fine : A → State → Option Step) (ds : List Dimension) (list : Subscripts) (from to : ℕ) (stack : List Operand) (line : List ℕ) (st : State) → Type 0
+  Lays {A} fine ds list from to stack line st =
+      (go : List Index → State → Evaluated A) → IndexesAt code (site_of h) ds list from to → Laying fine ds to stack line st go → Reaches (setting code begin h) n fine (From from stack line st) st.left (bind (indexes rec h ds list st) go)
+
+  -- subscripts without a mark
+  array_reaches : {A : Type 0} (fine : A → State → Option Step) (sizes : List ℕ) (list : Subscripts) (from to : ℕ) (stack : List Operand) (line : List ℕ) (st : State) (go : List Index → State → Evaluated A)
+      → Lays fine (dimensions_of sizes) list from to stack line st → ArrayAt (λ begins ends. IndexesAt code (site_of h) (dimensions_of sizes) list begins ends) sizes from to → Laying fine (dimensions_of sizes) to stack line st go
+      → Reaches (setting code begin h) n fine (From from stack line st) st.left (bind (array_indexes rec h sizes list st) go)
+  array_reaches fine [] NoSubscripts from to stack line st go places same each = subst (λ begins. Reaches (setting code begin h) n fine (From begins stack line st) st.left (go [] st)) (sym same) (each [] st refl (λ none. refl))
+  array_reaches fine [] (MoreSubscripts first others) from to stack line st go places same each = subst (λ begins. Reaches (setting code begin h) n fine (From begins stack line st) st.left (go [] st)) (sym same) (each [] st refl (λ none. refl))
+  array_reaches fine (size ∷ sizes) list from to stack line st go places here each =
+      subst (λ r. Reaches (setting code begin h) n fine (From from stack line st) st.left (bind r go)) (sym (array_same (size ∷ sizes) list from to st here)) (places go here each)
+
+  -- subscripts of an array, with a mark behind them or without one
+  either_reaches : {A : Type 0} (fine : A → State → Option Step) (unmarked : Bool) (sizes : List ℕ) (components arrays : Subscripts) (from to : ℕ) (stack : List Operand) (line : List ℕ) (st : State) (go : List Index → State → Evaluated A)
+      → Lays fine (dimensions_of sizes) components from to stack line st → Lays fine (dimensions_of sizes) arrays from to stack line st
+      → EitherAt unmarked (λ begins ends. ArrayAt (λ first behind. IndexesAt code (site_of h) (dimensions_of sizes) components first behind) sizes begins ends) (λ begins ends. IndexesAt code (site_of h) (dimensions_of sizes) arrays begins ends) from to
+      → Laying fine (dimensions_of sizes) to stack line st go
+      → Reaches (setting code begin h) n fine (From from stack line st) st.left (bind (if unmarked then array_indexes rec h sizes components st else indexes rec h (dimensions_of sizes) arrays st) go)
+  either_reaches fine true sizes components arrays from to stack line st go first second here each = array_reaches fine sizes components from to stack line st go first here each
+  either_reaches fine false sizes components arrays from to stack line st go first second here each = second go here each
+
+  -- the address of an element behind the places of copies, which lie on the stack, and of its array
+  behind_copies : {A : Type 0} (fine : A → State → Option Step) (held : List Held) (unmarked : Bool) (ds : List Dimension) (sizes : List ℕ) (components arrays : Subscripts) (k : Kind) (spot : Spot) (vs : List Value) (from middle to : ℕ) (stack : List Operand) (line : List ℕ)
+      (st : State) (go : Located → State → Evaluated A) → Lays fine (dimensions_of sizes) components from middle (laid vs stack) line st → Lays fine (dimensions_of sizes) arrays from middle (laid vs stack) line st
+      → EitherAt unmarked (λ begins ends. ArrayAt (λ first behind. IndexesAt code (site_of h) (dimensions_of sizes) components first behind) sizes begins ends) (λ begins ends. IndexesAt code (site_of h) (dimensions_of sizes) arrays begins ends) from middle
+      → BehindAt code held (ds ++ dimensions_of sizes) k spot middle → suc middle ≡ to → length vs ≡ length ds → (ds ≡ [] → st.kept.places ≡ held) → Addressed fine k to stack line go
+      → Reaches (setting code begin h) n fine (From from (laid vs stack) line st) st.left
+      (bind (bind (if unmarked then array_indexes rec h sizes components st else indexes rec h (dimensions_of sizes) arrays st) (λ js later. located h spot k (ds ++ dimensions_of sizes) (singles vs ++ js) later)) go)
+  behind_copies fine held unmarked ds sizes components arrays k spot vs from middle to stack line st go first second here at same many still each =
+      subst (λ r. Reaches (setting code begin h) n fine (From from (laid vs stack) line st) st.left r)
+      (sym (bind_bind (if unmarked then array_indexes rec h sizes components st else indexes rec h (dimensions_of sizes) arrays st) (λ js later. located h spot k (ds ++ dimensions_of sizes) (singles vs ++ js) later) go))
+      (either_reaches fine unmarked sizes components arrays from middle (laid vs stack) line st (λ js later. bind (located h spot k (ds ++ dimensions_of sizes) (singles vs ++ js) later) go) first second here
+      (λ ws later more untouched. subst (λ below. Reaches (setting code begin h) n fine (From middle below line later) later.left (bind (located h spot k (ds ++ dimensions_of sizes) (singles vs ++ singles ws) later) go)) (laid_both vs ws stack)
+      (subst (λ is. Reaches (setting code begin h) n fine (From middle (laid (vs ++ ws) stack) line later) later.left (bind (located h spot k (ds ++ dimensions_of sizes) is later) go)) (singles_both vs ws)
+      (element_address fine held (ds ++ dimensions_of sizes) k spot (vs ++ ws) middle to stack line later go at same (lengths_both vs ws ds (dimensions_of sizes) many more)
+      (λ none. ap (λ (s : State). s.kept.places) (untouched (none_behind ds (dimensions_of sizes) none)) ∙ still (none_first ds (dimensions_of sizes) none)) each))))
+
+  -- what a name means, with a subscript: its data are addressed, they are read, and then comes their component
+  subscripted_reaches : (path : List Naming) (choose : Spot → Shape → State → Evaluated Located) (part : Bool → Value → State → Evaluated Value) (address : Spot → Shape → ℕ → ℕ → Type 0) (parted : Bool → ℕ → ℕ → Type 0) (m : Meant) (from to : ℕ)
+      (stack : List Operand) (line : List ℕ) (st : State)
+      → ((at : Spot) (shape : Shape) (middle : ℕ) (go : Located → State → Evaluated Value) → address at shape from middle
+      → Addressed (λ v after. Some (From to (Val v ∷ stack) line after)) (kind_of_first (chosen path shape.components)) middle stack line go → ValuesAt to stack line (From from stack line st) st.left (bind (choose at shape st) go))
+      → ((arrayed : Bool) (begins : ℕ) (v : Value) (after : State) → parted arrayed begins to → ValuesAt to stack line (From begins (Val v ∷ stack) line after) after.left (part arrayed v after))
+      → SubscriptedAt code (site_of h) path st.kept.places address parted m from to → ValuesAt to stack line (From from stack line st) st.left (subscripted rec h path choose part m st)
+  subscripted_reaches path choose part address parted (MeantData at shape) from to stack line st chooses parts here =
+      chooses at shape here.0 (λ l after. bind (read h l.kind l.at after) (λ v later. part (is_arrayed (sizes_named path shape)) v later)) here.1
+      (λ place after. then_reaches (suc here.0) to stack stack line _ after.left (read h (kind_of_first (chosen path shape.components)) place after) (λ v later. part (is_arrayed (sizes_named path shape)) v later)
+      (last instr.Fetch here.0 (suc here.0) (At place (kind_of_first (chosen path shape.components)) ∷ stack) stack line after (read h (kind_of_first (chosen path shape.components)) place after) (here.2, refl)
+      (read_reaches code begin h n standing here.0 (At place (kind_of_first (chosen path shape.components)) ∷ stack) stack line (kind_of_first (chosen path shape.components)) place after))
+      (λ v later. parts (is_arrayed (sizes_named path shape)) (suc here.0) v later here.3))
+  subscripted_reaches path choose part address parted (MeantConstant w) from to stack line st chooses parts here =
+      then_reaches here.0 to stack stack line _ st.left _ _ (value_reaches path (MeantConstant w) from here.0 stack line st here.1) (λ v after. parts false here.0 v after here.2)
+  subscripted_reaches path choose part address parted (MeantEvent e) from to stack line st chooses parts here =
+      then_reaches here.0 to stack stack line _ st.left _ _ (value_reaches path (MeantEvent e) from here.0 stack line st here.1) (λ v after. parts false here.0 v after here.2)
+  subscripted_reaches path choose part address parted (MeantBlock unit) from to stack line st chooses parts here =
+      then_reaches here.0 to stack stack line _ st.left _ _ (value_reaches path (MeantBlock unit) from here.0 stack line st here.1) (λ v after. parts false here.0 v after here.2)
+  subscripted_reaches path choose part address parted (MeantBuiltin b) from to stack line st chooses parts here =
+      then_reaches here.0 to stack stack line _ st.left _ _ (value_reaches path (MeantBuiltin b) from here.0 stack line st here.1) (λ v after. parts false here.0 v after here.2)
+  subscripted_reaches path choose part address parted MeantNothing from to stack line st chooses parts here = absurd here.1
+
+  -- PICK of the part that places on the stack choose
+  pick_reaches : (taken : Places) (chosen : List Operand) (p : Part) (at to : ℕ) (v : Value) (stack : List Operand) (line : List ℕ) (st : State) → part_taken taken chosen ≡ Some (p, Val v ∷ stack) → One code at (picks taken) to
+      → ValuesAt to stack line (From at chosen line st) st.left (part_of h p v st)
+  pick_reaches taken chosen p at to v stack line st is one =
+      last (picks taken) at to chosen stack line st (part_of h p v st) one
+      (subst (λ step. ValuesAt (suc at) stack line step st.left (part_of h p v st))
+      (sym (ap (λ o. elim o [ None ↦ stuck (core_at at chosen line n st) | Some got ↦ part_picked (setting code begin h) got.0 got.1 (core_at at chosen line n st) ]) is))
+      (tested_reaches code begin h n standing (picked v p) (mended_pick v p) at chosen stack line st))
+
+  -- all subscripts are an array's, or there are those of a component
+  marked_reaches : (whole : Bool) (list : Subscripts) (from to : ℕ) (v : Value) (stack : List Operand) (line : List ℕ) (st : State)
+      → (PartsAt code (site_of h) list from to → ValuesAt to stack line (From from (Val v ∷ stack) line st) st.left (parts_of rec h list v st))
+      → EitherAt whole (λ begins ends. begins ≡ ends) (λ begins ends. PartsAt code (site_of h) list begins ends) from to
+      → ValuesAt to stack line (From from (Val v ∷ stack) line st) st.left (if whole then Gives v st else parts_of rec h list v st)
+  marked_reaches true list from to v stack line st parts same = done from to v stack line st same
+  marked_reaches false list from to v stack line st parts here = parts here
 
   -- a sign before the first term
   sign_reaches : (opening : Option Sign) (from to : ℕ) (v : Value) (stack : List Operand) (line : List ℕ) (st : State) → SignAt code opening from to
@@ -235,10 +398,6 @@ module _ (code : Code) (begin : ℕ) (rec : Meaning) (sound : Sound code begin r
   argument_step name names v stack at line ps after None e = tt
   argument_step name names v stack at line ps after (Some x) e =
       record { holds = subst (λ one. Arrives (setting code begin h) x after.left one after.left) (sym e) (stays (setting code begin h) x after.left) }
-
-  -- a value that is done with
-  done : (from to : ℕ) (v : Value) (stack : List Operand) (line : List ℕ) (st : State) → from ≡ to → ValuesAt to stack line (From from (Val v ∷ stack) line st) st.left (Gives v st)
-  done from to v stack line st same = subst (λ end. ValuesAt end stack line (From from (Val v ∷ stack) line st) st.left (Gives v st)) same (gives from stack line v st)
 
   mutual
     pub expression_reaches : (e : Expression) (from to : ℕ) (stack : List Operand) (line : List ℕ) (st : State) → ExpressionAt code (site_of h) e from to
@@ -354,3 +513,140 @@ module _ (code : Code) (begin : ℕ) (rec : Meaning) (sound : Sound code begin r
         (λ ps later. argument_step name names v stack to line ps later (args_step code begin rec sound h n standing names ps (Val v ∷ stack) to line later) refl))))
     passed_reaches unit [] (MoreExpressions first others) from to stack line st here = absurd here
     passed_reaches unit (name ∷ names) NoExpressions from to stack line st here = absurd here
+
+    -- a reference
+    referred_reaches : (reference : Reference) (from to : ℕ) (stack : List Operand) (line : List ℕ) (st : State) → ReferenceAt code (site_of h) reference from to
+        → ValuesAt to stack line (From from stack line st) st.left (referred rec h reference st)
+    referred_reaches (Refers place name path Unsubscripted) from to stack line st here =
+        meant_reaches path (name_meant h name st.kept.places) from to stack line st
+        (subst (λ m. ValueAt code (site_of h) path st.kept.places m from to) (name_same h name st.kept.places) (here st.kept.places))
+    referred_reaches (Refers place name path (ByName at one)) from to stack line st here =
+        subscripted_reaches path (λ spot shape before. data_chosen rec h path (ByName at one) spot shape before) (λ arrayed v after. component rec h arrayed (ByName at one) v after)
+        (λ spot shape begins ends. ChosenAt code (site_of h) st.kept.places path (ByName at one) spot shape begins ends) (λ arrayed begins ends. ComponentAt code (site_of h) arrayed (ByName at one) begins ends) (name_meant h name st.kept.places) from to stack line st
+        (λ spot shape middle go here each. chosen_reaches OfValue _ path (ByName at one) spot shape from middle stack line st go here each) (λ arrayed begins v after here. component_reaches arrayed (ByName at one) begins to v stack line after here)
+        (subst (λ m. SubscriptedAt code (site_of h) path st.kept.places (λ spot shape begins ends. ChosenAt code (site_of h) st.kept.places path (ByName at one) spot shape begins ends) (λ arrayed begins ends. ComponentAt code (site_of h) arrayed (ByName at one) begins ends) m from to)
+        (name_same h name st.kept.places) (here st.kept.places))
+    referred_reaches (Refers place name path (ByInteger at mark number)) from to stack line st here =
+        subscripted_reaches path (λ spot shape before. data_chosen rec h path (ByInteger at mark number) spot shape before) (λ arrayed v after. component rec h arrayed (ByInteger at mark number) v after)
+        (λ spot shape begins ends. ChosenAt code (site_of h) st.kept.places path (ByInteger at mark number) spot shape begins ends) (λ arrayed begins ends. ComponentAt code (site_of h) arrayed (ByInteger at mark number) begins ends) (name_meant h name st.kept.places) from to stack line st
+        (λ spot shape middle go here each. chosen_reaches OfValue _ path (ByInteger at mark number) spot shape from middle stack line st go here each) (λ arrayed begins v after here. component_reaches arrayed (ByInteger at mark number) begins to v stack line after here)
+        (subst (λ m. SubscriptedAt code (site_of h) path st.kept.places (λ spot shape begins ends. ChosenAt code (site_of h) st.kept.places path (ByInteger at mark number) spot shape begins ends) (λ arrayed begins ends. ComponentAt code (site_of h) arrayed (ByInteger at mark number) begins ends) m from to)
+        (name_same h name st.kept.places) (here st.kept.places))
+    referred_reaches (Refers place name path (ByParts at copies arrays components)) from to stack line st here =
+        subscripted_reaches path (λ spot shape before. data_chosen rec h path (ByParts at copies arrays components) spot shape before) (λ arrayed v after. component rec h arrayed (ByParts at copies arrays components) v after)
+        (λ spot shape begins ends. ChosenAt code (site_of h) st.kept.places path (ByParts at copies arrays components) spot shape begins ends) (λ arrayed begins ends. ComponentAt code (site_of h) arrayed (ByParts at copies arrays components) begins ends) (name_meant h name st.kept.places) from to stack line st
+        (λ spot shape middle go here each. chosen_reaches OfValue _ path (ByParts at copies arrays components) spot shape from middle stack line st go here each) (λ arrayed begins v after here. component_reaches arrayed (ByParts at copies arrays components) begins to v stack line after here)
+        (subst (λ m. SubscriptedAt code (site_of h) path st.kept.places (λ spot shape begins ends. ChosenAt code (site_of h) st.kept.places path (ByParts at copies arrays components) spot shape begins ends) (λ arrayed begins ends. ComponentAt code (site_of h) arrayed (ByParts at copies arrays components) begins ends) m from to)
+        (name_same h name st.kept.places) (here st.kept.places))
+
+    -- the address of the element that copy and array subscripts choose
+    pub chosen_reaches : (w : Outcome) (fine : Of w → State → Option Step) (path : List Naming) (subscript : Subscript) (spot : Spot) (shape : Shape) (from to : ℕ) (stack : List Operand) (line : List ℕ) (st : State) (go : Located → State → Evaluated (Of w))
+        → ChosenAt code (site_of h) st.kept.places path subscript spot shape from to → Addressed fine (kind_of_first (chosen path shape.components)) to stack line go
+        → Reaches (setting code begin h) n fine (From from stack line st) st.left (bind (data_chosen rec h path subscript spot shape st) go)
+    chosen_reaches w fine path Unsubscripted spot shape from to stack line st go here each =
+        plain_address fine (kind_of_first (chosen path shape.components)) (further (offset path shape.components) spot) from to stack line st go here.0 here.1 each
+    chosen_reaches w fine path (ByName place name) spot shape from to stack line st go here each =
+        place_reaches fine (λ begins ends. NameAt code (site_of h) name.name [] begins ends) (named_value rec h name st) (kind_of_first (chosen path shape.components)) (further (offset path shape.components) spot) (sizes_named path shape) from to stack line st go
+        (λ middle at. named_reaches name.name [] from middle stack line st at) here each
+    chosen_reaches w fine path (ByInteger place mark number) spot shape from to stack line st go here each =
+        place_reaches fine (λ begins ends. One code begins (instr.Int (pos number)) ends) (Gives (value.Int (pos number)) st) (kind_of_first (chosen path shape.components)) (further (offset path shape.components) spot) (sizes_named path shape) from to stack line
+        st go (λ middle at. constant_reaches (value.Int (pos number)) from middle stack line st at) here each
+    chosen_reaches w fine path (ByParts place copies arrays components) spot shape from to stack line st go here each =
+        subst (λ r. Reaches (setting code begin h) n fine (From from stack line st) st.left r)
+        (ap (λ r. bind r (λ is after. bind (elements is after) go)) (sym (spoken_same copies (copies_of shape) st)) ∙ sym (bind_bind (indexes rec h (copies_of shape) copies st) elements go))
+        (indexes_reaches w fine (spoken copies (copies_of shape)) copies from here.0 stack line st (λ is after. bind (elements is after) go) here.2
+        (λ vs after many untouched. behind_copies fine st.kept.places (is_none arrays) (spoken copies (copies_of shape)) (sizes_named path shape) components arrays (kind_of_first (chosen path shape.components)) (further (offset path shape.components) spot) vs here.0 here.1 to stack line
+        after go (λ next at later. indexes_reaches w fine (dimensions_of (sizes_named path shape)) components here.0 here.1 (laid vs stack) line after next at later)
+        (λ next at later. indexes_reaches w fine (dimensions_of (sizes_named path shape)) arrays here.0 here.1 (laid vs stack) line after next at later) here.3 here.4 here.5 many
+        (λ none. ap (λ (s : State). s.kept.places) (untouched none)) each))
+      where
+        elements : List Index → State → Evaluated Located
+        elements is after =
+            bind (if is_none arrays then array_indexes rec h (sizes_named path shape) components after else indexes rec h (dimensions_of (sizes_named path shape)) arrays after)
+            (λ js later. located h (further (offset path shape.components) spot) (kind_of_first (chosen path shape.components)) (spoken copies (copies_of shape) ++ dimensions_of (sizes_named path shape)) (is ++ js) later)
+
+    -- places for dimensions, one for each
+    indexes_reaches : (w : Outcome) (fine : Of w → State → Option Step) (ds : List Dimension) (list : Subscripts) (from to : ℕ) (stack : List Operand) (line : List ℕ) (st : State) (go : List Index → State → Evaluated (Of w)) → IndexesAt code (site_of h) ds list from to
+        → ((vs : List Value) (after : State) → length vs ≡ length ds → (ds ≡ [] → after ≡ st) → Reaches (setting code begin h) n fine (From to (laid vs stack) line after) after.left (go (singles vs) after))
+        → Reaches (setting code begin h) n fine (From from stack line st) st.left (bind (indexes rec h ds list st) go)
+    indexes_reaches w fine [] NoSubscripts from to stack line st go same each =
+        subst (λ begins. Reaches (setting code begin h) n fine (From begins stack line st) st.left (go [] st)) (sym same) (each [] st refl (λ none. refl))
+    indexes_reaches w fine (d ∷ ds) (MoreSubscripts (OnePlace one) others) from to stack line st go here each =
+        subst (λ r. Reaches (setting code begin h) n fine (From from stack line st) st.left r)
+        (sym (bind_bind (index rec h d.size (OnePlace one) st) (λ i after. bind (indexes rec h ds others after) (λ is later. Gives (i ∷ is) later)) go
+        ∙ bind_bind (position rec h d.size one st) (λ i after. Gives (Single i) after) (λ i after. bind (bind (indexes rec h ds others after) (λ is later. Gives (i ∷ is) later)) go)))
+        (position_reaches w fine one d.size (instr.Int (pos d.size)) from here.0 stack line st (λ i after. bind (bind (indexes rec h ds others after) (λ is later. Gives (Single i ∷ is) later)) go) (λ at now. refl) here.1
+        (λ v after. subst (λ r. Reaches (setting code begin h) n fine (From here.0 (Val v ∷ stack) line after) after.left r)
+        (sym (bind_bind (indexes rec h ds others after) (λ is later. Gives (single v ∷ is) later) go))
+        (indexes_reaches w fine ds others here.0 to (Val v ∷ stack) line after (λ is later. go (single v ∷ is) later) here.2 (λ vs later many untouched. each (v ∷ vs) later (ap suc many) (λ none. absurd (cc))))))
+    indexes_reaches w fine [] (MoreSubscripts first others) from to stack line st go here each = absurd here
+    indexes_reaches w fine (d ∷ ds) NoSubscripts from to stack line st go here each = absurd here
+    indexes_reaches w fine (d ∷ ds) (MoreSubscripts (Every place) others) from to stack line st go here each = absurd here
+    indexes_reaches w fine (d ∷ ds) (MoreSubscripts (Range first behind) others) from to stack line st go here each = absurd here
+    indexes_reaches w fine (d ∷ ds) (MoreSubscripts (Portion count first) others) from to stack line st go here each = absurd here
+
+    -- a place, of data the number of whose places an instruction leaves
+    position_reaches : (w : Outcome) (fine : Of w → State → Option Step) (one : Position) (size : ℕ) (ends : Instr) (from to : ℕ) (stack : List Operand) (line : List ℕ) (st : State) (go : ℤ → State → Evaluated (Of w))
+        → ((at : ℕ) (now : State) → act (setting code begin h) ends (core_at at stack line n now) ≡ From (suc at) (Val (value.Int (pos size)) ∷ stack) line now) → PositionAt code (site_of h) ends one from to
+        → ((v : Value) (after : State) → Reaches (setting code begin h) n fine (From to (Val v ∷ stack) line after) after.left (go (integer_of v) after))
+        → Reaches (setting code begin h) n fine (From from stack line st) st.left (bind (position rec h size one st) go)
+    position_reaches w fine (FromBeginning one) size ends from to stack line st go counts here each =
+        subst (λ r. Reaches (setting code begin h) n fine (From from stack line st) st.left r) (sym (bind_bind (expression rec h one st) (λ v after. Gives (integer_of v) after) go))
+        (bind_reaches (setting code begin h) n (λ v after. From to (Val v ∷ stack) line after) fine _ st.left (expression rec h one st) (λ v after. go (integer_of v) after) (expression_reaches one from to stack line st here) each)
+    position_reaches w fine (FromEnd place terms) size ends from to stack line st go counts here each =
+        subst (λ r. Reaches (setting code begin h) n fine (From from stack line st) st.left r) (sym (bind_bind (summed rec h (value.Int (pos size)) terms st) (λ v after. Gives (integer_of v) after) go))
+        (acts (setting code begin h) n fine (core_at from stack line n st) st.left ends _ here.0
+        (subst (λ step. Reaches (setting code begin h) n fine step st.left (bind (summed rec h (value.Int (pos size)) terms st) (λ v after. go (integer_of v) after))) (sym (counts from st))
+        (bind_reaches (setting code begin h) n (λ v after. From to (Val v ∷ stack) line after) fine _ st.left (summed rec h (value.Int (pos size)) terms st) (λ v after. go (integer_of v) after)
+        (summed_reaches terms (suc from) to (value.Int (pos size)) stack line st here.1) each)))
+
+    -- the component of a value
+    component_reaches : (arrayed : Bool) (subscript : Subscript) (from to : ℕ) (v : Value) (stack : List Operand) (line : List ℕ) (st : State) → ComponentAt code (site_of h) arrayed subscript from to
+        → ValuesAt to stack line (From from (Val v ∷ stack) line st) st.left (component rec h arrayed subscript v st)
+    component_reaches arrayed Unsubscripted from to v stack line st same = done from to v stack line st same
+    component_reaches true (ByName place name) from to v stack line st same = done from to v stack line st same
+    component_reaches true (ByInteger place mark number) from to v stack line st same = done from to v stack line st same
+    component_reaches false (ByName place name) from to v stack line st here =
+        then_reaches here.0 to (Val v ∷ stack) stack line _ st.left (named_value rec h name st) (λ i after. part_of h (part.One (integer_of i)) v after) (named_reaches name.name [] from here.0 (Val v ∷ stack) line st here.1)
+        (λ i after. pick_reaches places.One (Val i ∷ Val v ∷ stack) (part.One (integer_of i)) here.0 to v stack line after refl here.2)
+    component_reaches false (ByInteger place mark number) from to v stack line st here =
+        acts (setting code begin h) n _ (core_at from (Val v ∷ stack) line n st) st.left (instr.Int (pos number)) _ here.0
+        (pick_reaches places.One (Val (value.Int (pos number)) ∷ Val v ∷ stack) (part.One (pos number)) (suc from) to v stack line st refl here.1)
+    component_reaches arrayed (ByParts place copies arrays components) from to v stack line st here =
+        marked_reaches (arrayed && is_none arrays) components from to v stack line st (λ at. parts_reaches components from to v stack line st at) here
+
+    -- what the subscripts of a component choose
+    parts_reaches : (list : Subscripts) (from to : ℕ) (v : Value) (stack : List Operand) (line : List ℕ) (st : State) → PartsAt code (site_of h) list from to → ValuesAt to stack line (From from (Val v ∷ stack) line st) st.left (parts_of rec h list v st)
+    parts_reaches NoSubscripts from to v stack line st same = done from to v stack line st same
+    parts_reaches (MoreSubscripts first others) from to v stack line st here =
+        part_reaches OfValue _ first from here.0 v stack line st (λ p after. part_of h p v after) here.1 (λ chosen p after is. pick_reaches (places_of first) chosen p here.0 to v stack line after is here.2)
+
+    -- the places of a component of the value on the stack
+    pub part_reaches : (w : Outcome) (fine : Of w → State → Option Step) (one : Sub) (from to : ℕ) (v : Value) (under : List Operand) (line : List ℕ) (st : State) (go : Part → State → Evaluated (Of w)) → PartAt code (site_of h) one from to
+        → ((chosen : List Operand) (p : Part) (after : State) → part_taken (places_of one) chosen ≡ Some (p, Val v ∷ under) → Reaches (setting code begin h) n fine (From to chosen line after) after.left (go p after))
+        → Reaches (setting code begin h) n fine (From from (Val v ∷ under) line st) st.left (bind (part_chosen rec h (place_count v) one st) go)
+    part_reaches w fine (Every place) from to v under line st go here each =
+        acts (setting code begin h) n fine (core_at from (Val v ∷ under) line n st) st.left (instr.Int (pos 1)) _ here.0
+        (acts (setting code begin h) n fine (core_at (suc from) (Val (value.Int (pos 1)) ∷ Val v ∷ under) line n st) st.left (instr.Len 1) _ here.1.0
+        (subst (λ end. Reaches (setting code begin h) n fine (From end (Val (value.Int (pos (place_count v))) ∷ Val (value.Int (pos 1)) ∷ Val v ∷ under) line st) st.left (go (part.To (pos 1) (pos (place_count v))) st)) (sym here.1.1)
+        (each (Val (value.Int (pos (place_count v))) ∷ Val (value.Int (pos 1)) ∷ Val v ∷ under) (part.To (pos 1) (pos (place_count v))) st refl)))
+    part_reaches w fine (OnePlace one) from to v under line st go here each =
+        subst (λ r. Reaches (setting code begin h) n fine (From from (Val v ∷ under) line st) st.left r) (sym (bind_bind (position rec h (place_count v) one st) (λ i after. Gives (part.One i) after) go))
+        (position_reaches w fine one (place_count v) (instr.Len 0) from to (Val v ∷ under) line st (λ i after. go (part.One i) after) (λ at now. refl) here (λ i after. each (Val i ∷ Val v ∷ under) (part.One (integer_of i)) after refl))
+    part_reaches w fine (Range first behind) from to v under line st go here each =
+        subst (λ r. Reaches (setting code begin h) n fine (From from (Val v ∷ under) line st) st.left r)
+        (sym (bind_bind (position rec h (place_count v) first st) (λ i after. bind (position rec h (place_count v) behind after) (λ j later. Gives (part.To i j) later)) go))
+        (position_reaches w fine first (place_count v) (instr.Len 0) from here.0 (Val v ∷ under) line st (λ i after. bind (bind (position rec h (place_count v) behind after) (λ j later. Gives (part.To i j) later)) go) (λ at now. refl) here.1
+        (λ i after. subst (λ r. Reaches (setting code begin h) n fine (From here.0 (Val i ∷ Val v ∷ under) line after) after.left r)
+        (sym (bind_bind (position rec h (place_count v) behind after) (λ j later. Gives (part.To (integer_of i) j) later) go))
+        (position_reaches w fine behind (place_count v) (instr.Len 1) here.0 to (Val i ∷ Val v ∷ under) line after (λ j later. go (part.To (integer_of i) j) later) (λ at now. refl) here.2
+        (λ j later. each (Val j ∷ Val i ∷ Val v ∷ under) (part.To (integer_of i) (integer_of j)) later refl))))
+    part_reaches w fine (Portion count first) from to v under line st go here each =
+        subst (λ r. Reaches (setting code begin h) n fine (From from (Val v ∷ under) line st) st.left r)
+        (sym (bind_bind (expression rec h count st) (λ i after. bind (position rec h (place_count v) first after) (λ j later. Gives (part.At (integer_of i) j) later)) go))
+        (bind_reaches (setting code begin h) n (λ i after. From here.0 (Val i ∷ Val v ∷ under) line after) fine _ st.left (expression rec h count st)
+        (λ i after. bind (bind (position rec h (place_count v) first after) (λ j later. Gives (part.At (integer_of i) j) later)) go) (expression_reaches count from here.0 (Val v ∷ under) line st here.1)
+        (λ i after. subst (λ r. Reaches (setting code begin h) n fine (From here.0 (Val i ∷ Val v ∷ under) line after) after.left r)
+        (sym (bind_bind (position rec h (place_count v) first after) (λ j later. Gives (part.At (integer_of i) j) later) go))
+        (position_reaches w fine first (place_count v) (instr.Len 1) here.0 to (Val i ∷ Val v ∷ under) line after (λ j later. go (part.At (integer_of i) j) later) (λ at now. refl) here.2
+        (λ j later. each (Val j ∷ Val i ∷ Val v ∷ under) (part.At (integer_of i) (integer_of j)) later refl))))

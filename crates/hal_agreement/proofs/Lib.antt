@@ -4,9 +4,11 @@ pub mod Searching
 pub mod Handling
 pub mod Raising
 pub mod Viewing
+pub mod Indexing
 pub mod Knowing
 pub mod Calling
 pub mod Expressing
+pub mod Receiving
 pub mod Stating
 pub mod Entering
 pub mod Asking

@@ -3,8 +3,8 @@ use Rattle.std.specs.Prelude.{◌≡◌, ℕ, suc, nat_lt, length, take, Bool, t
 use Rattle.std.proofs.Common.{refl, sym, ap, subst, ◌∙◌, append_assoc, append-nil}
 use Rattle.hal_base.specs.declared.limits.TheConstants.{LINE_LIMIT}
 use Rattle.hal_grammar.specs.Leaves.{Naming, Integer}
-use Rattle.hal_grammar.specs.Expressions.{Expression, Expressions, NoExpressions, MoreExpressions, Literal, Reference, Refers, Unsubscripted, ByName, ByInteger, ByParts}
-use Rattle.hal_grammar.specs.Statements.{Guard, While, Until, Return, Alternative, NoAlternative, Otherwise}
+use Rattle.hal_grammar.specs.Expressions.{Expression, Expressions, NoExpressions, MoreExpressions, Literal, Reference}
+use Rattle.hal_grammar.specs.Statements.{Guard, While, Until, Alternative, NoAlternative, Otherwise}
 use Rattle.hal_grammar.specs.Declarations.{IntegerKind, BooleanKind, EventKind, BitKind, CharacterKind, StructureKind}
 use Rattle.hal_grammar.specs.Units.{Head, Program, Compool, Task, Procedure, Function, NoKind, HasKind}
 use Rattle.hal_operations.specs.declared.operation.Op1.TheVariants as op1
@@ -13,38 +13,34 @@ use Rattle.hal_values.specs.declared.request.Request.TheVariants as request
 use Rattle.hal_values.specs.declared.value.Value.{Value}
 use Rattle.hal_values.specs.declared.value.Value.TheVariants as value
 use Rattle.hal_values.specs.Answers.{Answered, error}
-use Rattle.hal_operations.specs.Stores.{stored}
-use Rattle.hal_states.specs.Spots.{further}
 use Rattle.hal_states.specs.Lines.{line_of, item_of}
 use Rattle.hal_states.specs.Numbers.{holds}
-use Rattle.hal_meaning.specs.Elements.{chosen, offset}
 use Rattle.hal_meaning.specs.States.{State, Evaluated, Gives, Asks, Caught, Restarts, Lost, bind, Flow, Normal, Leaves, Repeats, Returned}
 use Rattle.hal_meaning.specs.Bodies.{Body}
 use Rattle.hal_meaning.specs.Calls.{inputs_of, returned_by, call}
 use Rattle.hal_meaning.specs.Sets.{body_at}
 use Rattle.hal_meaning.specs.Access.{Here, raise, turn, request_made}
-use Rattle.hal_meaning.specs.Variables.{Meant, MeantData, MeantConstant, MeantEvent, MeantBlock, MeantBuiltin, MeantNothing, name_meant, kind_of_first}
-use Rattle.hal_meaning.specs.Expressions.{Located, inputs_at, expression, values, passed, data_chosen, meant_chosen}
-use Rattle.hal_meaning.specs.Statements.{goes_on, returned_in, called, received_by, is_array_named, received, all_received, line_fitting, written, is_meant, group_left, NextTurn, Ended, after_turn, goes_round, turn_made, turn_if, guard_holds, first_holds, goes_behind, one_of}
+use Rattle.hal_meaning.specs.Variables.{Meant, MeantData, MeantConstant, MeantEvent, MeantBlock, MeantBuiltin, MeantNothing}
+use Rattle.hal_meaning.specs.Expressions.{inputs_at, expression, values, passed}
+use Rattle.hal_meaning.specs.Statements.{goes_on, returned_in, called, all_received, line_fitting, written, is_meant, group_left, NextTurn, Ended, after_turn, goes_round, turn_made, turn_if, guard_holds, first_holds, goes_behind, one_of}
 use Rattle.hal_meaning.specs.Tasks.{Meaning}
 use Rattle.hal_code.specs.declared.choice.Choice.TheVariants as choice
 use Rattle.hal_code.specs.declared.instr.Instr.{Instr}
 use Rattle.hal_code.specs.declared.instr.Instr.TheVariants as instr
-use Rattle.hal_code.specs.Cores.{Operand, Val, At, Goes, Asks, Then, Step, Waits, Moves}
+use Rattle.hal_code.specs.Cores.{Operand, Val, Goes, Asks, Then, Step, Waits, Moves}
 use Rattle.hal_code.specs.Raising.{raised_before}
-use Rattle.hal_code.specs.Addressing.{stored_at}
 use Rattle.hal_code.specs.Machine.{act}
 use Rattle.hal_agreement.specs.Codes.{Code}
 use Rattle.hal_agreement.specs.Sites.{site_of}
 use Rattle.hal_agreement.specs.PlacedExpressions.{Has, One, ExpressionAt}
-use Rattle.hal_agreement.specs.PlacedStatements.{opened, exit_of, again_of, ByResult, Exits, within_group, KeptAt, ReceiverAt, ReceiversAt, ChannelAt, ItemsAt, ConditionAt, FirstTestAt, TestAt, ResultBy, ResultAt, CalledAt, AlternativeAt}
+use Rattle.hal_agreement.specs.PlacedStatements.{opened, exit_of, again_of, ByResult, Exits, within_group, ReceiversAt, ChannelAt, ItemsAt, ConditionAt, FirstTestAt, TestAt, ResultBy, ResultAt, CalledAt, AlternativeAt}
 use Rattle.hal_agreement.proofs.Leading.{Leads, stays, through, acts_to}
 use Rattle.hal_agreement.proofs.Reaching.{Nest, setting, core_at, Arrives, Holds, Reaches, OnStep, before, bind_reaches, bind_on, asks_reaches, acts}
 use Rattle.hal_agreement.proofs.Calling.{args_step, on_step, inputs_same, call_reaches}
 use Rattle.hal_agreement.proofs.Knowing.{going_to, Out, flow_to, Leads_out, Sound}
-use Rattle.hal_agreement.proofs.Raising.{Standing, bind_bind, raised_reaches, store_reaches, turned_reaches}
-use Rattle.hal_agreement.proofs.Expressing.{name_same, expression_reaches, passed_reaches}
-use Rattle.hal_agreement.proofs.Viewing.{address_reaches}
+use Rattle.hal_agreement.proofs.Raising.{Standing, bind_bind, raised_reaches, turned_reaches}
+use Rattle.hal_agreement.proofs.Expressing.{expression_reaches, passed_reaches}
+use Rattle.hal_agreement.proofs.Receiving.{received_reaches}
 
 -- what a unit returns, as its type has it
 abbrev result_in : Option Body → Value → Value
@@ -115,43 +111,16 @@ module _ (code : Code) (begin : ℕ) (rec : Meaning) (sound : Sound code begin r
   pub led : (exits : Exits) (end to : ℕ) (step : Step) (left : List Answered) (r : Evaluated Flow) → ((st : State) → Leads (setting code begin h) (Begins end st) st.left (Begins to st) st.left) → FlowsAt exits end step left r → FlowsAt exits to step left r
   led exits end to step left r leads is = record { holds = led_holds exits end to step left r leads is.holds }
 
-  -- a receiver
-  received_flag : (arrayed : Bool) (l : Located) (v : Value) (at : ℕ) (under : List Operand) (st : State)
-      → DoneAt at under [] (stored_at (setting code begin h) l.kind v l.at (stored l.kind v) (core_at at under [] n st)) st.left (received_by rec h l arrayed Unsubscripted v st)
-  received_flag true l v at under st = store_reaches code begin h n standing at under [] l.kind l.at v st
-  received_flag false l v at under st = store_reaches code begin h n standing at under [] l.kind l.at v st
-
-  received_as : (path : List Naming) (m : Meant) (v : Value) (from to : ℕ) (under : List Operand) (st : State) → KeptAt code path st.kept.places m from to
-      → DoneAt to under [] (Moves (core_at from (Val v ∷ under) [] n st)) st.left
-      (bind (meant_chosen (λ at shape before. data_chosen rec h path Unsubscripted at shape before) m st) (λ l after. received_by rec h l (is_array_named path m) Unsubscripted v after))
-  received_as path (MeantData at shape) v from to under st here =
-      address_reaches code begin h n _ (kind_of_first (chosen path shape.components)) (further (offset path shape.components) at) from (Val v ∷ under) [] st _ here.0
-      (final (λ end done after. Some (Moves (core_at end under [] n after))) instr.Keep (suc from) to (At (further (offset path shape.components) at) (kind_of_first (chosen path shape.components)) ∷ Val v ∷ under) [] st _ here.1
-      (received_flag (is_array_named path (MeantData at shape)) (record { at = further (offset path shape.components) at; kind = kind_of_first (chosen path shape.components) }) v (suc (suc from)) under st))
-  received_as path (MeantConstant w) v from to under st here = absurd here
-  received_as path (MeantEvent e) v from to under st here = absurd here
-  received_as path (MeantBlock unit) v from to under st here = absurd here
-  received_as path (MeantBuiltin b) v from to under st here = absurd here
-  received_as path MeantNothing v from to under st here = absurd here
-
-  pub received_reaches : (reference : Reference) (v : Value) (from to : ℕ) (under : List Operand) (st : State) → ReceiverAt code (site_of h) reference from to
-      → DoneAt to under [] (Moves (core_at from (Val v ∷ under) [] n st)) st.left (received rec h v reference st)
-  received_reaches (Refers place name path Unsubscripted) v from to under st here =
-      received_as path (name_meant h name st.kept.places) v from to under st (subst (λ m. KeptAt code path st.kept.places m from to) (name_same h name st.kept.places) (here st.kept.places))
-  received_reaches (Refers place name path (ByName at other)) v from to under st here = absurd here
-  received_reaches (Refers place name path (ByInteger at mark number)) v from to under st here = absurd here
-  received_reaches (Refers place name path (ByParts at copies arrays components)) v from to under st here = absurd here
-
   -- receivers, the last of which takes the value itself
   pub all_received_reaches : (receivers : List Reference) (v : Value) (from to : ℕ) (st : State) → ReceiversAt code (site_of h) receivers from to
       → DoneAt to [] [] (Moves (core_at from (Val v ∷ []) [] n st)) st.left (all_received rec h v receivers st)
   all_received_reaches [] v from to st here = absurd here
   all_received_reaches (receiver ∷ []) v from to st here =
-      bind_reaches (setting code begin h) n (λ done after. Moves (core_at to [] [] n after)) _ _ st.left _ (λ done after. Gives tt after) (received_reaches receiver v from to [] st here) (λ done after. record { holds = stays (setting code begin h) _ after.left })
+      bind_reaches (setting code begin h) n (λ done after. Moves (core_at to [] [] n after)) _ _ st.left _ (λ done after. Gives tt after) (received_reaches code begin rec sound h n standing receiver v from to [] st here) (λ done after. record { holds = stays (setting code begin h) _ after.left })
   all_received_reaches (receiver ∷ next ∷ others) v from to st here =
       acts (setting code begin h) n _ (core_at from (Val v ∷ []) [] n st) st.left instr.Dup _ here.1
       (bind_reaches (setting code begin h) n (λ done after. Moves (core_at here.0 (Val v ∷ []) [] n after)) _ _ st.left _ (λ done after. all_received rec h v (next ∷ others) after)
-      (received_reaches receiver v (suc from) here.0 (Val v ∷ []) st here.2) (λ done after. all_received_reaches (next ∷ others) v here.0 to after here.3))
+      (received_reaches code begin rec sound h n standing receiver v (suc from) here.0 (Val v ∷ []) st here.2) (λ done after. all_received_reaches (next ∷ others) v here.0 to after here.3))
 
   -- items are added to the line
   items_reaches : (items : Expressions) (from to : ℕ) (line : List ℕ) (st : State) → ItemsAt code (site_of h) items from to

@@ -16,7 +16,7 @@ use Rattle.hal_agreement.specs.Codes.{Code}
 use Rattle.hal_agreement.specs.PlacedExpressions.{IsPlain, AddressAt}
 use Rattle.hal_agreement.proofs.Reaching.{Nest, setting, core_at, Reaches, acts}
 
-further_none : (at : Spot) → further 0 at ≡ at
+pub further_none : (at : Spot) → further 0 at ≡ at
 further_none (Shared c) = ap Shared (omega arith)
 further_none (Own k) = ap Own (omega arith)
 further_none Nowhere = refl

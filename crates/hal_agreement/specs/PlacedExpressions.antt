@@ -1,7 +1,7 @@
 -- Where the code of expressions stands: from an instruction to the one behind it.
-use Rattle.std.specs.Prelude.{◌≡◌, ℕ, suc, Bool, true, false, not, ◌&&◌, ◌||◌, List, [], ◌∷◌, Option, Some, slice_get}
+use Rattle.std.specs.Prelude.{◌≡◌, ℕ, suc, Bool, true, false, not, ◌&&◌, ◌||◌, List, [], ◌∷◌, ◌++◌, map, pos, Option, Some, slice_get}
 use Rattle.hal_grammar.specs.Leaves.{Naming, Sign, Minus}
-use Rattle.hal_grammar.specs.Expressions.{Expression, Or, And, Compare, Cat, Sum, Product, Power, Not, Literal, Decimal, Referred, Called, Convert, Parenthesis, Expressions, NoExpressions, MoreExpressions, Terms, NoTerms, MoreTerms, Reference, Refers, Unsubscripted}
+use Rattle.hal_grammar.specs.Expressions.{Expression, Or, And, Compare, Cat, Sum, Product, Power, Not, Literal, Decimal, Referred, Called, Convert, Parenthesis, Expressions, NoExpressions, MoreExpressions, Terms, NoTerms, MoreTerms, Reference, Refers, Subscript, Unsubscripted, ByName, ByInteger, ByParts, Subscripts, NoSubscripts, MoreSubscripts, Sub, Every, Range, Portion, One as OnePlace, Position, FromBeginning, FromEnd}
 use Rattle.hal_scope.specs.declared.builtin.Builtin.{Builtin}
 use Rattle.hal_scope.specs.declared.builtin.Builtin.TheVariants as builtin
 use Rattle.hal_operations.specs.declared.operation.Op2.{Op2}
@@ -10,6 +10,7 @@ use Rattle.hal_operations.specs.declared.operation.Op2.TheVariants as op2
 use Rattle.hal_constants.specs.declared.operation.Operation.{Operation}
 use Rattle.hal_constants.specs.declared.operation.Operation.TheVariants as operation
 use Rattle.hal_constants.specs.Naming.{operation_of}
+use Rattle.hal_constants.specs.Constants.{is_none}
 use Rattle.hal_values.specs.declared.value.Kind.{Kind}
 use Rattle.hal_values.specs.declared.value.Value.{Value}
 use Rattle.hal_values.specs.declared.value.Value.TheVariants as value
@@ -18,13 +19,17 @@ use Rattle.hal_meaning.specs.Bodies.{Body}
 use Rattle.hal_meaning.specs.Calls.{parameter_named, inputs_of, outputs_of, is_function}
 use Rattle.hal_meaning.specs.ReportNames.{first_place}
 use Rattle.hal_meaning.specs.Sets.{body_at}
-use Rattle.hal_meaning.specs.Elements.{chosen, offset}
-use Rattle.hal_meaning.specs.Variables.{Meant, MeantData, MeantConstant, MeantEvent, MeantBlock, MeantBuiltin, MeantNothing, name_meant, kind_of_first, is_whole}
-use Rattle.hal_meaning.specs.Expressions.{literal_value, is_condition, are_conditions, becomes_condition, exponent_of, operation_of_relation, operation_of_sign, operation_of_conversion, is_size, inputs_at}
+use Rattle.hal_meaning.specs.Elements.{Shape, chosen, offset}
+use Rattle.hal_meaning.specs.Variables as tree
+use Rattle.hal_meaning.specs.Variables.{dimensions_of, is_arrayed, Meant, MeantData, MeantConstant, MeantEvent, MeantBlock, MeantBuiltin, MeantNothing, name_meant, kind_of_first, is_whole}
+use Rattle.hal_meaning.specs.Expressions.{literal_value, is_condition, are_conditions, becomes_condition, exponent_of, operation_of_relation, operation_of_sign, operation_of_conversion, is_size, inputs_at, sizes_named, copies_of, spoken}
 use Rattle.hal_code.specs.declared.choice.Choice.TheVariants as choice
 use Rattle.hal_code.specs.declared.instr.Instr.{Instr}
 use Rattle.hal_code.specs.declared.instr.Instr.TheVariants as instr
+use Rattle.hal_code.specs.declared.operand.Places.{Places}
+use Rattle.hal_code.specs.declared.operand.Places.TheVariants as places
 use Rattle.hal_code.specs.declared.row.Block.{Block}
+use Rattle.hal_code.specs.declared.row.Dimension.{Dimension}
 use Rattle.hal_code.specs.declared.row.Target.TheVariants as target
 use Rattle.hal_code.specs.declared.row.View.{View}
 use Rattle.hal_code.specs.Addressing.{spot_of}
@@ -49,11 +54,19 @@ pushes (value.Text text) = instr.Text text
 abbrev pub two : Op2 → Instr
 two op = instr.Op2 (choice.Known op)
 
--- a view of one cell of this kind that begins at this spot, while the own places hold this
-pub record IsPlain (view : View) (held : List Held) (kind : Kind) (at : Spot) : Type 0 where
-  pub dimensions : view.dimensions ≡ []
+-- a dimension, as views have it
+abbrev pub dimension_of : tree.Dimension → Dimension
+dimension_of d = record { size = d.size; stride = d.stride }
+
+-- a view of cells of this kind in these dimensions, which begins at this spot while the own places hold this
+pub record IsViewed (view : View) (all : List tree.Dimension) (held : List Held) (kind : Kind) (at : Spot) : Type 0 where
+  pub dimensions : view.dimensions ≡ map dimension_of all
   pub target : view.target ≡ target.Cell kind
   pub base : spot_of view.base held ≡ at
+
+-- a view of one cell
+abbrev pub IsPlain : View → List Held → Kind → Spot → Type 0
+IsPlain view held kind at = IsViewed view [] held kind at
 
 -- CELL with such a view
 pub record AddressAt (code : Code) (held : List Held) (kind : Kind) (at : Spot) (from : ℕ) : Type 0 where
@@ -62,6 +75,20 @@ pub record AddressAt (code : Code) (held : List Held) (kind : Kind) (at : Spot) 
   pub cell : Has code from (instr.Cell number)
   pub row : slice_get code.image.views number ≡ Some view
   pub plain : IsPlain view held kind at
+
+-- CELL with a view of these dimensions, behind the code of a subscript for each. What this code calls may change what the own places hold, and the view begins at
+-- the same spot whatever they hold
+pub record ElementAt (code : Code) (all : List tree.Dimension) (kind : Kind) (at : Spot) (from : ℕ) : Type 0 where
+  pub number : ℕ
+  pub view : View
+  pub cell : Has code from (instr.Cell number)
+  pub row : slice_get code.image.views number ≡ Some view
+  pub viewed : (held : List Held) → IsViewed view all held kind at
+
+-- the same of all dimensions that have a subscript; where none has, nothing is called before CELL
+abbrev pub BehindAt : Code → List Held → List tree.Dimension → Kind → Spot → ℕ → Type 0
+BehindAt code held [] kind at from = AddressAt code held kind at from
+BehindAt code held (d ∷ ds) kind at from = ElementAt code (d ∷ ds) kind at from
 
 -- built-in functions without a list
 abbrev pub AloneAt : Code → Builtin → ℕ → ℕ → Type 0
@@ -107,10 +134,38 @@ ValueAt code site path held MeantNothing from to = ⊥
 abbrev pub NameAt : Code → Site → List ℕ → List Naming → ℕ → ℕ → Type 0
 NameAt code site name path from to = (held : List Held) → ValueAt code site path held (name_meant (here_at site) name held) from to
 
--- a reference; those with subscripts aren't placed yet
-abbrev pub ReferenceAt : Code → Site → Reference → ℕ → ℕ → Type 0
-ReferenceAt code site (Refers place name path Unsubscripted) from to = NameAt code site name path from to
-ReferenceAt code site other from to = ⊥
+-- the one code or the other
+abbrev pub EitherAt : Bool → (ℕ → ℕ → Type 0) → (ℕ → ℕ → Type 0) → ℕ → ℕ → Type 0
+EitherAt true one other from to = one from to
+EitherAt false one other from to = other from to
+
+-- the address of the data that a subscript without a mark chooses, of which the code is given: it is a place of the array of these sizes where there is one
+abbrev pub PlaceAt : Code → List Held → (ℕ → ℕ → Type 0) → Kind → Spot → List ℕ → ℕ → ℕ → Type 0
+PlaceAt code held place kind at [] from to = AddressAt code held kind at from × (suc from ≡ to)
+PlaceAt code held place kind at (n ∷ ns) from to = (middle : ℕ) × place from middle × (ns ≡ []) × ElementAt code (dimensions_of (n ∷ ns)) kind at middle × (suc middle ≡ to)
+
+-- subscripts without a mark, of which the code is given, are those of an array of these sizes where there is one
+abbrev pub ArrayAt : (ℕ → ℕ → Type 0) → List ℕ → ℕ → ℕ → Type 0
+ArrayAt places [] from to = from ≡ to
+ArrayAt places (n ∷ ns) from to = places from to
+
+-- what a name means, with a subscript: the code of the address that its copies and its array choose is given, and that of its component. The value is read
+-- between them, as what is no data is given before its component
+abbrev pub SubscriptedAt : Code → Site → List Naming → List Held → (Spot → Shape → ℕ → ℕ → Type 0) → (Bool → ℕ → ℕ → Type 0) → Meant → ℕ → ℕ → Type 0
+SubscriptedAt code site path held address component (MeantData at shape) from to =
+    (middle : ℕ) × address at shape from middle × Has code middle instr.Fetch × component (is_arrayed (sizes_named path shape)) (suc middle) to
+SubscriptedAt code site path held address component other from to = (middle : ℕ) × ValueAt code site path held other from middle × component false middle to
+
+-- PICK of such places
+abbrev pub picks : Places → Instr
+picks chosen = instr.Pick (choice.Known chosen)
+
+-- the places that a subscript of a component chooses: one, those from one to another, or so many at one; all are those from the first one to the last
+abbrev pub places_of : Sub → Places
+places_of (Every place) = places.To
+places_of (OnePlace one) = places.One
+places_of (Range first last) = places.To
+places_of (Portion count first) = places.At
 
 -- a sign before the first term
 abbrev pub SignAt : Code → Option Sign → ℕ → ℕ → Type 0
@@ -184,3 +239,57 @@ abbrev mutual
   ArgumentsAt code site unit (name ∷ names) (MoreExpressions first others) from to =
       (middle : ℕ) × (is_whole (parameter_named site.set unit name).shape ≡ false) × ExpressionAt code site first from middle × ArgumentsAt code site unit names others middle to
   ArgumentsAt code site unit names arguments from to = ⊥
+
+  -- a reference
+  pub ReferenceAt : Code → Site → Reference → ℕ → ℕ → Type 0
+  ReferenceAt code site (Refers place name path Unsubscripted) from to = NameAt code site name path from to
+  ReferenceAt code site (Refers place name path subscript) from to =
+      (held : List Held)
+      → SubscriptedAt code site path held (λ at shape begin end. ChosenAt code site held path subscript at shape begin end) (λ arrayed begin end. ComponentAt code site arrayed subscript begin end) (name_meant (here_at site) name held) from to
+
+  -- the address of the one element that copy and array subscripts choose; those without a mark are the array's where no others are
+  pub ChosenAt : Code → Site → List Held → List Naming → Subscript → Spot → Shape → ℕ → ℕ → Type 0
+  ChosenAt code site held path Unsubscripted at shape from to =
+      AddressAt code held (kind_of_first (chosen path shape.components)) (further (offset path shape.components) at) from × (suc from ≡ to)
+  ChosenAt code site held path (ByName place name) at shape from to =
+      PlaceAt code held (λ begin end. NameAt code site name.name [] begin end) (kind_of_first (chosen path shape.components)) (further (offset path shape.components) at) (sizes_named path shape) from to
+  ChosenAt code site held path (ByInteger place mark number) at shape from to =
+      PlaceAt code held (λ begin end. One code begin (instr.Int (pos number)) end) (kind_of_first (chosen path shape.components)) (further (offset path shape.components) at) (sizes_named path shape) from to
+  ChosenAt code site held path (ByParts place copies arrays components) at shape from to =
+      (middle : ℕ) × (last : ℕ) × IndexesAt code site (spoken copies (copies_of shape)) copies from middle
+      × EitherAt (is_none arrays) (λ begin end. ArrayAt (λ first behind. IndexesAt code site (dimensions_of (sizes_named path shape)) components first behind) (sizes_named path shape) begin end)
+      (λ begin end. IndexesAt code site (dimensions_of (sizes_named path shape)) arrays begin end) middle last
+      × BehindAt code held (spoken copies (copies_of shape) ++ dimensions_of (sizes_named path shape)) (kind_of_first (chosen path shape.components)) (further (offset path shape.components) at) last × (suc last ≡ to)
+
+  -- subscripts of dimensions, one place for each; those that choose several have no code
+  pub IndexesAt : Code → Site → List tree.Dimension → Subscripts → ℕ → ℕ → Type 0
+  IndexesAt code site [] NoSubscripts from to = from ≡ to
+  IndexesAt code site (d ∷ ds) (MoreSubscripts (OnePlace one) others) from to =
+      (middle : ℕ) × PositionAt code site (instr.Int (pos d.size)) one from middle × IndexesAt code site ds others middle to
+  IndexesAt code site all other from to = ⊥
+
+  -- a place of data, the number of whose places this instruction leaves
+  pub PositionAt : Code → Site → Instr → Position → ℕ → ℕ → Type 0
+  PositionAt code site ends (FromBeginning one) from to = ExpressionAt code site one from to
+  PositionAt code site ends (FromEnd place terms) from to = Has code from ends × TermsAt code site terms (suc from) to
+
+  -- the component of a value that a subscript chooses, of data with an array or without one
+  pub ComponentAt : Code → Site → Bool → Subscript → ℕ → ℕ → Type 0
+  ComponentAt code site arrayed Unsubscripted from to = from ≡ to
+  ComponentAt code site true (ByName place name) from to = from ≡ to
+  ComponentAt code site true (ByInteger place mark number) from to = from ≡ to
+  ComponentAt code site false (ByName place name) from to = (middle : ℕ) × NameAt code site name.name [] from middle × One code middle (picks places.One) to
+  ComponentAt code site false (ByInteger place mark number) from to = Has code from (instr.Int (pos number)) × One code (suc from) (picks places.One) to
+  ComponentAt code site arrayed (ByParts place copies arrays components) from to = EitherAt (arrayed && is_none arrays) (λ begin end. begin ≡ end) (λ begin end. PartsAt code site components begin end) from to
+
+  -- the same of the subscripts of the component
+  pub PartsAt : Code → Site → Subscripts → ℕ → ℕ → Type 0
+  PartsAt code site NoSubscripts from to = from ≡ to
+  PartsAt code site (MoreSubscripts first others) from to = (middle : ℕ) × PartAt code site first from middle × One code middle (picks (places_of first)) to
+
+  -- the places of a component of the value on the stack, which LEN counts
+  pub PartAt : Code → Site → Sub → ℕ → ℕ → Type 0
+  PartAt code site (Every place) from to = Has code from (instr.Int (pos 1)) × One code (suc from) (instr.Len 1) to
+  PartAt code site (OnePlace one) from to = PositionAt code site (instr.Len 0) one from to
+  PartAt code site (Range first last) from to = (middle : ℕ) × PositionAt code site (instr.Len 0) first from middle × PositionAt code site (instr.Len 1) last middle to
+  PartAt code site (Portion count first) from to = (middle : ℕ) × ExpressionAt code site count from middle × PositionAt code site (instr.Len 1) first middle to

@@ -1,7 +1,7 @@
 -- Where the code of statements stands: from an instruction to the one at which control goes on.
-use Rattle.std.specs.Prelude.{◌≡◌, ℕ, suc, ◌==◌, nat_lt, length, true, false, List, [], ◌∷◌, Option, Some, None, if◌then◌else◌}
+use Rattle.std.specs.Prelude.{◌≡◌, ℕ, suc, ◌==◌, nat_lt, length, Bool, true, false, List, [], ◌∷◌, Option, Some, None, if◌then◌else◌}
 use Rattle.hal_grammar.specs.Leaves.{Naming, Integer}
-use Rattle.hal_grammar.specs.Expressions.{Expression, Literal, Decimal, Expressions, NoExpressions, MoreExpressions, Reference, Refers, Unsubscripted}
+use Rattle.hal_grammar.specs.Expressions.{Expression, Literal, Decimal, Expressions, NoExpressions, MoreExpressions, Reference, Refers, Subscript, Unsubscripted, ByName, ByInteger, Subscripts, NoSubscripts}
 use Rattle.hal_grammar.specs.Statements as statements
 use Rattle.hal_grammar.specs.Statements.{Guard, While, Until, Selector, System, Ignore, Statement, Labelled, Basic, Null, Assignment, If, Do, DoLoop, Exit, Repeat, Return, Call, Read, Write, EventAction, Signal, Set, Reset, Event, Cancel, Terminate, Wait, WaitUntil, WaitForDependent, WaitFor, Update, OnErrorStatement, OnErrorResponse, OffError, SendError, Alternative, NoAlternative, Otherwise, Group, Groups, Statements, NoStatements, MoreStatements}
 use Rattle.hal_grammar.specs.Declarations.{CharacterKind}
@@ -9,17 +9,17 @@ use Rattle.hal_grammar.specs.Units.{Head, Function, HasKind}
 use Rattle.hal_operations.specs.declared.operation.Op1.TheVariants as op1
 use Rattle.hal_values.specs.declared.value.Kind.{Kind}
 use Rattle.hal_values.specs.Tables.{process_count}
-use Rattle.hal_states.specs.Spots.{Held, further}
+use Rattle.hal_states.specs.Spots.{Spot, Held, further}
 use Rattle.hal_meaning.specs.Bodies.{Body}
 use Rattle.hal_meaning.specs.Sets.{body_at}
-use Rattle.hal_meaning.specs.Expressions.{inputs_at}
-use Rattle.hal_meaning.specs.Elements.{chosen, offset}
+use Rattle.hal_meaning.specs.Expressions.{inputs_at, sizes_named}
+use Rattle.hal_meaning.specs.Elements.{Shape, chosen, offset}
 use Rattle.hal_meaning.specs.Marks.{after_statement, handling_in}
 use Rattle.hal_meaning.specs.Events.{event_named}
 use Rattle.hal_meaning.specs.RealTime.{side_of, process_named, stated_at_mark}
 use Rattle.hal_meaning.specs.Statements as tree
-use Rattle.hal_meaning.specs.Statements.{is_meant, label_name, update_groups, kind_named}
-use Rattle.hal_meaning.specs.Variables.{Meant, MeantData, MeantBlock, name_meant, kind_of_first}
+use Rattle.hal_meaning.specs.Statements.{components_in, is_meant, label_name, update_groups, kind_named}
+use Rattle.hal_meaning.specs.Variables.{Meant, MeantData, MeantBlock, name_meant, kind_of_first, is_arrayed}
 use Rattle.hal_code.specs.declared.choice.Choice.TheVariants as choice
 use Rattle.hal_code.specs.declared.instr.Instr.{Instr}
 use Rattle.hal_code.specs.declared.operand.Delay.{Delay}
@@ -34,7 +34,7 @@ use Rattle.hal_code.specs.Controlling as machine
 use Rattle.hal_code.specs.declared.instr.Instr.TheVariants as instr
 use Rattle.hal_agreement.specs.Codes.{Code}
 use Rattle.hal_agreement.specs.Sites.{Site, here_at}
-use Rattle.hal_agreement.specs.PlacedExpressions.{Has, One, AddressAt, CallAt, ExpressionAt, ArgumentsAt}
+use Rattle.hal_agreement.specs.PlacedExpressions.{Has, One, AddressAt, CallAt, ExpressionAt, ArgumentsAt, ChosenAt}
 
 -- a group that is open where a statement stands: its labels, where EXIT leads, and where REPEAT does, of a loop
 pub record Opened : Type 0 where
@@ -84,9 +84,27 @@ KeptAt code path held (MeantData at shape) from to =
     AddressAt code held (kind_of_first (chosen path shape.components)) (further (offset path shape.components) at) from × One code (suc from) instr.Keep to
 KeptAt code path held other from to = ⊥
 
+-- the value below an address is stored there: KEEP. A receiver with subscripts of its component isn't placed yet
+abbrev pub StoredAt : Code → Subscripts → ℕ → ℕ → Type 0
+StoredAt code NoSubscripts from to = One code from instr.Keep to
+StoredAt code other from to = ⊥
+
+-- the same of a receiver with an array or without one. Where there is none, a subscript without a mark is its component's
+abbrev pub ReceivedAt : Code → Bool → Subscript → ℕ → ℕ → Type 0
+ReceivedAt code false (ByName place name) from to = ⊥
+ReceivedAt code false (ByInteger place mark number) from to = ⊥
+ReceivedAt code arrayed subscript from to = StoredAt code (components_in arrayed subscript) from to
+
+-- data that a name means get the value on the stack; the code of the address that the subscript chooses is given
+abbrev pub AddressedAt : Code → List Naming → Subscript → (Spot → Shape → ℕ → ℕ → Type 0) → Meant → ℕ → ℕ → Type 0
+AddressedAt code path subscript address (MeantData at shape) from to =
+    (middle : ℕ) × address at shape from middle × ReceivedAt code (is_arrayed (sizes_named path shape)) subscript middle to
+AddressedAt code path subscript address other from to = ⊥
+
 abbrev pub ReceiverAt : Code → Site → Reference → ℕ → ℕ → Type 0
 ReceiverAt code site (Refers place name path Unsubscripted) from to = (held : List Held) → KeptAt code path held (name_meant (here_at site) name held) from to
-ReceiverAt code site other from to = ⊥
+ReceiverAt code site (Refers place name path subscript) from to =
+    (held : List Held) → AddressedAt code path subscript (λ at shape begin end. ChosenAt code site held path subscript at shape begin end) (name_meant (here_at site) name held) from to
 
 -- receivers get it from left to right, each but the last one from a copy
 abbrev pub ReceiversAt : Code → Site → List Reference → ℕ → ℕ → Type 0

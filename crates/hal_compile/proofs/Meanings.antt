@@ -1,5 +1,5 @@
 -- A set of texts has one meaning at most, and one with a meaning breaks no rule.
-use Rattle.std.proofs.Common.{◌≡◌, ℕ, ◌+◌, inl, inr, List, [], ◌∷◌, map, length, Some, Ok, Err, refl, ap, ap₂, sym, subst, ◌∙◌, arith}
+use Rattle.std.proofs.Common.{◌≡◌, ℕ, ◌+◌, Bool, true, false, inl, inr, List, [], ◌∷◌, map, length, Some, Ok, Err, refl, ap, ap₂, sym, subst, ◌∙◌, arith}
 use Rattle.hal_base.specs.declared.refusal.Place.{Place}
 use Rattle.hal_base.specs.declared.refusal.Refusal.{Refusal}
 use Rattle.hal_words.specs.declared.word.Token.{Token}
@@ -15,6 +15,7 @@ use Rattle.hal_phrases.specs.Phrases.{Phrase}
 use Rattle.hal_phrases.specs.GatheredUnits.{phrases_of}
 use Rattle.hal_constants.specs.Known.{Known, known}
 use Rattle.hal_limits.specs.Limits.{IsWithin, BreaksLimit}
+use Rattle.hal_calls.specs.Programs.{has_program}
 use Rattle.hal_parse.specs.Parsed.{IsFileOf}
 use Rattle.hal_compile.specs.Compiling.{Compiles, FilesBreak, IsChecked, IsUncompiled, linked_in}
 use Rattle.hal_compile.specs.Reading.{IsRead, AreRead, TextBreaks, TextsBreak}
@@ -98,12 +99,17 @@ compiled_lacks_none files image place compiled (inl told) = clash (linked_in fil
     clash found ok err = cc
 compiled_lacks_none files image place compiled (inr (at, none)) = none image compiled
 
+both_ways : (b : Bool) → b ≡ true → b ≡ false → ⊥
+both_ways b is not = cc
+
 unbroken : (files : List File) (image : _) (refusal : Refusal) → IsChecked (phrases_of files) → Compiles files image → FilesBreak files refusal → ⊥
 unbroken files image refusal checked compiled (inl breaks) = checked.lawful.typed.named refusal.rule.0 refusal.place breaks
 unbroken files image refusal checked compiled (inr (inl breaks)) = checked.lawful.typed.typed refusal.rule.0 refusal.place breaks
 unbroken files image refusal checked compiled (inr (inr (inl breaks))) = checked.lawful.locked refusal.rule.0 refusal.place breaks
-unbroken files image refusal checked compiled (inr (inr (inr (inl exceeds)))) = within_limits (phrases_of files) (known (phrases_of files)) refusal.rule.0 checked.within exceeds.exceeded
-unbroken files image refusal checked compiled (inr (inr (inr (inr lacks)))) = compiled_lacks_none files image refusal.place compiled lacks.uncompiled
+unbroken files image refusal checked compiled (inr (inr (inr (inl (inl breaks))))) = checked.called refusal.rule.0 refusal.place breaks
+unbroken files image refusal checked compiled (inr (inr (inr (inl (inr lacks))))) = both_ways (has_program (phrases_of files)) checked.program lacks.lacks
+unbroken files image refusal checked compiled (inr (inr (inr (inr (inl exceeds))))) = within_limits (phrases_of files) (known (phrases_of files)) refusal.rule.0 checked.within exceeds.exceeded
+unbroken files image refusal checked compiled (inr (inr (inr (inr (inr lacks))))) = compiled_lacks_none files image refusal.place compiled lacks.uncompiled
 
 pub meaning_breaks_nothing : (texts : List (List ℕ)) (files : List File) (refusal : Refusal) → HasMeaning texts files → Breaks texts refusal → ⊥
 meaning_breaks_nothing texts files refusal has (inl breaks) = all_break_nothing 0 texts files refusal has.read breaks

@@ -11,10 +11,9 @@ use Rattle.hal_grammar.specs.Units.{File}
 use Rattle.hal_code.specs.declared.image.ImageParts.{ImageParts}
 use Rattle.hal_code.specs.Right.{IsRight}
 use Rattle.hal_layout.specs.Layouts.{Layout, IsNarrow, layout_of, tables_of}
-use Rattle.hal_limits.specs.Limits.{beginning}
 use Rattle.hal_link.specs.Linking.{image_of}
 use Rattle.hal_link.specs.Views.{views_of}
-use Rattle.hal_meaning.specs.Sets.{Set, set_of}
+use Rattle.hal_meaning.specs.Sets.{Set, beginning, set_of}
 use Rattle.hal_values.specs.Loads.{turn_limit}
 use Rattle.hal_compile.specs.Compiling.{CanRun, Fits, IsImageOf, linked_in, set_in}
 use Rattle.hal_compile.specs.Fitness.{have_cells, is_narrow}

@@ -1,5 +1,5 @@
 -- When a set of files has an image, and which rules it breaks otherwise.
-use Rattle.std.specs.Prelude.{◌≡◌, ◌⊎◌, List, Option, Some, Result, Ok, Err, ⊤}
+use Rattle.std.specs.Prelude.{◌≡◌, ◌⊎◌, true, List, Option, Some, Result, Ok, Err, ⊤}
 use Rattle.hal_base.specs.declared.refusal.Place.{Place}
 use Rattle.hal_base.specs.declared.refusal.Refusal.{Refusal}
 use Rattle.hal_base.specs.declared.refusal.Fault.{Fault}
@@ -11,11 +11,13 @@ use Rattle.hal_scope.specs.Rules.{Row, IsSound, rows}
 use Rattle.hal_scope.specs.Rules as scope
 use Rattle.hal_types.specs.Rules.{type_rows}
 use Rattle.hal_locks.specs.Rules.{lock_rows}
+use Rattle.hal_calls.specs.Programs.{has_program}
+use Rattle.hal_calls.specs.Rules.{BreaksCalls, call_rows}
 use Rattle.hal_constants.specs.Known.{known}
-use Rattle.hal_limits.specs.Limits.{IsWithin, BreaksLimit, beginning}
+use Rattle.hal_limits.specs.Limits.{IsWithin, BreaksLimit}
 use Rattle.hal_layout.specs.Layouts.{IsNarrow, layout_of}
 use Rattle.hal_values.specs.Loads.{turn_limit}
-use Rattle.hal_meaning.specs.Sets.{Set, set_of}
+use Rattle.hal_meaning.specs.Sets.{Set, beginning, set_of}
 use Rattle.hal_code.specs.declared.image.ImageParts.{ImageParts}
 use Rattle.hal_code.specs.Right.{IsRight}
 use Rattle.hal_right_values.specs.Finding.{HaveCells}
@@ -36,10 +38,12 @@ pub record IsLawful (ps : List Phrase) : Type 0 where
   pub typed : IsTyped ps
   pub locked : IsSound lock_rows ps
 
--- nor one of limits
+-- nor one of calls or limits
 pub record IsChecked (ps : List Phrase) : Type 0 where
   pub lawful : IsLawful ps
+  pub program : has_program ps ≡ true
   pub within : IsWithin ps (known ps)
+  pub called : IsSound call_rows ps
 
 -- the image can run: it is right, and each of its views has a cell
 pub record CanRun (image : ImageParts) : Type 0 where
@@ -83,10 +87,14 @@ pub record ExceedsLimit (ps : List Phrase) (refusal : Refusal) : Type 0 where
   pub exceeded : BreaksLimit ps (known ps) refusal.rule.0
   pub at : refusal.place ≡ beginning
 
--- want of memory says nothing
-abbrev pub ExceedsBy : List Phrase → Fault → Type 0
-ExceedsBy ps (fault.Broken refusal) = ExceedsLimit ps refusal
-ExceedsBy ps (fault.Memory error) = ⊤
+-- a rule of calls
+abbrev pub Miscalls : List Phrase → Refusal → Type 0
+Miscalls ps refusal = BreaksCalls ps refusal.rule.0 refusal.place
+
+-- one of calls or limits; want of memory says nothing
+abbrev pub OversteppedBy : List Phrase → Fault → Type 0
+OversteppedBy ps (fault.Broken refusal) = Miscalls ps refusal ⊎ ExceedsLimit ps refusal
+OversteppedBy ps (fault.Memory error) = ⊤
 
 -- rule 410, told where no other is broken
 pub record LacksImage (files : List File) (refusal : Refusal) : Type 0 where
@@ -94,11 +102,11 @@ pub record LacksImage (files : List File) (refusal : Refusal) : Type 0 where
   pub rule_is : refusal.rule.0 ≡ 410
   pub uncompiled : IsUncompiled files refusal.place
 
--- the files break a rule of names, of types, of locks, of limits, or 410
+-- the files break a rule of names, of types, of locks, of calls, of limits, or 410
 abbrev pub FilesBreak : List File → Refusal → Type 0
 FilesBreak files refusal =
-    BreaksRow rows (phrases_of files) refusal ⊎ BreaksRow type_rows (phrases_of files) refusal ⊎ BreaksRow lock_rows (phrases_of files) refusal ⊎ ExceedsLimit (phrases_of files) refusal
-    ⊎ LacksImage files refusal
+    BreaksRow rows (phrases_of files) refusal ⊎ BreaksRow type_rows (phrases_of files) refusal ⊎ BreaksRow lock_rows (phrases_of files) refusal ⊎ Miscalls (phrases_of files) refusal
+    ⊎ ExceedsLimit (phrases_of files) refusal ⊎ LacksImage files refusal
 
 abbrev pub FilesBreakBy : List File → Fault → Type 0
 FilesBreakBy files (fault.Broken refusal) = FilesBreak files refusal

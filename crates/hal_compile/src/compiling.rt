@@ -6,10 +6,11 @@ ghost use Rattle.hal_phrases.specs.GatheredUnits.{phrases_of};
 ghost use Rattle.hal_names.specs.SeenNames.{seen_names};
 ghost use Rattle.hal_constants.specs.Known as facts;
 ghost use Rattle.hal_constants.specs.SeenKnown.{seen_known};
-ghost use Rattle.hal_compile.specs.Compiling.{Compiles, ExceedsBy, FilesBreakBy, IsChecked, IsLawful, IsOfMemory, IsToldAt};
+ghost use Rattle.hal_compile.specs.Compiling.{Compiles, FilesBreakBy, IsChecked, IsLawful, IsOfMemory, IsToldAt, OversteppedBy};
 
 use crate::linking::image_in;
 use hal_base::{Fault, Place, Refusal, Rule};
+use hal_calls::{check_calls, check_program};
 use hal_code::ImageParts;
 use hal_constants::Known;
 use hal_limits::check_limits;
@@ -58,16 +59,19 @@ fn known_of(alloc: Global, names: &Names<'_>) -> Result<Known, Fault>
     }
 }
 
-/// The constants of a set with these names that keeps the limits; or a rule of limits that it breaks, at its place; or want of memory.
-#[tactic(auto, using(crate::proofs::Broken::within_limits, crate::proofs::Broken::beyond_limits))]
-fn limited(alloc: Global, names: &Names<'_>) -> Result<Known, Fault>
+/// The constants of a set with these names that keeps the rules of calls and of limits; or one of these that it breaks, at its place, those of the
+/// beginning of the set first; or want of memory.
+#[tactic(auto, using(crate::proofs::Broken::all_kept, crate::proofs::Broken::no_program, crate::proofs::Broken::beyond_limits, crate::proofs::Broken::wrong_calls))]
+fn checked_constants(alloc: Global, names: &Names<'_>) -> Result<Known, Fault>
     requires lawful { IsLawful (seen_names names.now) }
     ensures known { IfOk result (λ known. seen_known known ≡ facts.known (seen_names names.now)) }
     ensures checked { IfOk result (λ known. IsChecked (seen_names names.now)) }
-    ensures broken { IfErr result (ExceedsBy (seen_names names.now)) }
+    ensures broken { IfErr result (OversteppedBy (seen_names names.now)) }
 {
+    check_program(names)?;
     let known = known_of(alloc, names)?;
     check_limits(alloc, names, &known)?;
+    check_calls(alloc, names)?;
     Ok(known)
 }
 
@@ -93,13 +97,13 @@ fn image_checked(
 }
 
 /// The image of the set of one file, or a rule that it breaks, at its place; or want of memory.
-#[tactic(auto, using(crate::proofs::Broken::limit_breaks))]
+#[tactic(auto, using(crate::proofs::Broken::overstepped))]
 pub(crate) fn image_of(alloc: Global, file: &File) -> Result<ImageParts, Fault>
     ensures checked { IfOk result (λ image. IsChecked (phrases_of (seen_file file.now ∷ []))) }
     ensures compiled { IfOk result (Compiles (seen_file file.now ∷ [])) }
     ensures broken { IfErr result (FilesBreakBy (seen_file file.now ∷ [])) }
 {
     let names = lawful_names(alloc, file)?;
-    let known = limited(alloc, &names)?;
+    let known = checked_constants(alloc, &names)?;
     image_checked(alloc, file, &names, &known)
 }

@@ -1,5 +1,5 @@
 -- Sizes, as the program counts them.
-use Rattle.std.specs.Prelude.{ℕ, suc, ◌+◌, ◌-◌, ◌*◌, max, false, List, [], ◌∷◌, length, map, drop, Option, None}
+use Rattle.std.specs.Prelude.{ℕ, suc, ◌+◌, ◌-◌, max, false, List, [], ◌∷◌, length, map, drop, Option, None}
 use Rattle.std.proofs.Common.{◌≡◌, ◌≤◌, refl, ap, subst, ◌∙◌, arith}
 use Rattle.std.proofs.lemmas.List.{drop_all}
 use Rattle.hal_base.specs.declared.refusal.Place.{Place}
@@ -18,8 +18,9 @@ use Rattle.hal_gen_expr.specs.Numbering.{Numbering, numbering}
 use Rattle.hal_gen_expr.specs.SeenSites.{seen_numbering}
 use Rattle.hal_gen_expr.specs.declared.site.Site as rust-site
 use Rattle.hal_gen_expr.proofs.Uncalled.{call_uncalled}
+use Rattle.hal_gen.specs.Receiving.{receiver_size}
 use Rattle.hal_gen.specs.Sizes.{expression_size, items_size, receivers_size, reads_size, names_size, call_size, statement_size, statements_size}
-use Rattle.hal_gen.specs.Sums.{with_items, with_statements}
+use Rattle.hal_gen.specs.Sums.{with_items, with_statements, with_receivers}
 
 further_on : (a b c : ℕ) → (a + b) + c ≡ a + (b + c)
 further_on a b c = omega arith
@@ -61,16 +62,35 @@ unfolding with_statements
 statements_done {X} f n site size place xs past kept =
     subst (λ (rest : List X). with_statements n site size (map f rest) ≡ with_statements n site 0 (map f xs)) (drop_all place xs past) kept ∙ statements_counted n site (map f xs)
 
+-- receivers
+receivers_from : (n : Numbering) (site : Site) (size : ℕ) (list : List Reference) → with_receivers n site size list ≡ size + reads_size n site list
+unfolding with_receivers
+receivers_from n site size [] = none_more size
+receivers_from n site size (one ∷ others) =
+    receivers_from n site (size + (1 + receiver_size n site one)) others ∙ further_on size (1 + receiver_size n site one) (reads_size n site others)
+
+reads_counted : (n : Numbering) (site : Site) (list : List Reference) → with_receivers n site 0 list ≡ reads_size n site list
+reads_counted n site list = receivers_from n site 0 list ∙ from_none (reads_size n site list)
+
+pub reads_done : {X : Type 0} (f : X → Reference) (n : Numbering) (site : Site) (size place : ℕ) (xs : List X) → length xs ≤ place
+    → with_receivers n site size (map f (drop place xs)) ≡ with_receivers n site 0 (map f xs) → size ≡ reads_size n site (map f xs)
+unfolding with_receivers
+reads_done {X} f n site size place xs past kept =
+    subst (λ (rest : List X). with_receivers n site size (map f rest) ≡ with_receivers n site 0 (map f xs)) (drop_all place xs past) kept ∙ reads_counted n site (map f xs)
+
+one_less : (size : ℕ) → size ≡ ((1 + size) + 0) - 1
+one_less size = omega arith
+
+both_less : (one next rest : ℕ) → (1 + one) + (((1 + next) + rest) - 1) ≡ ((1 + one) + ((1 + next) + rest)) - 1
+both_less one next rest = omega arith
+
+pub receivers_counted : (n : Numbering) (site : Site) (list : List Reference) → receivers_size n site list ≡ reads_size n site list - 1
+receivers_counted n site [] = refl
+receivers_counted n site (one ∷ []) = one_less (receiver_size n site one)
+receivers_counted n site (one ∷ next ∷ others) =
+    ap (λ size. (1 + receiver_size n site one) + size) (receivers_counted n site (next ∷ others)) ∙ both_less (receiver_size n site one) (receiver_size n site next) (reads_size n site others)
+
 -- lists of names
-pub reads_counted : {X : Type 0} (f : X → Reference) (xs : List X) → reads_size (map f xs) ≡ length xs * 3
-reads_counted f [] = omega arith
-reads_counted f (x ∷ xs) = let rest = reads_counted f xs in omega (arith, rest)
-
-pub receivers_counted : {X : Type 0} (f : X → Reference) (xs : List X) → receivers_size (map f xs) ≡ length xs * 3 - 1
-receivers_counted f [] = refl
-receivers_counted f (x ∷ []) = refl
-receivers_counted f (x ∷ y ∷ xs) = let rest = receivers_counted f (y ∷ xs) in omega (arith, rest)
-
 same_length : {X Y : Type 0} (f : X → Y) (xs : List X) → length (map f xs) ≡ length xs
 same_length f [] = refl
 same_length f (x ∷ xs) = ap suc (same_length f xs)

@@ -5,17 +5,17 @@ use Rattle.std.proofs.Common.{refl, sym, inl, inr, arith}
 use Rattle.hal_base.specs.declared.refusal.Place.{Place}
 use Rattle.hal_grammar.specs.Leaves.{Naming}
 use Rattle.hal_grammar.specs.Declarations.{IntegerKind, BooleanKind, EventKind, BitKind, CharacterKind, StructureKind}
-use Rattle.hal_grammar.specs.Expressions.{Expression, Decimal, Expressions, NoExpressions, MoreExpressions, Reference, Refers, Unsubscripted, ByName, ByInteger, ByParts}
+use Rattle.hal_grammar.specs.Expressions.{Expression, Decimal, Expressions, NoExpressions, MoreExpressions, Reference, Refers, Subscript, Unsubscripted, ByName, ByInteger, ByParts, Subscripts, NoSubscripts, MoreSubscripts}
 use Rattle.hal_grammar.specs.Statements.{Guard, While, Until, EventAction, Signal, Set, Reset, Statement, Labelled, Basic, Null, Assignment, If, Do, DoCase, DoLoop, DoFor, Exit, Repeat, Return, Call, Read, Write, Cancel, Terminate, Wait, WaitUntil, WaitForDependent, WaitFor, Event, Scheduled, UpdatePriority, Update, OnErrorStatement, OnErrorResponse, OffError, SendError, Alternative, NoAlternative, Otherwise, Group, Groups, Statements, NoStatements, MoreStatements}
 use Rattle.hal_grammar.specs.Units.{Head, Program, Task, Compool, Procedure, Function, HasKind, NoKind}
 use Rattle.hal_meaning.specs.Bodies.{Body}
 use Rattle.hal_meaning.specs.Events.{event_named}
-use Rattle.hal_meaning.specs.Expressions.{inputs_at}
+use Rattle.hal_meaning.specs.Expressions.{inputs_at, sizes_named}
 use Rattle.hal_meaning.specs.Marks.{after_statement}
 use Rattle.hal_meaning.specs.RealTime.{stated_at_mark}
 use Rattle.hal_meaning.specs.Sets.{body_at}
-use Rattle.hal_meaning.specs.Statements.{is_meant, label_name, update_groups}
-use Rattle.hal_meaning.specs.Variables.{Meant, MeantData, MeantConstant, MeantEvent, MeantBlock, MeantBuiltin, MeantNothing, name_meant}
+use Rattle.hal_meaning.specs.Statements.{components_in, is_meant, label_name, update_groups}
+use Rattle.hal_meaning.specs.Variables.{Meant, MeantData, MeantConstant, MeantEvent, MeantBlock, MeantBuiltin, MeantNothing, name_meant, is_arrayed}
 use Rattle.hal_code.specs.declared.instr.Instr.{Instr}
 use Rattle.hal_code.specs.declared.instr.Instr.TheVariants as instr
 use Rattle.hal_code.specs.declared.operand.Delay.{Delay}
@@ -23,15 +23,15 @@ use Rattle.hal_code.specs.declared.operand.Delay.TheVariants as delay
 use Rattle.hal_code.specs.declared.operand.Time.{Time}
 use Rattle.hal_code.specs.Forward.{GoesOn}
 use Rattle.hal_agreement.specs.Codes.{Code}
-use Rattle.hal_agreement.specs.PlacedExpressions.{Has, One}
-use Rattle.hal_agreement.specs.PlacedStatements.{Leaving, ToFinish, ByReturn, ByResult, NoReturn, Exits, exit_of, again_of, opened, within_group, of_block, KeptAt, ReceiverAt, ReceiversAt, ItemsAt, FirstTestAt, TestAt, ReturnAt, ResultBy, ResultAt, CalledAt, ReadsAt, changes, PauseAt, EventAt, EachAt, NamedOrOwnAt, BasicAt}
+use Rattle.hal_agreement.specs.PlacedExpressions.{Has, One, ChosenAt}
+use Rattle.hal_agreement.specs.PlacedStatements.{Leaving, ToFinish, ByReturn, ByResult, NoReturn, Exits, exit_of, again_of, opened, within_group, of_block, KeptAt, StoredAt, ReceivedAt, AddressedAt, ReceiverAt, ReceiversAt, ItemsAt, FirstTestAt, TestAt, ReturnAt, ResultBy, ResultAt, CalledAt, ReadsAt, changes, PauseAt, EventAt, EachAt, NamedOrOwnAt, BasicAt}
 use Rattle.hal_agreement.specs.Sites.{Site, here_at}
 use Rattle.hal_gen_expr.specs.Emitting.{Emitted, onwards, emit}
 use Rattle.hal_gen_expr.specs.ExpressionCode.{emit_one, expression_code}
 use Rattle.hal_gen_expr.specs.Numbering.{Numbering, below}
 use Rattle.hal_gen_expr.specs.Standing.{Begins, IsNumbered, Placed}
 use Rattle.hal_gen_expr.proofs.Expressed.{ok_is, expression_at}
-use Rattle.hal_gen_expr.proofs.Forwarding.{Goes, none_goes, one_goes, joined_goes, first_goes, call_goes, expression_goes, arguments_go}
+use Rattle.hal_gen_expr.proofs.Forwarding.{Goes, none_goes, one_goes, joined_goes, first_goes, call_goes, expression_goes, arguments_go, chosen_goes as address_goes}
 use Rattle.hal_gen_expr.proofs.Growing.{length_of_one_more, weaker, has_there, one_placed, none_placed, first_placed}
 use Rattle.hal_gen.specs.Sizes.{jump_size, statement_size, basic_size, group_size, statements_size}
 use Rattle.hal_gen.specs.StatementCode.{first_test_code, test_code, statement_code, basic_code, alternative_code, group_code, statements_code}
@@ -87,11 +87,34 @@ module _ (code : Code) (n : Numbering) (site : Site) (numbered : IsNumbered code
   kept_goes path (MeantBuiltin b) from to there = absurd there
   kept_goes path MeantNothing from to there = absurd there
 
+  stored_goes : (list : Subscripts) (from to : ℕ) → StoredAt code list from to → Goes code from to
+  stored_goes NoSubscripts from to at = one_goes code from to _ at tt
+  stored_goes (MoreSubscripts first others) from to at = absurd at
+
+  received_goes : (subscript : Subscript) (arrayed : Bool) (from to : ℕ) → ReceivedAt code arrayed subscript from to → Goes code from to
+  received_goes Unsubscripted true from to at = stored_goes NoSubscripts from to at
+  received_goes Unsubscripted false from to at = stored_goes NoSubscripts from to at
+  received_goes (ByName there name) true from to at = stored_goes NoSubscripts from to at
+  received_goes (ByName there name) false from to at = absurd at
+  received_goes (ByInteger there mark number) true from to at = stored_goes NoSubscripts from to at
+  received_goes (ByInteger there mark number) false from to at = absurd at
+  received_goes (ByParts there copies arrays components) true from to at = stored_goes (components_in true (ByParts there copies arrays components)) from to at
+  received_goes (ByParts there copies arrays components) false from to at = stored_goes components from to at
+
+  addressed_goes : (path : List Naming) (subscript : Subscript) (m : Meant) (from to : ℕ) → AddressedAt code path subscript (λ spot shape a e. ChosenAt code site [] path subscript spot shape a e) m from to → Goes code from to
+  addressed_goes path subscript (MeantData spot shape) from to there =
+      joined_goes code from there.0 to (address_goes code site subscript path spot shape from there.0 there.1) (received_goes subscript (is_arrayed (sizes_named path shape)) there.0 to there.2)
+  addressed_goes path subscript (MeantConstant v) from to there = absurd there
+  addressed_goes path subscript (MeantEvent e) from to there = absurd there
+  addressed_goes path subscript (MeantBlock unit) from to there = absurd there
+  addressed_goes path subscript (MeantBuiltin b) from to there = absurd there
+  addressed_goes path subscript MeantNothing from to there = absurd there
+
   receiver_goes : (receiver : Reference) (from to : ℕ) → ReceiverAt code site receiver from to → Goes code from to
   receiver_goes (Refers place name path Unsubscripted) from to at = kept_goes path (name_meant (here_at site) name []) from to (at [])
-  receiver_goes (Refers place name path (ByName there one)) from to at = absurd at
-  receiver_goes (Refers place name path (ByInteger there mark number)) from to at = absurd at
-  receiver_goes (Refers place name path (ByParts there copies arrays components)) from to at = absurd at
+  receiver_goes (Refers place name path (ByName there one)) from to at = addressed_goes path (ByName there one) (name_meant (here_at site) name []) from to (at [])
+  receiver_goes (Refers place name path (ByInteger there mark number)) from to at = addressed_goes path (ByInteger there mark number) (name_meant (here_at site) name []) from to (at [])
+  receiver_goes (Refers place name path (ByParts there copies arrays components)) from to at = addressed_goes path (ByParts there copies arrays components) (name_meant (here_at site) name []) from to (at [])
 
   receivers_go : (receivers : List Reference) (from to : ℕ) → ReceiversAt code site receivers from to → Goes code from to
   receivers_go [] from to at = absurd at

@@ -1,4 +1,5 @@
 pub mod Measured
+pub mod Received
 pub mod Simple
 pub mod Stated
 pub mod Forwarding

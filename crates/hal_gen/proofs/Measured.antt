@@ -1,10 +1,10 @@
 -- The code of a statement has as many instructions as its size says.
 use Rattle.std.specs.Prelude.{◌≡◌, ℕ, suc, ◌+◌, nat_lt, Bool, true, false, if◌then◌else◌, List, [], ◌∷◌, ◌++◌, length, Option, Some, None, Ok, Err}
 use Rattle.std.specs.Option.{option_map, option_and_then}
-use Rattle.std.proofs.Common.{refl, ap, subst, arith}
+use Rattle.std.proofs.Common.{refl, ap, ◌∙◌, subst, append-nil, arith}
 use Rattle.hal_base.specs.declared.refusal.Place.{Place}
 use Rattle.hal_grammar.specs.Leaves.{Naming}
-use Rattle.hal_grammar.specs.Expressions.{Expression, Decimal, Expressions, NoExpressions, MoreExpressions, Reference, Refers, Unsubscripted, ByName, ByInteger, ByParts}
+use Rattle.hal_grammar.specs.Expressions.{Expression, Decimal, Expressions, NoExpressions, MoreExpressions, Reference, Refers, Subscript, Unsubscripted, ByName, ByInteger, ByParts, Subscripts, NoSubscripts, MoreSubscripts}
 use Rattle.hal_grammar.specs.Statements.{Guard, While, Until, Statement, Labelled, Basic, Null, Assignment, If, Do, DoCase, DoLoop, DoFor, Exit, Repeat, Return, Call, Read, Write, Cancel, Terminate, Wait, WaitUntil, WaitForDependent, WaitFor, Event, Scheduled, UpdatePriority, Update, OnErrorStatement, OnErrorResponse, OffError, SendError, Alternative, NoAlternative, Otherwise, Group, Groups, Statements, NoStatements, MoreStatements}
 use Rattle.hal_meaning.specs.Bodies.{Body}
 use Rattle.hal_meaning.specs.Events.{event_named}
@@ -12,7 +12,8 @@ use Rattle.hal_meaning.specs.Expressions.{inputs_at}
 use Rattle.hal_meaning.specs.Marks.{after_statement}
 use Rattle.hal_meaning.specs.RealTime.{stated_at_mark}
 use Rattle.hal_meaning.specs.Sets.{body_at}
-use Rattle.hal_meaning.specs.Statements.{label_name, update_groups}
+use Rattle.hal_meaning.specs.Statements.{label_name, update_groups, components_in}
+use Rattle.hal_meaning.specs.Variables.{is_arrayed}
 use Rattle.hal_code.specs.declared.instr.Instr.{Instr}
 use Rattle.hal_code.specs.declared.instr.Instr.TheVariants as instr
 use Rattle.hal_code.specs.declared.operand.Delay as operand-delay
@@ -22,15 +23,16 @@ use Rattle.hal_code.specs.declared.operand.Time.TheVariants as time
 use Rattle.hal_agreement.specs.PlacedStatements.{ToFinish, ByReturn, ByResult, NoReturn, Leaving, Exits, exit_of, again_of, opened, within_group, of_block}
 use Rattle.hal_agreement.specs.Sites.{Site, here_at}
 use Rattle.hal_gen_expr.specs.Emitting.{Emitted, onwards, emit}
-use Rattle.hal_gen_expr.specs.ExpressionCode.{emit_one, expression_code}
-use Rattle.hal_gen_expr.specs.Leaves.{element_of}
+use Rattle.hal_gen_expr.specs.ExpressionCode.{emit_one, chosen_code, expression_code}
+use Rattle.hal_gen_expr.specs.Led.{Led, led_by, sizes_led}
 use Rattle.hal_gen_expr.specs.Numbering.{Numbering, below}
 use Rattle.hal_referents.specs.Referents.{Referent, DataOf, ConstantOf, EventOf, BlockOf, BuiltinOf, Unmeant}
 use Rattle.hal_gen_expr.specs.Referents.{referent}
-use Rattle.hal_gen_expr.proofs.Appending.{expression_grows, call_grows}
-use Rattle.hal_gen.specs.Leaves.{store_of, receiver_of, kind_of_receiver, channel_of, return_of, as_result, result_of, event_change_of, pause_of, event_pause_of, named_process, and_asked, each_of, named_or_own_of, numbers_of, side_numbers, response_entry, response_code, off_of, raise_of}
+use Rattle.hal_gen_expr.proofs.Appending.{behind, emit_behind, onwards_behind, grows_by, chosen_behind, expression_grows, call_grows}
+use Rattle.hal_gen.specs.Leaves.{kind_of_receiver, channel_of, return_of, as_result, result_of, event_change_of, pause_of, event_pause_of, named_process, and_asked, each_of, named_or_own_of, numbers_of, side_numbers, response_entry, response_code, off_of, raise_of}
+use Rattle.hal_gen.specs.Receiving.{stored_code, received_code, addressed_code, receiver_code, receiver_size}
 use Rattle.hal_gen.specs.Sizes.{expression_size, items_size, receivers_size, reads_size, first_test_size, test_size, jump_size, names_size, call_size, statement_size, basic_size, alternative_size, group_size, statements_size}
-use Rattle.hal_gen.specs.StatementCode.{receiver_code, receivers_code, items_code, with_channel, reads_code, condition_code, first_test_code, test_code, jump_to, procedure_code, returning_code, statement_code, basic_code, alternative_code, group_code, statements_code}
+use Rattle.hal_gen.specs.StatementCode.{receivers_code, items_code, with_channel, reads_code, condition_code, first_test_code, test_code, jump_to, procedure_code, returning_code, statement_code, basic_code, alternative_code, group_code, statements_code}
 
 length_both : (before is : List Instr) → length (before ++ is) ≡ length before + length is
 length_both [] is = omega arith
@@ -72,31 +74,43 @@ two_mapped : {X Y : Type 0} (f : X → Y → List Instr) (size : ℕ) (a : Optio
 two_mapped f size None b each is e = absurd (cc)
 two_mapped f size (Some x) b each is e = map_one (f x) size b (each x) is e
 
-store_gives : (n : Numbering) (site : Site) (path : List Naming) (r : Referent) → Gives (store_of n site path r) 2
-store_gives n site path (DataOf k kept shape) is e = map_one (λ i. i ∷ instr.Keep ∷ []) 2 (element_of n site path k kept shape) (λ i. refl) is e
-store_gives n site path (ConstantOf v) is e = absurd (cc)
-store_gives n site path (EventOf v) is e = absurd (cc)
-store_gives n site path (BlockOf v) is e = absurd (cc)
-store_gives n site path (BuiltinOf v) is e = absurd (cc)
-store_gives n site path Unmeant is e = absurd (cc)
+-- a receiver is as long as alone
+module _ (n : Numbering) (site : Site) (front : List Instr) (place : Place) where
+  stored_behind : (list : Subscripts) (before : List Instr) → stored_code n site (front ++ before) place list ≡ behind front (stored_code n site before place list)
+  stored_behind NoSubscripts before = emit_behind front before place (Some (instr.Keep ∷ []))
+  stored_behind (MoreSubscripts first others) before = refl
 
-receiver_gives : (n : Numbering) (site : Site) (reference : Reference) → Gives (receiver_of n site reference) 2
-receiver_gives n site (Refers place name path Unsubscripted) is e = store_gives n site path (referent site name) is e
-receiver_gives n site (Refers place name path (ByName at one)) is e = absurd (cc)
-receiver_gives n site (Refers place name path (ByInteger at mark number)) is e = absurd (cc)
-receiver_gives n site (Refers place name path (ByParts at copies arrays components)) is e = absurd (cc)
+  received_behind : (subscript : Subscript) (arrayed : Bool) (before : List Instr) → received_code n site (front ++ before) place arrayed subscript ≡ behind front (received_code n site before place arrayed subscript)
+  received_behind Unsubscripted true before = stored_behind NoSubscripts before
+  received_behind Unsubscripted false before = stored_behind NoSubscripts before
+  received_behind (ByName there name) true before = stored_behind NoSubscripts before
+  received_behind (ByName there name) false before = refl
+  received_behind (ByInteger there mark number) true before = stored_behind NoSubscripts before
+  received_behind (ByInteger there mark number) false before = refl
+  received_behind (ByParts there copies arrays components) true before = stored_behind (components_in true (ByParts there copies arrays components)) before
+  received_behind (ByParts there copies arrays components) false before = stored_behind components before
 
-pub receiver_longer : (n : Numbering) (site : Site) (before after : List Instr) (reference : Reference) → receiver_code n site before reference ≡ Ok after → Longer before after 2
-receiver_longer n site before after (Refers place name path subscript) e =
-    emitted_longer before after place (receiver_of n site (Refers place name path subscript)) 2 e (receiver_gives n site (Refers place name path subscript))
+  addressed_behind : (subscript : Subscript) (o : Option Led) (before : List Instr) → addressed_code n site (front ++ before) place subscript o ≡ behind front (addressed_code n site before place subscript o)
+  addressed_behind subscript None before = refl
+  addressed_behind subscript (Some l) before =
+      onwards_behind front (chosen_code n site before place subscript l) _ (λ middle. received_code n site middle place (is_arrayed (sizes_led l)) subscript)
+      (λ middle. received_code n site middle place (is_arrayed (sizes_led l)) subscript) (chosen_behind n site front subscript l place before) (λ code. received_behind subscript (is_arrayed (sizes_led l)) code)
+
+receiver_behind : (n : Numbering) (site : Site) (front : List Instr) (receiver : Reference) (before : List Instr) → receiver_code n site (front ++ before) receiver ≡ behind front (receiver_code n site before receiver)
+receiver_behind n site front (Refers place name path subscript) before = addressed_behind n site front place subscript (led_by path (referent site name)) before
+
+pub receiver_longer : (n : Numbering) (site : Site) (before after : List Instr) (receiver : Reference) → receiver_code n site before receiver ≡ Ok after → Longer before after (receiver_size n site receiver)
+receiver_longer n site before after receiver e =
+    grows_by (receiver_code n site [] receiver) (receiver_code n site (before ++ []) receiver) before after (receiver_behind n site before receiver []) (ap (λ l. receiver_code n site l receiver) (append-nil before) ∙ e)
 
 receivers_longer : (n : Numbering) (site : Site) (place : Place) (receivers : List Reference) (before after : List Instr) → receivers_code n site before place receivers ≡ Ok after
-    → Longer before after (receivers_size receivers)
+    → Longer before after (receivers_size n site receivers)
 receivers_longer n site place [] before after e = absurd (cc)
 receivers_longer n site place (receiver ∷ []) before after e = receiver_longer n site before after receiver e
 receivers_longer n site place (receiver ∷ next ∷ others) before after e =
-    let rest = later before after instr.Dup (2 + receivers_size (next ∷ others))
-    (both_longer (receiver_code n site (before ++ (instr.Dup ∷ [])) receiver) (λ middle. receivers_code n site middle place (next ∷ others)) (before ++ (instr.Dup ∷ [])) after 2 (receivers_size (next ∷ others)) e
+    let rest = later before after instr.Dup (receiver_size n site receiver + receivers_size n site (next ∷ others))
+    (both_longer (receiver_code n site (before ++ (instr.Dup ∷ [])) receiver) (λ middle. receivers_code n site middle place (next ∷ others)) (before ++ (instr.Dup ∷ [])) after (receiver_size n site receiver)
+    (receivers_size n site (next ∷ others)) e
     (λ middle there. receiver_longer n site (before ++ (instr.Dup ∷ [])) middle receiver there) (λ middle there. receivers_longer n site place (next ∷ others) middle after there))
     in omega (arith, rest)
 
@@ -116,12 +130,12 @@ channel_longer before after place None go size e each = absurd (cc)
 channel_longer before after place (Some number) go size e each = each number e
 
 reads_longer : (n : Numbering) (site : Site) (channel : ℕ) (receivers : List Reference) (before after : List Instr) → reads_code n site before channel receivers ≡ Ok after
-    → Longer before after (reads_size receivers)
+    → Longer before after (reads_size n site receivers)
 reads_longer n site channel [] before after e = let same : before ≡ after = cc in let there = ap length same in omega (arith, there)
 reads_longer n site channel (receiver ∷ receivers) before after e =
-    let input = instr.Input channel (kind_of_receiver site receiver) (length before + 3) in
-    let rest = later before after input (2 + reads_size receivers)
-    (both_longer (receiver_code n site (before ++ (input ∷ [])) receiver) (λ middle. reads_code n site middle channel receivers) (before ++ (input ∷ [])) after 2 (reads_size receivers) e
+    let input = instr.Input channel (kind_of_receiver site receiver) (length before + (1 + receiver_size n site receiver)) in
+    let rest = later before after input (receiver_size n site receiver + reads_size n site receivers)
+    (both_longer (receiver_code n site (before ++ (input ∷ [])) receiver) (λ middle. reads_code n site middle channel receivers) (before ++ (input ∷ [])) after (receiver_size n site receiver) (reads_size n site receivers) e
     (λ middle there. receiver_longer n site (before ++ (input ∷ [])) middle receiver there) (λ middle there. reads_longer n site channel receivers middle after there))
     in omega (arith, rest)
 
@@ -210,7 +224,7 @@ module _ (n : Numbering) (site : Site) where
         → Longer before after (basic_size n site basic)
     basic_longer (Null place) labels exits m before after e = same_length before after e
     basic_longer (Assignment place receivers tree) labels exits m before after e =
-        both_longer (expression_code n site before tree) (λ middle. receivers_code n site middle place receivers) before after (expression_size n site tree) (receivers_size receivers) e
+        both_longer (expression_code n site before tree) (λ middle. receivers_code n site middle place receivers) before after (expression_size n site tree) (receivers_size n site receivers) e
         (λ middle there. expression_longer n site tree before middle there) (λ middle there. receivers_longer n site place receivers middle after there)
     basic_longer (If place condition consequence alternative) labels exits m before after e =
         let rest = both_longer (expression_code n site before condition) _ before after (expression_size n site condition) (1 + (statement_size n site consequence + (jump_size alternative + alternative_size n site alternative))) e
@@ -240,7 +254,7 @@ module _ (n : Numbering) (site : Site) where
     basic_longer (Call place name arguments []) labels exits m before after e = procedure_longer n site place arguments (referent site name.name) before after e
     basic_longer (Call place name arguments (receiver ∷ receivers)) labels exits m before after e = absurd (cc)
     basic_longer (Read place channel receivers) labels exits m before after e =
-        channel_longer before after place (channel_of channel) _ (reads_size receivers) e (λ number there. reads_longer n site number receivers before after there)
+        channel_longer before after place (channel_of channel) _ (reads_size n site receivers) e (λ number there. reads_longer n site number receivers before after there)
     basic_longer (Write place channel items) labels exits m before after e =
         channel_longer before after place (channel_of channel) _ (items_size n site items + 1) e
         (λ number there. both_longer (items_code n site before items) _ before after (items_size n site items) 1 there (λ middle one. items_longer n site items before middle one)

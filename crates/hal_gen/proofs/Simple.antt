@@ -6,7 +6,7 @@ use Rattle.std.proofs.lemmas.Bool.{ltb-true}
 use Rattle.hal_base.specs.declared.refusal.Place.{Place}
 use Rattle.hal_grammar.specs.Leaves.{Naming, Integer}
 use Rattle.hal_grammar.specs.Declarations.{IntegerKind, BooleanKind, EventKind, BitKind, CharacterKind, StructureKind}
-use Rattle.hal_grammar.specs.Expressions.{Expression, Literal, Decimal, Expressions, NoExpressions, MoreExpressions, Reference, Refers, Unsubscripted, ByName, ByInteger, ByParts}
+use Rattle.hal_grammar.specs.Expressions.{Expression, Literal, Decimal, Expressions, NoExpressions, MoreExpressions, Reference, Refers}
 use Rattle.hal_grammar.specs.Statements.{Guard, While, Until, Selector, EveryError, GroupErrors, OneError, Eventful, EventAction, Signal, Set, Reset, Response}
 use Rattle.hal_grammar.specs.Units.{Head, Program, Task, Compool, Procedure, Function, HasKind, NoKind}
 use Rattle.hal_operations.specs.declared.operation.Op1.TheVariants as op1
@@ -34,23 +34,25 @@ use Rattle.hal_code.specs.declared.operand.Time.{Time}
 use Rattle.hal_code.specs.declared.operand.Time.TheVariants as time
 use Rattle.hal_agreement.specs.Codes.{Code}
 use Rattle.hal_agreement.specs.PlacedExpressions.{Has, One, ExpressionAt}
-use Rattle.hal_agreement.specs.PlacedStatements.{Leaving, ToFinish, ByReturn, ByResult, NoReturn, Exits, KeptAt, ReceiverAt, ReceiversAt, ChannelAt, ItemsAt, ConditionAt, FirstTestAt, TestAt, ReturnAt, ResultBy, ResultAt, CalledAt, ReadsAt, PauseAt, EventAt, NamedAt, EachAt, NamedOrOwnAt, Selects, sets, response_of, changes}
+use Rattle.hal_agreement.specs.PlacedStatements.{Leaving, ToFinish, ByReturn, ByResult, NoReturn, Exits, ChannelAt, ItemsAt, ConditionAt, FirstTestAt, TestAt, ReturnAt, ResultBy, ResultAt, CalledAt, ReadsAt, PauseAt, EventAt, NamedAt, EachAt, NamedOrOwnAt, Selects, sets, response_of, changes}
 use Rattle.hal_agreement.specs.Sites.{Site, here_at}
 use Rattle.hal_gen_expr.specs.Emitting.{emit}
 use Rattle.hal_gen_expr.specs.ExpressionCode.{emit_one, expression_code, arguments_code}
-use Rattle.hal_gen_expr.specs.Leaves.{element_of, call_of}
+use Rattle.hal_gen_expr.specs.Leaves.{call_of}
 use Rattle.hal_gen_expr.specs.Numbering.{Numbering, below}
 use Rattle.hal_referents.specs.Referents.{Referent, DataOf, ConstantOf, EventOf, BlockOf, BuiltinOf, Unmeant}
 use Rattle.hal_gen_expr.specs.Referents.{referent}
 use Rattle.hal_gen_expr.specs.Standing.{Begins, IsNumbered, Placed}
 use Rattle.hal_gen_expr.proofs.Expressed.{call_given, ok_is, expression_at, arguments_at}
 use Rattle.hal_gen_expr.proofs.Growing.{append_append, weaker, one_placed, none_placed, first_placed, both_there, both_placed, emitted}
-use Rattle.hal_gen_expr.proofs.Named.{two_placed, element_at, call_placed, given_is}
+use Rattle.hal_gen_expr.proofs.Named.{two_placed, call_placed, given_is}
 use Rattle.hal_gen_expr.proofs.Numbered.{below_is, mapped_is, then_is}
 use Rattle.hal_gen_expr.proofs.Referring.{meaning_of, name_means}
-use Rattle.hal_gen.specs.Leaves.{store_of, kind_referred, kind_of_receiver, channel_of, return_of, gives_text, text_result, as_result, result_of, pause_of, event_pause_of, named_process, and_asked, each_of, named_or_own_of, event_change_of, from_one, numbers_of, change_of, side_numbers, response_code, off_of, raise_of}
-use Rattle.hal_gen.specs.StatementCode.{receiver_code, receivers_code, items_code, reads_code, condition_code, first_test_code, test_code, procedure_code, returning_code}
+use Rattle.hal_gen.specs.Leaves.{kind_referred, kind_of_receiver, channel_of, return_of, gives_text, text_result, as_result, result_of, pause_of, event_pause_of, named_process, and_asked, each_of, named_or_own_of, event_change_of, from_one, numbers_of, change_of, side_numbers, response_code, off_of, raise_of}
+use Rattle.hal_gen.specs.Receiving.{receiver_code, receiver_size}
+use Rattle.hal_gen.specs.StatementCode.{items_code, reads_code, condition_code, first_test_code, test_code, procedure_code, returning_code}
 use Rattle.hal_gen.proofs.Measured.{later, receiver_longer}
+use Rattle.hal_gen.proofs.Received.{receiver_at}
 
 below_true : (limit n m : ℕ) → below limit n ≡ Some m → nat_lt n limit ≡ true
 below_true limit n m = by (nat_lt n limit) where
@@ -69,38 +71,6 @@ module _ (code : Code) (n : Numbering) (site : Site) (numbered : IsNumbered code
       let given = emitted before place (option_map (λ x. f x ∷ []) source) after e in
       let one = mapped_is (λ x. f x ∷ []) source given.0 given.1 in
       (one.0, one.1, one_placed code before after (f one.0) (ap (λ l. before ++ l) one.2 ∙ given.2) begins)
-
-  kept_at : (path : List Naming) (r : Referent) (before after is : List Instr) → store_of n site path r ≡ Some is → before ++ is ≡ after → Begins after code.image.code
-      → Placed code before after (λ from to. (held : List Held) → KeptAt code path held (meaning_of site held r) from to)
-  kept_at path (DataOf k kept shape) before after is given grown begins =
-      let address = mapped_is (λ i. i ∷ instr.Keep ∷ []) (element_of n site path k kept shape) is given in
-      let there = two_placed code n site numbered before after address.0 instr.Keep (ap (λ l. before ++ l) address.2 ∙ grown) begins in
-      record { at = λ held. (element_at code n site numbered path k kept shape address.0 (length before) held address.1 there.at.0, there.at.1); begins = there.begins }
-  kept_at path (ConstantOf v) before after is given grown begins = absurd (cc)
-  kept_at path (EventOf e) before after is given grown begins = absurd (cc)
-  kept_at path (BlockOf unit) before after is given grown begins = absurd (cc)
-  kept_at path (BuiltinOf b) before after is given grown begins = absurd (cc)
-  kept_at path Unmeant before after is given grown begins = absurd (cc)
-
-  pub receiver_at : (receiver : Reference) (before after : List Instr) → receiver_code n site before receiver ≡ Ok after → Begins after code.image.code
-      → Placed code before after (λ from to. ReceiverAt code site receiver from to)
-  receiver_at (Refers place name path Unsubscripted) before after e begins =
-      let given = emitted before place (store_of n site path (referent site name)) after e in
-      weaker code before after (λ from to at. λ held. subst (λ m. KeptAt code path held m from to) (sym (name_means site held name)) (at held))
-      (kept_at path (referent site name) before after given.0 given.1 given.2 begins)
-  receiver_at (Refers place name path (ByName at one)) before after e begins = absurd (cc)
-  receiver_at (Refers place name path (ByInteger at mark number)) before after e begins = absurd (cc)
-  receiver_at (Refers place name path (ByParts at copies arrays components)) before after e begins = absurd (cc)
-
-  pub receivers_at : (receivers : List Reference) (place : Place) (before after : List Instr) → receivers_code n site before place receivers ≡ Ok after → Begins after code.image.code
-      → Placed code before after (λ from to. ReceiversAt code site receivers from to)
-  receivers_at [] place before after e begins = absurd (cc)
-  receivers_at (receiver ∷ []) place before after e begins = receiver_at receiver before after e begins
-  receivers_at (receiver ∷ next ∷ others) place before after e begins =
-      weaker code before after (λ from to at. (at.1.0, at.0, at.1.1, at.1.2))
-      (first_placed code before after instr.Dup
-      (both_placed code (receiver_code n site (before ++ (instr.Dup ∷ [])) receiver) (λ middle. receivers_code n site middle place (next ∷ others)) (before ++ (instr.Dup ∷ [])) after e
-      (λ middle there begun. receiver_at receiver (before ++ (instr.Dup ∷ [])) middle there begun) (λ middle there. receivers_at (next ∷ others) place middle after there begins)))
 
   pub channel_at : (tree : Expression) (number : ℕ) → channel_of tree ≡ Some number → ChannelAt tree number
   channel_at (Literal place (Integer written)) number is = below_is 256 written number is
@@ -148,18 +118,19 @@ module _ (code : Code) (n : Numbering) (site : Site) (numbered : IsNumbered code
   kind_there (Refers place name path subscript) held = ap (kind_meant path) (name_means site held name) ∙ kind_same path held (referent site name)
 
   behind_receiver : (input : Instr) (receiver : Reference) (channel : ℕ) (receivers : List Reference) (before middle after : List Instr) → receiver_code n site (before ++ (input ∷ [])) receiver ≡ Ok middle
-      → Placed code middle after (λ from to. ReadsAt code site channel receivers from to) → Placed code middle after (λ from to. (from ≡ length before + 3) × ReadsAt code site channel receivers from to)
+      → Placed code middle after (λ from to. ReadsAt code site channel receivers from to)
+      → Placed code middle after (λ from to. (from ≡ length before + (1 + receiver_size n site receiver)) × ReadsAt code site channel receivers from to)
   behind_receiver input receiver channel receivers before middle after got rest =
-      record { at = (later before middle input 2 (receiver_longer n site (before ++ (input ∷ [])) middle receiver got), rest.at); begins = rest.begins }
+      record { at = (later before middle input (receiver_size n site receiver) (receiver_longer n site (before ++ (input ∷ [])) middle receiver got), rest.at); begins = rest.begins }
 
   pub reads_at : (channel : ℕ) (receivers : List Reference) (before after : List Instr) → reads_code n site before channel receivers ≡ Ok after → Begins after code.image.code
       → Placed code before after (λ from to. ReadsAt code site channel receivers from to)
   reads_at channel [] before after e begins = none_placed code before after (ok_is before after e) begins
   reads_at channel (receiver ∷ receivers) before after e begins =
-      let input = instr.Input channel (kind_of_receiver site receiver) (length before + 3) in
+      let input = instr.Input channel (kind_of_receiver site receiver) (length before + (1 + receiver_size n site receiver)) in
       let there = first_placed code before after input
       (both_there code (receiver_code n site (before ++ (input ∷ [])) receiver)
-      (λ middle. reads_code n site middle channel receivers) (before ++ (input ∷ [])) after e (λ middle got begun. receiver_at receiver (before ++ (input ∷ [])) middle got begun)
+      (λ middle. reads_code n site middle channel receivers) (before ++ (input ∷ [])) after e (λ middle got begun. receiver_at code n site numbered receiver (before ++ (input ∷ [])) middle got begun)
       (λ middle got rest. behind_receiver input receiver channel receivers before middle after got (reads_at channel receivers middle after rest begins)))
       in record {
         at = (

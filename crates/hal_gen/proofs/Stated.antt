@@ -26,7 +26,8 @@ use Rattle.hal_gen.specs.Leaves.{channel_of}
 use Rattle.hal_gen.specs.Sizes.{jump_size, statement_size, basic_size, group_size, statements_size}
 use Rattle.hal_gen.specs.StatementCode.{receivers_code, items_code, with_channel, first_test_code, test_code, statement_code, basic_code, alternative_code, group_code, statements_code}
 use Rattle.hal_gen.proofs.Measured.{later, statement_longer, basic_longer, group_longer, statements_longer}
-use Rattle.hal_gen.proofs.Simple.{single_placed, receivers_at, channel_at, items_at, first_test_at, test_at, reads_at, plain_return_at, value_return_at, procedure_at, pause_at, event_pause_at, named_or_own_at, raise_at, response_at, off_at, event_change_at}
+use Rattle.hal_gen.proofs.Received.{receivers_at}
+use Rattle.hal_gen.proofs.Simple.{single_placed, channel_at, items_at, first_test_at, test_at, reads_at, plain_return_at, value_return_at, procedure_at, pause_at, event_pause_at, named_or_own_at, raise_at, response_at, off_at, event_change_at}
 
 channel_given : (place : Place) (o : Option ℕ) (go : ℕ → Emitted) (after : List Instr) → with_channel place o go ≡ Ok after → (number : ℕ) × (o ≡ Some number) × (go number ≡ Ok after)
 channel_given place None go after e = absurd (cc)

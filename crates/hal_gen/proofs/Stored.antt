@@ -11,7 +11,8 @@ use Rattle.hal_gen_expr.specs.Emits.{Emits}
 use Rattle.hal_gen_expr.specs.Emitting.{Emitted, onwards}
 use Rattle.hal_gen_expr.specs.Leaves.{is_nil}
 use Rattle.hal_gen_expr.specs.Numbering.{Numbering}
-use Rattle.hal_gen.specs.StatementCode.{receiver_code, receivers_code}
+use Rattle.hal_gen.specs.Receiving.{receiver_code}
+use Rattle.hal_gen.specs.StatementCode.{receivers_code}
 use Rattle.hal_gen.specs.Storing.{next_code, stores_code}
 
 -- nothing more
@@ -37,13 +38,17 @@ is_last : {X : Type 0} (f : X → Reference) (xs : List X) → is_nil (map f xs)
 is_last f [] = search rules
 is_last f (x ∷ xs) = search rules
 
+pub stored_split : {X : Type 0} (f : X → Reference) (n : Numbering) (site : Site) (before : List Instr) (x : X) (others rest : List X) (all : Emitted) → rest ≡ x ∷ others
+    → stores_code n site before (map f rest) ≡ all → all ≡ onwards (next_code n site before (not (length others == 0)) (f x)) (λ middle. stores_code n site middle (map f others))
+unfolding stores_code
+stored_split f n site before x others rest all split kept =
+    sym (sym (ap (λ (last : Bool). onwards (next_code n site before (not last) (f x)) (λ middle. stores_code n site middle (map f others))) (is_last f others))
+    ∙ ap (λ xs. stores_code n site before (map f xs)) (sym split) ∙ kept)
+
 pub stored_on : {X : Type 0} (f : X → Reference) (n : Numbering) (site : Site) (before after : List Instr) (x : X) (others rest : List X) (all : Emitted) → rest ≡ x ∷ others
     → next_code n site before (not (length others == 0)) (f x) ≡ Ok after → stores_code n site before (map f rest) ≡ all → stores_code n site after (map f others) ≡ all
-unfolding stores_code
 stored_on f n site before after x others rest all split given kept =
-    sym (ap (λ (last : Bool). onwards (next_code n site before (not last) (f x)) (λ middle. stores_code n site middle (map f others))) (is_last f others)
-    ∙ ap (λ (e : Emitted). onwards e (λ middle. stores_code n site middle (map f others))) given)
-    ∙ ap (λ xs. stores_code n site before (map f xs)) (sym split) ∙ kept
+    sym (stored_split f n site before x others rest all split kept ∙ ap (λ (e : Emitted). onwards e (λ middle. stores_code n site middle (map f others))) given)
 
 -- of any receivers, where there are some
 module _ {X : Type 0} (f : X → Reference) (n : Numbering) (site : Site) (place : Place) where

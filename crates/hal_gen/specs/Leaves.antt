@@ -4,7 +4,7 @@ use Rattle.std.specs.Option.{option_map, option_and_then}
 use Rattle.hal_grammar.specs.Leaves.{Naming, LiteralValue, Integer}
 use Rattle.hal_grammar.specs.Declarations as declarations
 use Rattle.hal_grammar.specs.Declarations.{CharacterKind}
-use Rattle.hal_grammar.specs.Expressions.{Expression, Literal, Decimal, Reference, Refers, Unsubscripted}
+use Rattle.hal_grammar.specs.Expressions.{Expression, Literal, Decimal, Reference, Refers}
 use Rattle.hal_grammar.specs.Statements.{Selector, EveryError, GroupErrors, OneError, Eventful, EventAction, Signal, Set, Reset, Response}
 use Rattle.hal_grammar.specs.Units.{Head, Function, Returns, NoKind, HasKind}
 use Rattle.hal_operations.specs.declared.operation.Op1.TheVariants as op1
@@ -27,19 +27,9 @@ use Rattle.hal_code.specs.declared.operand.Time.{Time}
 use Rattle.hal_code.specs.declared.operand.Time.TheVariants as time
 use Rattle.hal_agreement.specs.PlacedStatements.{Leaving, ToFinish, ByReturn, ByResult, changes, sets, response_of}
 use Rattle.hal_agreement.specs.Sites.{Site, here_at}
-use Rattle.hal_gen_expr.specs.Leaves.{element_of}
-use Rattle.hal_gen_expr.specs.Numbering.{Numbering, below}
+use Rattle.hal_gen_expr.specs.Numbering.{below}
 use Rattle.hal_referents.specs.Referents.{Referent, DataOf}
 use Rattle.hal_gen_expr.specs.Referents.{referent}
-
--- the store of the value on the stack in what a name refers to
-abbrev pub store_of : Numbering → Site → List Naming → Referent → Option (List Instr)
-store_of n site path (DataOf k kept shape) = option_map (λ i. i ∷ instr.Keep ∷ []) (element_of n site path k kept shape)
-store_of n site path other = None
-
-abbrev pub receiver_of : Numbering → Site → Reference → Option (List Instr)
-receiver_of n site (Refers place name path Unsubscripted) = store_of n site path (referent site name)
-receiver_of n site (Refers place name path other) = None
 
 -- the kind of what READ stores in what a name refers to
 abbrev pub kind_referred : List Naming → Referent → Kind

@@ -1,4 +1,5 @@
 pub mod Leaves
+pub mod Receiving
 pub mod Sizes
 pub mod StatementCode
 pub mod Leading

@@ -14,6 +14,7 @@ use Rattle.hal_gen_expr.specs.Numbering.{Numbering}
 use Rattle.hal_referents.specs.Referents.{Referent, BlockOf}
 use Rattle.hal_gen_expr.specs.Referents.{referent}
 use Rattle.hal_gen.specs.Leaves.{as_result}
+use Rattle.hal_gen.specs.Receiving.{receiver_size}
 
 abbrev pub expression_size : Numbering → Site → Expression → ℕ
 expression_size n site tree = length_of (expression_code n site [] tree)
@@ -23,16 +24,16 @@ abbrev pub items_size : Numbering → Site → Expressions → ℕ
 items_size n site NoExpressions = 0
 items_size n site (MoreExpressions first others) = (expression_size n site first + 1) + items_size n site others
 
--- CELL and KEEP for each receiver, and a copy before all but the last one
-abbrev pub receivers_size : List Reference → ℕ
-receivers_size [] = 0
-receivers_size (one ∷ []) = 2
-receivers_size (one ∷ next ∷ others) = 3 + receivers_size (next ∷ others)
+-- receivers, and a copy before all but the last one
+abbrev pub receivers_size : Numbering → Site → List Reference → ℕ
+receivers_size n site [] = 0
+receivers_size n site (one ∷ []) = receiver_size n site one
+receivers_size n site (one ∷ next ∷ others) = (1 + receiver_size n site one) + receivers_size n site (next ∷ others)
 
--- INPUT, CELL and KEEP for each receiver of READ
-abbrev pub reads_size : List Reference → ℕ
-reads_size [] = 0
-reads_size (one ∷ others) = 3 + reads_size others
+-- receivers of READ, and INPUT before each
+abbrev pub reads_size : Numbering → Site → List Reference → ℕ
+reads_size n site [] = 0
+reads_size n site (one ∷ others) = (1 + receiver_size n site one) + reads_size n site others
 
 -- the first test of a loop, and the others
 abbrev pub first_test_size : Numbering → Site → Guard → ℕ
@@ -71,7 +72,7 @@ abbrev mutual
   statement_size n site (Labelled labels basic) = basic_size n site basic
 
   pub basic_size : Numbering → Site → Basic → ℕ
-  basic_size n site (Assignment place receivers tree) = expression_size n site tree + receivers_size receivers
+  basic_size n site (Assignment place receivers tree) = expression_size n site tree + receivers_size n site receivers
   basic_size n site (If place condition consequence alternative) =
       (expression_size n site condition + 1) + (statement_size n site consequence + (jump_size alternative + alternative_size n site alternative))
   basic_size n site (Do place group) = group_size n site group
@@ -80,7 +81,7 @@ abbrev mutual
   basic_size n site (Repeat place label) = 1
   basic_size n site (Return place value) = return_size n site value
   basic_size n site (Call place name arguments receivers) = call_size n site arguments place (referent site name.name)
-  basic_size n site (Read place channel receivers) = reads_size receivers
+  basic_size n site (Read place channel receivers) = reads_size n site receivers
   basic_size n site (Write place channel items) = items_size n site items + 1
   basic_size n site (Cancel place names) = names_size names
   basic_size n site (Terminate place names) = names_size names

@@ -3,7 +3,7 @@ use Rattle.std.specs.Prelude.{ℕ, suc, ◌+◌, false, List, [], ◌∷◌, ◌
 use Rattle.std.specs.Option.{option_map}
 use Rattle.hal_base.specs.declared.refusal.Place.{Place}
 use Rattle.hal_grammar.specs.Leaves.{Naming}
-use Rattle.hal_grammar.specs.Expressions.{Expression, Expressions, NoExpressions, MoreExpressions, Reference, Refers}
+use Rattle.hal_grammar.specs.Expressions.{Expression, Expressions, NoExpressions, MoreExpressions, Reference}
 use Rattle.hal_grammar.specs.Statements.{Guard, While, Until, Statement, Labelled, Basic, Null, Assignment, If, Do, DoCase, DoLoop, DoFor, Exit, Repeat, Return, Call, Read, Write, Cancel, Terminate, Wait, WaitUntil, WaitForDependent, WaitFor, Event, Scheduled, UpdatePriority, Update, OnErrorStatement, OnErrorResponse, OffError, SendError, Alternative, NoAlternative, Otherwise, Group, Groups, Statements, NoStatements, MoreStatements}
 use Rattle.hal_meaning.specs.Expressions.{inputs_at}
 use Rattle.hal_meaning.specs.Marks.{after_statement}
@@ -21,16 +21,11 @@ use Rattle.hal_gen_expr.specs.Leaves.{call_of}
 use Rattle.hal_gen_expr.specs.Numbering.{Numbering, below}
 use Rattle.hal_referents.specs.Referents.{Referent, BlockOf}
 use Rattle.hal_gen_expr.specs.Referents.{referent}
-use Rattle.hal_gen.specs.Leaves.{receiver_of, kind_of_receiver, channel_of, return_of, result_of, event_change_of, pause_of, event_pause_of, named_or_own_of, response_code, off_of, raise_of}
+use Rattle.hal_gen.specs.Leaves.{kind_of_receiver, channel_of, return_of, result_of, event_change_of, pause_of, event_pause_of, named_or_own_of, response_code, off_of, raise_of}
+use Rattle.hal_gen.specs.Receiving.{receiver_code, receiver_size}
 use Rattle.hal_gen.specs.Sizes.{statement_size, group_size, statements_size, jump_size, basic_size}
 
-abbrev pub place_of_reference : Reference → Place
-place_of_reference (Refers place name path subscript) = place
-
 -- receivers get the value on the stack from left to right, each but the last one from a copy
-abbrev pub receiver_code : Numbering → Site → List Instr → Reference → Emitted
-receiver_code n site before receiver = emit before (place_of_reference receiver) (receiver_of n site receiver)
-
 abbrev pub receivers_code : Numbering → Site → List Instr → Place → List Reference → Emitted
 receivers_code n site before place [] = Err place
 receivers_code n site before place (receiver ∷ []) = receiver_code n site before receiver
@@ -51,7 +46,7 @@ with_channel place (Some channel) go = go channel
 abbrev pub reads_code : Numbering → Site → List Instr → ℕ → List Reference → Emitted
 reads_code n site before channel [] = Ok before
 reads_code n site before channel (receiver ∷ receivers) =
-    onwards (receiver_code n site (before ++ (instr.Input channel (kind_of_receiver site receiver) (length before + 3) ∷ [])) receiver)
+    onwards (receiver_code n site (before ++ (instr.Input channel (kind_of_receiver site receiver) (length before + (1 + receiver_size n site receiver)) ∷ [])) receiver)
     (λ middle. reads_code n site middle channel receivers)
 
 -- a condition, behind which control goes on where it holds, and else to a target

@@ -7,7 +7,7 @@ use Rattle.hal_agreement.specs.Sites.{Site}
 use Rattle.hal_gen_expr.specs.Emitting.{Emitted, onwards}
 use Rattle.hal_gen_expr.specs.Leaves.{is_nil}
 use Rattle.hal_gen_expr.specs.Numbering.{Numbering}
-use Rattle.hal_gen.specs.StatementCode.{receiver_code}
+use Rattle.hal_gen.specs.Receiving.{receiver_code}
 
 -- one receiver, from a copy where there are others
 abbrev pub next_code : Numbering → Site → List Instr → Bool → Reference → Emitted

@@ -1,9 +1,10 @@
 -- Sizes of lists, summed from the first phrase to the last.
 use Rattle.std.specs.Prelude.{ℕ, ◌+◌, List, [], ◌∷◌}
-use Rattle.hal_grammar.specs.Expressions.{Expression}
+use Rattle.hal_grammar.specs.Expressions.{Expression, Reference}
 use Rattle.hal_grammar.specs.Statements.{Statement}
 use Rattle.hal_agreement.specs.Sites.{Site}
 use Rattle.hal_gen_expr.specs.Numbering.{Numbering}
+use Rattle.hal_gen.specs.Receiving.{receiver_size}
 use Rattle.hal_gen.specs.Sizes.{expression_size, statement_size}
 
 -- a size with those of the items of WRITE
@@ -15,3 +16,8 @@ with_items n site size (item ∷ items) = with_items n site (size + (expression_
 unfoldable pub with_statements : Numbering → Site → ℕ → List Statement → ℕ
 with_statements n site size [] = size
 with_statements n site size (one ∷ others) = with_statements n site (size + statement_size n site one) others
+
+-- a size with those of receivers, before each of which one instruction stands
+unfoldable pub with_receivers : Numbering → Site → ℕ → List Reference → ℕ
+with_receivers n site size [] = size
+with_receivers n site size (one ∷ others) = with_receivers n site (size + (1 + receiver_size n site one)) others

@@ -13,7 +13,7 @@ ghost use Rattle.hal_gen.specs.Channels as channels;
 ghost use Rattle.hal_gen.specs.Leaves as leaves;
 ghost use Rattle.hal_gen.specs.StatementCode as codes;
 
-use crate::receivers::{emit_receiver, kind_of_receiver};
+use crate::receivers::{emit_receiver, kind_of_receiver, receiver_size};
 use crate::sizes::sum;
 use hal_base::Place;
 use hal_code::Instr;
@@ -68,7 +68,8 @@ fn emit_read(
     requires site { IsSite site.now }
     ensures { Emits (channels.read_code (seen_numbering site.now) (seen_site site.now) code.old.items channel (seen_reference receiver.now)) result code.new.items }
 {
-    let target = sum(code.len(), 3)?;
+    let size = sum(1, receiver_size(receiver, site)?)?;
+    let target = sum(code.len(), size)?;
     let kind = kind_of_receiver(receiver, site);
     push(
         code,

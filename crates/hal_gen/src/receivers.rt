@@ -1,93 +1,123 @@
 //! Receivers.
 
-ghost use Rattle.std.specs.Prelude.{◌≡◌, map};
-ghost use Rattle.hal_tree.specs.SeenExpressions.{seen_reference};
+ghost use Rattle.std.specs.Prelude.{◌≡◌, IfOk, map};
+ghost use Rattle.hal_tree.specs.Rows.{subscripts};
+ghost use Rattle.hal_tree.specs.SeenExpressions.{seen_reference, seen_sub, seen_subscript};
 ghost use Rattle.hal_tree.specs.SeenLeaves.{seen_name};
 ghost use Rattle.hal_elements.specs.SeenComponents.{seen_component};
 ghost use Rattle.hal_referents.specs.SeenReferents.{seen_meant, seen_referent};
 ghost use Rattle.hal_meaning.specs.Elements as elements;
 ghost use Rattle.hal_meaning.specs.Variables as variables;
 ghost use Rattle.hal_gen_expr.specs.Emits.{Emits};
-ghost use Rattle.hal_gen_expr.specs.Emitting as emitting;
 ghost use Rattle.hal_gen_expr.specs.SeenSites.{seen_site, seen_numbering, IsSite};
 ghost use Rattle.hal_gen.specs.Leaves as leaves;
+ghost use Rattle.hal_gen.specs.Receiving as receiving;
 ghost use Rattle.hal_gen.specs.StatementCode as codes;
 ghost use Rattle.hal_gen.specs.Storing as storing;
 
 use hal_base::Place;
 use hal_code::Instr;
 use hal_elements::Component;
-use hal_gen_expr::{Site, Uncoded, element_of, emit_two, leads, push, referent};
+use hal_gen_expr::{
+    Site, Uncoded, are_none, emit_chosen, emit_one, is_arrayed, leads, led_by, push, referent,
+    sizes_led,
+};
 use hal_referents::{Meant, Referent};
-use hal_tree::{Identifier, Reference, Subscript};
+use hal_tree::{Identifier, Reference, Sub, Subscript};
 use hal_values::Kind;
+use std::alloc::AllocError;
 
-/// Adds the store of the value on the stack in what a phrase declares, to whose one element these names lead.
-fn emit_store(
+/// Adds the store of the value below an address, behind the subscripts of a component; a receiver that has some has no code yet.
+#[tactic(auto, unfolding(hal_tree::specs::Rows::subscripts))]
+fn emit_stored(
+    components: &[Sub],
     code: &mut Vec<Instr>,
     site: &Site<'_>,
     place: Place,
-    path: &[Identifier],
-    referent: &Referent,
 ) -> Result<(), Uncoded>
-    requires site { IsSite site.now }
-    ensures { Emits (emitting.emit code.old.items place (leaves.store_of (seen_numbering site.now) (seen_site site.now) (map seen_name path.now) (seen_referent referent.now))) result code.new.items }
+    ensures { Emits (receiving.stored_code (seen_numbering site.now) (seen_site site.now) code.old.items place (subscripts (map seen_sub components.now))) result code.new.items }
 {
-    match referent {
-        Referent::Data {
-            declared,
-            stored,
-            shape,
-        } => {
-            let address = element_of(site, path, *declared, *stored, shape);
-            emit_two(code, place, address, Instr::Keep)
+    match components.split_first() {
+        None => emit_one(code, place, Instr::Keep),
+        Some(_) => Err(Uncoded::At(place)),
+    }
+}
+
+/// Adds the store of the value below an address, in a receiver with an array or without one.
+#[tactic(auto, using(hal_tree::proofs::MadeExpressions::made_unsubscripted, hal_tree::proofs::MadeExpressions::made_by_name, hal_tree::proofs::MadeExpressions::made_by_integer, hal_tree::proofs::MadeExpressions::made_by_parts))]
+fn emit_received(
+    subscript: &Subscript,
+    code: &mut Vec<Instr>,
+    site: &Site<'_>,
+    place: Place,
+    arrayed: bool,
+) -> Result<(), Uncoded>
+    ensures { Emits (receiving.received_code (seen_numbering site.now) (seen_site site.now) code.old.items place arrayed (seen_subscript subscript.now)) result code.new.items }
+{
+    match subscript {
+        Subscript::None => emit_one(code, place, Instr::Keep),
+        Subscript::Name { .. } => {
+            if arrayed {
+                emit_one(code, place, Instr::Keep)
+            } else {
+                Err(Uncoded::At(place))
+            }
         }
-        Referent::Constant(_) => Err(Uncoded::At(place)),
-        Referent::Event(_) => Err(Uncoded::At(place)),
-        Referent::Block(_) => Err(Uncoded::At(place)),
-        Referent::Nothing => Err(Uncoded::At(place)),
+        Subscript::Integer { .. } => {
+            if arrayed {
+                emit_one(code, place, Instr::Keep)
+            } else {
+                Err(Uncoded::At(place))
+            }
+        }
+        Subscript::Parts {
+            place: _,
+            copies: _,
+            arrays,
+            components,
+        } => {
+            if arrayed && are_none(arrays) {
+                emit_one(code, place, Instr::Keep)
+            } else {
+                emit_stored(components, code, site, place)
+            }
+        }
     }
 }
 
-/// Adds the store of the value on the stack in what a name means, to whose one element further names lead.
-fn emit_kept(
-    code: &mut Vec<Instr>,
-    site: &Site<'_>,
-    place: Place,
-    path: &[Identifier],
-    meant: Meant<'_>,
-) -> Result<(), Uncoded>
-    requires site { IsSite site.now }
-    ensures { Emits (emitting.emit code.old.items place (leaves.store_of (seen_numbering site.now) (seen_site site.now) (map seen_name path.now) (seen_meant meant.entry))) result code.new.items }
-{
-    match meant {
-        Meant::Declared(referent) => emit_store(code, site, place, path, referent),
-        Meant::Builtin(_) => Err(Uncoded::At(place)),
-        Meant::Nothing => Err(Uncoded::At(place)),
-    }
-}
-
-/// Adds the store of the value on the stack in a receiver; those with subscripts have no code yet (image document, Code that stands for a set).
-#[tactic(auto, using(hal_tree::proofs::MadeExpressions::made_reference, hal_tree::proofs::MadeExpressions::made_unsubscripted, hal_tree::proofs::MadeExpressions::made_by_name, hal_tree::proofs::MadeExpressions::made_by_integer, hal_tree::proofs::MadeExpressions::made_by_parts))]
+/// Adds the store of the value on the stack in a receiver (image document, Code that stands for a set).
+#[tactic(auto, using(hal_tree::proofs::MadeExpressions::made_reference))]
 pub(crate) fn emit_receiver(
     receiver: &Reference,
     code: &mut Vec<Instr>,
     site: &Site<'_>,
 ) -> Result<(), Uncoded>
     requires site { IsSite site.now }
-    ensures { Emits (codes.receiver_code (seen_numbering site.now) (seen_site site.now) code.old.items (seen_reference receiver.now)) result code.new.items }
+    ensures { Emits (receiving.receiver_code (seen_numbering site.now) (seen_site site.now) code.old.items (seen_reference receiver.now)) result code.new.items }
 {
-    match &receiver.subscript {
-        Subscript::None => emit_kept(
-            code,
-            site,
-            receiver.place,
-            &receiver.further,
-            referent(site, &receiver.name),
-        ),
-        Subscript::Name { .. } => Err(Uncoded::At(receiver.place)),
-        Subscript::Integer { .. } => Err(Uncoded::At(receiver.place)),
-        Subscript::Parts { .. } => Err(Uncoded::At(receiver.place)),
+    let Some(led) = led_by(&receiver.further, referent(site, &receiver.name)) else {
+        return Err(Uncoded::At(receiver.place));
+    };
+    emit_chosen(&receiver.subscript, code, site, receiver.place, led)?;
+    emit_received(
+        &receiver.subscript,
+        code,
+        site,
+        receiver.place,
+        is_arrayed(sizes_led(led)),
+    )
+}
+
+/// How many instructions a receiver has, 0 where it has no code.
+pub(crate) fn receiver_size(receiver: &Reference, site: &Site<'_>) -> Result<usize, AllocError>
+    requires site { IsSite site.now }
+    ensures { IfOk result (λ size. size ≡ receiving.receiver_size (seen_numbering site.now) (seen_site site.now) (seen_reference receiver.now)) }
+{
+    let mut code = Vec::new(site.alloc);
+    match emit_receiver(receiver, &mut code, site) {
+        Ok(()) => Ok(code.len()),
+        Err(Uncoded::At(_)) => Ok(0),
+        Err(Uncoded::Memory(error)) => Err(error),
     }
 }
 

@@ -1,7 +1,7 @@
 //! How many instructions statements have: so targets are known before the code that stands in between. An error comes where the code would have more
 //! than memory has room for.
 
-ghost use Rattle.std.specs.Prelude.{◌≡◌, ◌+◌, ◌*◌, IfOk, length, map};
+ghost use Rattle.std.specs.Prelude.{◌≡◌, ◌+◌, IfOk, length, map};
 ghost use Rattle.std.specs.Option.{option_map};
 ghost use Rattle.hal_tree.specs.Rows.{expressions, statements};
 ghost use Rattle.hal_tree.specs.SeenExpressions.{seen_expression, seen_reference};
@@ -12,6 +12,7 @@ ghost use Rattle.hal_gen_expr.specs.SeenSites.{seen_site, seen_numbering, IsSite
 ghost use Rattle.hal_gen.specs.Leaves as leaves;
 ghost use Rattle.hal_gen.specs.Sizes as sizes;
 
+use crate::receivers::receiver_size;
 use crate::returns::gives_text;
 use hal_gen_expr::{Site, Uncoded, emit_expression};
 use hal_tree::{Basic, Expr, Group, Guard, Identifier, Reference, Statement};
@@ -61,30 +62,26 @@ fn write_size(items: &[Expr], site: &Site<'_>) -> Result<usize, AllocError>
     sum(items_size(items, site)?, 1)
 }
 
-/// How many instructions there are, where there are three for each receiver.
-fn threefold(receivers: &[Reference]) -> Result<usize, AllocError>
-    ensures { IfOk result (λ size. size ≡ length receivers.now * 3) }
+/// The size of the receivers of READ, with INPUT before each.
+#[tactic(auto, unfolding(crate::specs::Sums::with_receivers))]
+fn reads_size(receivers: &[Reference], site: &Site<'_>) -> Result<usize, AllocError>
+    requires site { IsSite site.now }
+    ensures { IfOk result (λ size. size ≡ sizes.reads_size (seen_numbering site.now) (seen_site site.now) (map seen_reference receivers.now)) }
 {
-    match receivers.len().checked_mul(3) {
-        None => Err(AllocError),
-        Some(size) => Ok(size),
+    let mut size: usize = 0;
+    for receiver in receivers {
+        size = sum(size, sum(1, receiver_size(receiver, site)?)?)?;
     }
+    Ok(size)
 }
 
-/// The size of the receivers of READ.
-#[tactic(auto, using(crate::proofs::Counted::reads_counted))]
-fn reads_size(receivers: &[Reference]) -> Result<usize, AllocError>
-    ensures { IfOk result (λ size. size ≡ sizes.reads_size (map seen_reference receivers.now)) }
-{
-    threefold(receivers)
-}
-
-/// The size of the receivers of an assignment.
+/// The size of the receivers of an assignment, with a copy before all but the last one.
 #[tactic(auto, using(crate::proofs::Counted::receivers_counted))]
-fn receivers_size(receivers: &[Reference]) -> Result<usize, AllocError>
-    ensures { IfOk result (λ size. size ≡ sizes.receivers_size (map seen_reference receivers.now)) }
+fn receivers_size(receivers: &[Reference], site: &Site<'_>) -> Result<usize, AllocError>
+    requires site { IsSite site.now }
+    ensures { IfOk result (λ size. size ≡ sizes.receivers_size (seen_numbering site.now) (seen_site site.now) (map seen_reference receivers.now)) }
 {
-    Ok(threefold(receivers)?.saturating_sub(1))
+    Ok(reads_size(receivers, site)?.saturating_sub(1))
 }
 
 /// The size of an assignment.
@@ -94,9 +91,12 @@ fn assignment_size(
     site: &Site<'_>,
 ) -> Result<usize, AllocError>
     requires site { IsSite site.now }
-    ensures { IfOk result (λ size. size ≡ sizes.expression_size (seen_numbering site.now) (seen_site site.now) (seen_expression value.now) + sizes.receivers_size (map seen_reference receivers.now)) }
+    ensures { IfOk result (λ size. size ≡ sizes.expression_size (seen_numbering site.now) (seen_site site.now) (seen_expression value.now) + sizes.receivers_size (seen_numbering site.now) (seen_site site.now) (map seen_reference receivers.now)) }
 {
-    sum(expression_size(value, site)?, receivers_size(receivers)?)
+    sum(
+        expression_size(value, site)?,
+        receivers_size(receivers, site)?,
+    )
 }
 
 /// The size of the first test of a loop.
@@ -274,7 +274,7 @@ fn basic_size(tree: &Basic, site: &Site<'_>) -> Result<usize, AllocError>
             place: _,
             channel: _,
             receivers,
-        } => reads_size(receivers),
+        } => reads_size(receivers, site),
         Basic::Write {
             place: _,
             channel: _,

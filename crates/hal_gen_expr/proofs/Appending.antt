@@ -1,25 +1,29 @@
 -- Code goes by what stands before it in nothing but its place: so its length is its own.
-use Rattle.std.specs.Prelude.{◌≡◌, ℕ, ◌+◌, Bool, true, false, ◌||◌, List, [], ◌∷◌, ◌++◌, length, Option, Some, None, Ok, Err, if◌then◌else◌}
+use Rattle.std.specs.Prelude.{◌≡◌, ℕ, ◌+◌, Bool, true, false, not, pos, ◌&&◌, ◌||◌, List, [], ◌∷◌, ◌++◌, length, Option, Some, None, Ok, Err, if◌then◌else◌}
 use Rattle.std.specs.Option.{option_map}
 use Rattle.std.proofs.Common.{refl, sym, ap, ◌∙◌, append-nil, arith}
 use Rattle.hal_base.specs.declared.refusal.Place.{Place}
 use Rattle.hal_grammar.specs.Leaves.{Naming, Sign, Plus, Minus}
-use Rattle.hal_grammar.specs.Expressions.{Expression, Or, And, Compare, Cat, Sum, Product, Power, Not, Literal, Decimal, Referred, Called, Convert, Parenthesis, Expressions, NoExpressions, MoreExpressions, Terms, NoTerms, MoreTerms, Reference, Refers, Unsubscripted, ByName, ByInteger, ByParts}
+use Rattle.hal_grammar.specs.Expressions.{Expression, Or, And, Compare, Cat, Sum, Product, Power, Not, Literal, Decimal, Referred, Called, Convert, Parenthesis, Expressions, NoExpressions, MoreExpressions, Terms, NoTerms, MoreTerms, Reference, Refers, Subscript, Unsubscripted, ByName, ByInteger, ByParts, Subscripts, NoSubscripts, MoreSubscripts, Sub, Every, Range, Portion, One as OnePlace, Position, FromBeginning, FromEnd}
 use Rattle.hal_operations.specs.declared.operation.Op2.{Op2}
 use Rattle.hal_operations.specs.declared.operation.Op1.TheVariants as op1
 use Rattle.hal_operations.specs.declared.operation.Op2.TheVariants as op2
 use Rattle.hal_constants.specs.declared.operation.Operation.{Operation}
 use Rattle.hal_constants.specs.declared.operation.Operation.TheVariants as operation
 use Rattle.hal_constants.specs.Naming.{operation_of}
+use Rattle.hal_constants.specs.Constants.{is_none}
 use Rattle.hal_meaning.specs.Calls.{parameter_named}
-use Rattle.hal_meaning.specs.Expressions.{is_condition, are_conditions, operation_of_relation, operation_of_sign, operation_of_conversion, is_size, inputs_at}
-use Rattle.hal_meaning.specs.Variables.{is_whole}
+use Rattle.hal_meaning.specs.Expressions.{is_condition, are_conditions, operation_of_relation, operation_of_sign, operation_of_conversion, is_size, inputs_at, sizes_named}
+use Rattle.hal_meaning.specs.Variables.{is_arrayed, is_whole}
 use Rattle.hal_code.specs.declared.instr.Instr.{Instr}
-use Rattle.hal_agreement.specs.PlacedExpressions.{two, stay}
+use Rattle.hal_code.specs.declared.instr.Instr.TheVariants as instr
+use Rattle.hal_code.specs.declared.operand.Places.TheVariants as places
+use Rattle.hal_agreement.specs.PlacedExpressions.{two, stay, picks, places_of}
 use Rattle.hal_agreement.specs.Sites.{Site}
 use Rattle.hal_gen_expr.specs.Emitting.{Emitted, onwards, emit, length_of}
-use Rattle.hal_gen_expr.specs.ExpressionCode.{where_they_stay, literal_instr, exponent_instr, power_of, behind_arguments, emit_one, one, sign_code, reference_code, called_code, expression_code, folded_code, terms_code, built_code, arguments_code}
-use Rattle.hal_gen_expr.specs.Leaves.{value_of, call_of}
+use Rattle.hal_gen_expr.specs.ExpressionCode.{where_they_stay, literal_instr, exponent_instr, power_of, behind_arguments, emit_one, emit_any, one, sign_code, integer_instr, name_code, integer_code, cell_code, place_code, array_code, subscripted_code, reference_code, chosen_code, copies_code, indexes_code, index_code, position_code, component_code, parts_code, part_code, called_code, expression_code, folded_code, terms_code, built_code, arguments_code}
+use Rattle.hal_gen_expr.specs.Led.{Led, led_to, sizes_led, cell_of}
+use Rattle.hal_gen_expr.specs.Leaves.{is_nil, element_of, value_of, call_of}
 use Rattle.hal_gen_expr.specs.Numbering.{Numbering}
 use Rattle.hal_referents.specs.Referents.{Referent, DataOf, ConstantOf, EventOf, BlockOf, BuiltinOf, Unmeant}
 use Rattle.hal_gen_expr.specs.Referents.{referent}
@@ -47,6 +51,10 @@ unless_behind : (b : Bool) (front : List Instr) (r there : Emitted) (place : Pla
 unless_behind true front r there place is = refl
 unless_behind false front r there place is = is
 
+both_behind : (b : Bool) (front : List Instr) (r other r_there other_there : Emitted) → r_there ≡ behind front r → other_there ≡ behind front other → (if b then r_there else other_there) ≡ behind front (if b then r else other)
+both_behind true front r other r_there other_there is late = is
+both_behind false front r other r_there other_there is late = late
+
 pub call_behind : (o : Option (List Instr)) (front : List Instr) (r there : Emitted) (place : Place) → there ≡ behind front r
     → behind_arguments place there o ≡ behind front (behind_arguments place r o)
 call_behind None front r there place is = refl
@@ -62,11 +70,46 @@ module _ (n : Numbering) (site : Site) (front : List Instr) where
   sign_behind (Some Plus) before place = refl
   sign_behind None before place = refl
 
-  reference_behind : (reference : Reference) (before : List Instr) → reference_code n site (front ++ before) reference ≡ behind front (reference_code n site before reference)
-  reference_behind (Refers place name path Unsubscripted) before = emit_behind front before place (value_of n site path (referent site name))
-  reference_behind (Refers place name path (ByName at name_there)) before = refl
-  reference_behind (Refers place name path (ByInteger at mark number)) before = refl
-  reference_behind (Refers place name path (ByParts at copies arrays components)) before = refl
+  any_behind : (before : List Instr) (place : Place) (i : Option Instr) → emit_any (front ++ before) place i ≡ behind front (emit_any before place i)
+  any_behind before place i = emit_behind front before place (option_map (λ one. one ∷ []) i)
+
+  one_behind : (before : List Instr) (place : Place) (i : Instr) → emit_one (front ++ before) place i ≡ behind front (emit_one before place i)
+  one_behind before place i = emit_behind front before place (Some (i ∷ []))
+
+  name_behind : (name : Naming) (before : List Instr) → name_code n site (front ++ before) name ≡ behind front (name_code n site before name)
+  name_behind name before = emit_behind front before name.place (value_of n site [] (referent site name.name))
+
+  cell_behind : (spoken : Bool) (l : Led) (before : List Instr) (place : Place) → cell_code n site (front ++ before) place spoken l ≡ behind front (cell_code n site before place spoken l)
+  cell_behind spoken l before place = any_behind before place (cell_of n site spoken l)
+
+  place_behind : (sizes : List ℕ) (l : Led) (before : List Instr) (place : Place) (r there : Emitted) → there ≡ behind front r → place_code n site (front ++ before) place there l sizes ≡ behind front (place_code n site before place r l sizes)
+  place_behind [] l before place r there is = cell_behind false l before place
+  place_behind (size ∷ sizes) l before place r there is =
+      if_behind (is_nil sizes) front (onwards r (λ middle. cell_code n site middle place false l)) _ place (onwards_behind front r there _ _ is (λ code. cell_behind false l code place))
+
+  array_behind : (b c : Bool) (unmarked marked none unmarked_there marked_there none_there : Emitted) → unmarked_there ≡ behind front unmarked → marked_there ≡ behind front marked → none_there ≡ behind front none
+      → array_code b c unmarked_there marked_there none_there ≡ behind front (array_code b c unmarked marked none)
+  array_behind true true unmarked marked none unmarked_there marked_there none_there u m o = u
+  array_behind true false unmarked marked none unmarked_there marked_there none_there u m o = o
+  array_behind false c unmarked marked none unmarked_there marked_there none_there u m o = m
+
+  valued_behind : (r : Referent) (path : List Naming) (before : List Instr) (place : Place) (component : Bool → List Instr → Emitted)
+      → ((arrayed : Bool) (code : List Instr) → component arrayed (front ++ code) ≡ behind front (component arrayed code))
+      → onwards (emit (front ++ before) place (value_of n site path r)) (λ middle. component false middle) ≡ behind front (onwards (emit before place (value_of n site path r)) (λ middle. component false middle))
+  valued_behind r path before place component c =
+      onwards_behind front (emit before place (value_of n site path r)) _ (λ middle. component false middle) (λ middle. component false middle) (emit_behind front before place (value_of n site path r)) (λ code. c false code)
+
+  subscripted_behind : (r : Referent) (path : List Naming) (before : List Instr) (place : Place) (address address_there : Led → Emitted) (component : Bool → List Instr → Emitted)
+      → ((l : Led) → address_there l ≡ behind front (address l)) → ((arrayed : Bool) (code : List Instr) → component arrayed (front ++ code) ≡ behind front (component arrayed code))
+      → subscripted_code n site (front ++ before) place path address_there component r ≡ behind front (subscripted_code n site before place path address component r)
+  subscripted_behind (DataOf k kept shape) path before place address address_there component a c =
+      onwards_behind front (address (led_to path k kept shape)) _ _ _ (a (led_to path k kept shape))
+      (λ code. onwards_behind front (emit_one code place instr.Fetch) _ (λ late. component (is_arrayed (sizes_named path shape)) late) (λ late. component (is_arrayed (sizes_named path shape)) late) (one_behind code place instr.Fetch) (λ late. c (is_arrayed (sizes_named path shape)) late))
+  subscripted_behind (ConstantOf v) path before place address address_there component a c = valued_behind (ConstantOf v) path before place component c
+  subscripted_behind (EventOf e) path before place address address_there component a c = valued_behind (EventOf e) path before place component c
+  subscripted_behind (BlockOf unit) path before place address address_there component a c = valued_behind (BlockOf unit) path before place component c
+  subscripted_behind (BuiltinOf b) path before place address address_there component a c = valued_behind (BuiltinOf b) path before place component c
+  subscripted_behind Unmeant path before place address address_there component a c = refl
 
   called_behind : (r : Referent) (before : List Instr) (place : Place) (folded : List Instr → Emitted) (built built_there : Operation → Emitted) (arguments arguments_there : ℕ → Emitted)
       → ((code : List Instr) → folded (front ++ code) ≡ behind front (folded code)) → ((op : Operation) → built_there op ≡ behind front (built op)) → ((unit : ℕ) → arguments_there unit ≡ behind front (arguments unit))
@@ -147,6 +190,80 @@ module _ (n : Numbering) (site : Site) (front : List Instr) where
     arguments_behind NoExpressions unit (name ∷ names) place before = refl
     arguments_behind (MoreExpressions first others) unit [] place before = refl
 
+    reference_behind : (reference : Reference) (before : List Instr) → reference_code n site (front ++ before) reference ≡ behind front (reference_code n site before reference)
+    reference_behind (Refers place name path Unsubscripted) before = emit_behind front before place (value_of n site path (referent site name))
+    reference_behind (Refers place name path (ByName there one)) before =
+        subscripted_behind (referent site name) path before place (λ l. chosen_code n site before place (ByName there one) l) (λ l. chosen_code n site (front ++ before) place (ByName there one) l)
+        (λ arrayed middle. component_code n site middle place arrayed (ByName there one)) (λ l. chosen_behind (ByName there one) l place before) (λ arrayed code. component_behind (ByName there one) arrayed place code)
+    reference_behind (Refers place name path (ByInteger there mark number)) before =
+        subscripted_behind (referent site name) path before place (λ l. chosen_code n site before place (ByInteger there mark number) l) (λ l. chosen_code n site (front ++ before) place (ByInteger there mark number) l)
+        (λ arrayed middle. component_code n site middle place arrayed (ByInteger there mark number)) (λ l. chosen_behind (ByInteger there mark number) l place before) (λ arrayed code. component_behind (ByInteger there mark number) arrayed place code)
+    reference_behind (Refers place name path (ByParts there copies arrays components)) before =
+        subscripted_behind (referent site name) path before place (λ l. chosen_code n site before place (ByParts there copies arrays components) l) (λ l. chosen_code n site (front ++ before) place (ByParts there copies arrays components) l)
+        (λ arrayed middle. component_code n site middle place arrayed (ByParts there copies arrays components)) (λ l. chosen_behind (ByParts there copies arrays components) l place before)
+        (λ arrayed code. component_behind (ByParts there copies arrays components) arrayed place code)
+
+    pub chosen_behind : (subscript : Subscript) (l : Led) (place : Place) (before : List Instr) → chosen_code n site (front ++ before) place subscript l ≡ behind front (chosen_code n site before place subscript l)
+    chosen_behind Unsubscripted l place before = any_behind before place (element_of n site l.path l.declared l.stored l.shape)
+    chosen_behind (ByName there name) l place before = place_behind (sizes_led l) l before place (name_code n site before name) (name_code n site (front ++ before) name) (name_behind name before)
+    chosen_behind (ByInteger there mark number) l place before =
+        place_behind (sizes_led l) l before place (integer_code before place number) (integer_code (front ++ before) place number) (any_behind before place (integer_instr number))
+    chosen_behind (ByParts there copies arrays components) l place before =
+        onwards_behind front (copies_code n site before place l.shape.copies copies) _ _ _ (copies_behind copies l.shape.copies place before)
+        (λ code. onwards_behind front
+        (array_code (is_none arrays) (is_arrayed (sizes_led l)) (indexes_code n site code place (sizes_led l) components) (indexes_code n site code place (sizes_led l) arrays) (Ok code)) _
+        (λ last. cell_code n site last place (not (is_none copies)) l) (λ last. cell_code n site last place (not (is_none copies)) l)
+        (array_behind (is_none arrays) (is_arrayed (sizes_led l)) _ _ _ _ _ _ (indexes_behind components (sizes_led l) place code) (indexes_behind arrays (sizes_led l) place code) refl)
+        (λ last. cell_behind (not (is_none copies)) l last place))
+
+    copies_behind : (list : Subscripts) (count : Option ℕ) (place : Place) (before : List Instr) → copies_code n site (front ++ before) place count list ≡ behind front (copies_code n site before place count list)
+    copies_behind NoSubscripts count place before = refl
+    copies_behind (MoreSubscripts first others) (Some count) place before = if_behind (is_none others) front _ _ place (index_behind first count place before)
+    copies_behind (MoreSubscripts first others) None place before = refl
+
+    indexes_behind : (list : Subscripts) (sizes : List ℕ) (place : Place) (before : List Instr) → indexes_code n site (front ++ before) place sizes list ≡ behind front (indexes_code n site before place sizes list)
+    indexes_behind NoSubscripts [] place before = refl
+    indexes_behind (MoreSubscripts first others) (size ∷ sizes) place before =
+        onwards_behind front (index_code n site before place size first) _ (λ middle. indexes_code n site middle place sizes others) (λ middle. indexes_code n site middle place sizes others) (index_behind first size place before)
+        (λ code. indexes_behind others sizes place code)
+    indexes_behind NoSubscripts (size ∷ sizes) place before = refl
+    indexes_behind (MoreSubscripts first others) [] place before = refl
+
+    index_behind : (first : Sub) (size : ℕ) (place : Place) (before : List Instr) → index_code n site (front ++ before) place size first ≡ behind front (index_code n site before place size first)
+    index_behind (OnePlace one) size place before = position_behind one (instr.Int (pos size)) place before
+    index_behind (Every there) size place before = refl
+    index_behind (Range first last) size place before = refl
+    index_behind (Portion count first) size place before = refl
+
+    position_behind : (one : Position) (ends : Instr) (place : Place) (before : List Instr) → position_code n site (front ++ before) place ends one ≡ behind front (position_code n site before place ends one)
+    position_behind (FromBeginning tree) ends place before = expression_behind tree before
+    position_behind (FromEnd there terms) ends place before =
+        onwards_behind front (emit_one before place ends) _ (λ middle. terms_code n site middle terms) (λ middle. terms_code n site middle terms) (one_behind before place ends) (λ code. terms_behind terms code)
+
+    component_behind : (subscript : Subscript) (arrayed : Bool) (place : Place) (before : List Instr) → component_code n site (front ++ before) place arrayed subscript ≡ behind front (component_code n site before place arrayed subscript)
+    component_behind Unsubscripted arrayed place before = refl
+    component_behind (ByName there name) true place before = refl
+    component_behind (ByName there name) false place before =
+        onwards_behind front (name_code n site before name) _ _ _ (name_behind name before) (λ code. one_behind code place (picks places.One))
+    component_behind (ByInteger there mark number) true place before = refl
+    component_behind (ByInteger there mark number) false place before =
+        onwards_behind front (integer_code before place number) _ _ _ (any_behind before place (integer_instr number)) (λ code. one_behind code place (picks places.One))
+    component_behind (ByParts there copies arrays components) arrayed place before = both_behind (arrayed && is_none arrays) front (Ok before) (parts_code n site before place components) _ _ refl (parts_behind components place before)
+
+    parts_behind : (list : Subscripts) (place : Place) (before : List Instr) → parts_code n site (front ++ before) place list ≡ behind front (parts_code n site before place list)
+    parts_behind NoSubscripts place before = refl
+    parts_behind (MoreSubscripts first others) place before =
+        if_behind (is_none others) front _ _ place
+        (onwards_behind front (part_code n site before place first) _ _ _ (part_behind first place before) (λ code. one_behind code place (picks (places_of first))))
+
+    pub part_behind : (one : Sub) (place : Place) (before : List Instr) → part_code n site (front ++ before) place one ≡ behind front (part_code n site before place one)
+    part_behind (Every there) place before = emit_behind front before place (Some (instr.Int (pos 1) ∷ instr.Len 1 ∷ []))
+    part_behind (OnePlace one) place before = position_behind one (instr.Len 0) place before
+    part_behind (Range first last) place before =
+        onwards_behind front (position_code n site before place (instr.Len 0) first) _ _ _ (position_behind first (instr.Len 0) place before) (λ code. position_behind last (instr.Len 1) place code)
+    part_behind (Portion count first) place before =
+        onwards_behind front (expression_code n site before count) _ _ _ (expression_behind count before) (λ code. position_behind first (instr.Len 1) place code)
+
 length_both : (before is : List Instr) → length (before ++ is) ≡ length before + length is
 length_both [] is = omega arith
 length_both (i ∷ before) is = omega (arith, length_both before is)
@@ -171,3 +288,10 @@ call_grows n site function unit trees names place before after is =
     (behind_arguments place (arguments_code n site (before ++ []) place unit names trees) (call_of n site function unit)) before after
     (call_behind (call_of n site function unit) before (arguments_code n site [] place unit names trees) (arguments_code n site (before ++ []) place unit names trees) place (arguments_behind n site before trees unit names place []))
     (ap (λ l. behind_arguments place (arguments_code n site l place unit names trees) (call_of n site function unit)) (append-nil before) ∙ is)
+
+-- the code of the address that a subscript chooses
+pub chosen_grows : (n : Numbering) (site : Site) (subscript : Subscript) (l : Led) (place : Place) (before after : List Instr) → chosen_code n site before place subscript l ≡ Ok after
+    → length after ≡ length before + length_of (chosen_code n site [] place subscript l)
+chosen_grows n site subscript l place before after is =
+    grows_by (chosen_code n site [] place subscript l) (chosen_code n site (before ++ []) place subscript l) before after (chosen_behind n site before subscript l place [])
+    (ap (λ list. chosen_code n site list place subscript l) (append-nil before) ∙ is)

@@ -1,5 +1,5 @@
 -- Numbers that are counted up to a limit, and the limit of numbers.
-use Rattle.std.specs.Prelude.{ℕ, ◌+◌, min, not, Bool, true, false, ◌&&◌, List, Option, Some, None, if◌then◌else◌}
+use Rattle.std.specs.Prelude.{ℕ, ◌+◌, min, not, Bool, true, false, ◌&&◌, List, [], Option, Some, None, if◌then◌else◌}
 use Rattle.std.specs.Option.{option_map, option_and_then, is_some}
 use Rattle.std.proofs.Common.{◌≡◌, ◌<◌, ◌≤◌, refl, sym, ap, ◌∙◌, arith, ⊎_elim, le-ltb}
 use Rattle.std.proofs.lemmas.Bool.{cases_lt}
@@ -8,6 +8,7 @@ use Rattle.hal_grammar.specs.Leaves.{Naming}
 use Rattle.hal_code.specs.declared.instr.Instr.{Instr}
 use Rattle.hal_code.specs.declared.instr.Instr.TheVariants as instr
 use Rattle.hal_code.specs.declared.row.Base.TheVariants as base
+use Rattle.hal_code.specs.declared.row.Dimension.{Dimension}
 use Rattle.hal_meaning.specs.Elements.{Shape, chosen, offset}
 use Rattle.hal_meaning.specs.Places.{Storing, InCells, InPlaces, ByReference, Unstored}
 use Rattle.hal_meaning.specs.ReportNames.{first_cell, first_place}
@@ -15,7 +16,7 @@ use Rattle.hal_meaning.specs.Variables.{kind_of_first}
 use Rattle.hal_agreement.specs.Sites.{Site}
 use Rattle.hal_gen_expr.specs.declared.elements.Element.{Element}
 use Rattle.hal_gen_expr.specs.Elements.{counted, an_element, element_in}
-use Rattle.hal_gen_expr.specs.Leaves.{is_one, address_of, element_of}
+use Rattle.hal_gen_expr.specs.Leaves.{is_one, settled_for, address_of, element_of}
 use Rattle.hal_gen_expr.specs.Numbering.{Numbering, below, most, base_of, view_number}
 
 -- no number behind one that is too large
@@ -39,19 +40,21 @@ base_capped site k n ByReference =
     ap (λ o. option_and_then (λ at. option_map (base.Through at) o) (below most (first_place site.places k))) (alone_capped n)
 base_capped site k n Unstored = refl
 
-address_capped : (n : Numbering) (site : Site) (k : ℕ) (stored : Storing) (before : ℕ) (kind : Kind) → address_of n site k stored (min before counted) kind ≡ address_of n site k stored before kind
-address_capped n site k stored before kind = ap (option_and_then (λ from. option_map instr.Cell (view_number n kind from))) (base_capped site k before stored)
+pub address_capped : (n : Numbering) (site : Site) (rows : List Dimension) (k : ℕ) (stored : Storing) (before : ℕ) (kind : Kind)
+    → address_of n site rows k stored (min before counted) kind ≡ address_of n site rows k stored before kind
+address_capped n site rows k stored before kind =
+    ap (λ o. option_and_then (λ from. option_map instr.Cell (view_number n rows kind from)) (option_and_then (settled_for rows) o)) (base_capped site k before stored)
 
 -- the address of an element that may be there
 abbrev pub address_in : Numbering → Site → ℕ → Storing → Option Element → Option Instr
 address_in n site k stored None = None
-address_in n site k stored (Some one) = address_of n site k stored one.before one.kind
+address_in n site k stored (Some one) = address_of n site [] k stored one.before one.kind
 
 given_by : (n : Numbering) (site : Site) (k : ℕ) (stored : Storing) (before : ℕ) (kind : Kind) (b c : Bool)
-    → (if not b && c then address_of n site k stored before kind else None)
+    → (if not b && c then address_of n site [] k stored before kind else None)
     ≡ (if b then None else address_in n site k stored (if c then Some (an_element (min before counted) kind) else None))
 given_by n site k stored before kind true c = refl
-given_by n site k stored before kind false true = sym (address_capped n site k stored before kind)
+given_by n site k stored before kind false true = sym (address_capped n site [] k stored before kind)
 given_by n site k stored before kind false false = refl
 
 pub element_given : (n : Numbering) (site : Site) (path : List Naming) (k : ℕ) (stored : Storing) (shape : Shape)

@@ -5,8 +5,9 @@ use Rattle.std.proofs.lemmas.List.Sums.{sum_by-cons}
 use Rattle.hal_grammar.specs.Leaves.{Naming}
 use Rattle.hal_meaning.specs.Elements.{Component, count, copy_size, leads, before, chosen, offset}
 use Rattle.hal_meaning.specs.Variables.{kind_of_first}
+use Rattle.hal_values.specs.declared.value.Kind.TheVariants as kind
 use Rattle.hal_gen_expr.specs.declared.elements.Element.{Element}
-use Rattle.hal_gen_expr.specs.Elements.{counted, an_element, element_in, leads_to_none, sole, element_from}
+use Rattle.hal_gen_expr.specs.Elements.{counted, an_element, element_in, first_in, leads_to_none, sole, element_from, first_from}
 use Rattle.hal_gen_expr.specs.Leaves.{is_nil, is_one}
 
 -- names lead to none where none is chosen
@@ -62,3 +63,24 @@ pub element_chosen : (path : List Naming) (cs : List Component) → element_from
 element_chosen path cs =
     ap (λ m. element_from path m cs) zero_least ∙ chosen_from path cs 0
     ∙ ap (λ m. if is_one (chosen path cs) then Some (an_element (min m counted) (kind_of_first (chosen path cs))) else None) (nothing_before (offset path cs))
+
+-- the same of the first one, which is one of several where there are dimensions
+abbrev first_behind : ℕ → List Naming → List Component → Element
+first_behind n path cs = an_element (min (n + offset path cs) counted) (kind_of_first (chosen path cs))
+
+first_step : (b : Bool) (path : List Naming) (n : ℕ) (c : Component) (cs : List Component) → ((m : ℕ) → first_from path (min m counted) cs ≡ first_behind m path cs)
+    → (if b then an_element (min n counted) c.kind else first_from path (min (min n counted + min (count c) counted) counted) cs)
+    ≡ an_element (min (n + copy_size (if b then [] else c ∷ before path cs)) counted) (kind_of_first (if b then c ∷ chosen path cs else chosen path cs))
+first_step true path n c cs others = ap (λ m. an_element (min m counted) c.kind) (no_more n)
+first_step false path n c cs others =
+    ap (λ m. first_from path m cs) (further n (count c)) ∙ others (n + count c)
+    ∙ ap (λ m. an_element (min m counted) (kind_of_first (chosen path cs))) (further_on n (count c) (copy_size (before path cs)) ∙ ap (λ m. n + m) (sym (sum_by-cons count c (before path cs))))
+
+first_chosen_from : (path : List Naming) (cs : List Component) (n : ℕ) → first_from path (min n counted) cs ≡ first_behind n path cs
+unfolding first_from
+first_chosen_from path [] n = ap (λ m. an_element (min m counted) kind.Double) (no_more n)
+first_chosen_from path (c ∷ cs) n = first_step (leads path c.path) path n c cs (λ m. first_chosen_from path cs m)
+
+pub first_chosen : (path : List Naming) (cs : List Component) → first_from path 0 cs ≡ first_in path cs
+first_chosen path cs =
+    ap (λ m. first_from path m cs) zero_least ∙ first_chosen_from path cs 0 ∙ ap (λ m. an_element (min m counted) (kind_of_first (chosen path cs))) (nothing_before (offset path cs))

@@ -1,35 +1,41 @@
 -- The code of an expression stands where it was put.
-use Rattle.std.specs.Prelude.{◌≡◌, ℕ, pos, nat_le, length, Bool, true, false, ◌||◌, List, [], ◌∷◌, ◌++◌, Option, Some, None, Ok, Err, if◌then◌else◌}
+use Rattle.std.specs.Prelude.{◌≡◌, ℕ, suc, pos, nat_le, length, Bool, true, false, not, ◌&&◌, ◌||◌, List, [], ◌∷◌, ◌++◌, Option, Some, None, Ok, Err, if◌then◌else◌}
 use Rattle.std.specs.Option.{option_map}
 use Rattle.std.proofs.Common.{refl, sym, ap, ◌∙◌, subst}
 use Rattle.hal_base.specs.declared.refusal.Place.{Place}
 use Rattle.hal_grammar.specs.Leaves.{Naming, Sign, Plus, Minus, LiteralValue, Integer, Text, Bits, True, False, On, Off}
-use Rattle.hal_grammar.specs.Expressions.{Expression, Or, And, Compare, Cat, Sum, Product, Power, Not, Literal, Decimal, Referred, Called, Convert, Parenthesis, Expressions, NoExpressions, MoreExpressions, Terms, NoTerms, MoreTerms, Reference, Refers, Unsubscripted, ByName, ByInteger, ByParts}
+use Rattle.hal_grammar.specs.Expressions.{Expression, Or, And, Compare, Cat, Sum, Product, Power, Not, Literal, Decimal, Referred, Called, Convert, Parenthesis, Expressions, NoExpressions, MoreExpressions, Terms, NoTerms, MoreTerms, Reference, Refers, Subscript, Unsubscripted, ByName, ByInteger, ByParts, Subscripts, NoSubscripts, MoreSubscripts, Sub, Every, Range, Portion, One as OnePlace, Position, FromBeginning, FromEnd}
 use Rattle.hal_operations.specs.declared.operation.Op2.{Op2}
 use Rattle.hal_operations.specs.declared.operation.Op1.TheVariants as op1
 use Rattle.hal_operations.specs.declared.operation.Op2.TheVariants as op2
 use Rattle.hal_constants.specs.declared.operation.Operation.{Operation}
 use Rattle.hal_constants.specs.declared.operation.Operation.TheVariants as operation
 use Rattle.hal_constants.specs.Naming.{operation_of}
-use Rattle.hal_states.specs.Spots.{Held}
+use Rattle.hal_constants.specs.Constants.{is_none}
+use Rattle.hal_values.specs.declared.value.Kind.{Kind}
+use Rattle.hal_states.specs.Spots.{Spot, Held, further}
 use Rattle.hal_meaning.specs.Calls.{parameter_named}
-use Rattle.hal_meaning.specs.Expressions.{literal_value, is_condition, are_conditions, exponent_of, operation_of_relation, operation_of_sign, operation_of_conversion, is_size, inputs_at}
-use Rattle.hal_meaning.specs.Variables.{is_whole}
+use Rattle.hal_meaning.specs.Elements.{Shape, chosen, offset, product, copy_size}
+use Rattle.hal_meaning.specs.Expressions.{literal_value, is_condition, are_conditions, exponent_of, operation_of_relation, operation_of_sign, operation_of_conversion, is_size, inputs_at, sizes_named, copies_of, spoken}
+use Rattle.hal_meaning.specs.Places.{Storing}
+use Rattle.hal_meaning.specs.Variables.{is_arrayed, is_whole, Dimension, dimension, dimensions_of, kind_of_first, name_meant, spot_of}
 use Rattle.hal_code.specs.declared.instr.Instr.{Instr}
 use Rattle.hal_code.specs.declared.instr.Instr.TheVariants as instr
+use Rattle.hal_code.specs.declared.operand.Places.TheVariants as places
 use Rattle.hal_agreement.specs.Codes.{Code}
-use Rattle.hal_agreement.specs.PlacedExpressions.{pushes, two, stay, ValueAt, NameAt, SignAt, ReferenceAt, CalledAt, ExpressionAt, FoldedAt, TermsAt, BuiltAt, ArgumentsAt}
-use Rattle.hal_agreement.specs.Sites.{Site}
+use Rattle.hal_agreement.specs.PlacedExpressions.{One, BehindAt, PlaceAt, ArrayAt, EitherAt, SubscriptedAt, picks, places_of, ChosenAt, IndexesAt, PositionAt, ComponentAt, PartsAt, PartAt, pushes, two, stay, ValueAt, NameAt, SignAt, ReferenceAt, CalledAt, ExpressionAt, FoldedAt, TermsAt, BuiltAt, ArgumentsAt}
+use Rattle.hal_agreement.specs.Sites.{Site, here_at}
 use Rattle.hal_gen_expr.specs.Emitting.{Emitted, onwards, emit}
-use Rattle.hal_gen_expr.specs.ExpressionCode.{one, literal_instr, raised_to, exponent_instr, power_of, behind_arguments, sign_code, reference_code, called_code, expression_code, folded_code, terms_code, built_code, arguments_code}
-use Rattle.hal_gen_expr.specs.Leaves.{value_of, call_of}
+use Rattle.hal_gen_expr.specs.ExpressionCode.{emit_one, emit_any, integer_instr, name_code, integer_code, cell_code, place_code, array_code, subscripted_code, chosen_code, copies_code, indexes_code, index_code, position_code, component_code, parts_code, part_code, one, literal_instr, raised_to, exponent_instr, power_of, behind_arguments, sign_code, reference_code, called_code, expression_code, folded_code, terms_code, built_code, arguments_code}
+use Rattle.hal_gen_expr.specs.Led.{Led, led_to, sizes_led, copies_led, dimensions_led, cell_of}
+use Rattle.hal_gen_expr.specs.Leaves.{is_nil, element_of, value_of, call_of}
 use Rattle.hal_gen_expr.specs.Numbering.{Numbering}
 use Rattle.hal_referents.specs.Referents.{Referent, DataOf, ConstantOf, EventOf, BlockOf, BuiltinOf, Unmeant}
 use Rattle.hal_gen_expr.specs.Referents.{referent}
 use Rattle.hal_gen_expr.specs.Standing.{Begins, IsNumbered, Placed}
 use Rattle.hal_gen_expr.proofs.Growing.{weaker, one_placed, none_placed, first_placed, both_placed, emitted}
-use Rattle.hal_gen_expr.proofs.Numbered.{mapped_is}
-use Rattle.hal_gen_expr.proofs.Named.{two_placed, call_placed, value_placed}
+use Rattle.hal_gen_expr.proofs.Numbered.{mapped_is, behind_at}
+use Rattle.hal_gen_expr.proofs.Named.{nil_is, two_placed, element_at, call_placed, value_placed}
 use Rattle.hal_gen_expr.proofs.Referring.{meaning_of, name_means}
 
 pub ok_is : (before after : List Instr) → onwards (Ok before) Ok ≡ Ok after → before ≡ after
@@ -95,6 +101,32 @@ pub call_given : (arguments : Emitted) (o : Option (List Instr)) (place : Place)
 call_given arguments None place after there = absurd (cc)
 call_given arguments (Some is) place after there = (is, refl, there)
 
+-- an instruction that is there
+any_given : (before : List Instr) (place : Place) (o : Option Instr) (after : List Instr) → emit_any before place o ≡ Ok after → (i : Instr) × (o ≡ Some i) × (before ++ (i ∷ []) ≡ after)
+any_given before place o after is =
+    let given = emitted before place (option_map (λ i. i ∷ []) o) after is in
+    let one = mapped_is (λ i. i ∷ []) o given.0 given.1 in (one.0, one.1, ap (λ l. before ++ l) one.2 ∙ given.2)
+
+-- subscripts that are none, and the dimensions of which they speak
+none_is : (list : Subscripts) → is_none list ≡ true → list ≡ NoSubscripts
+unfolding is_none
+none_is NoSubscripts is = refl
+none_is (MoreSubscripts first others) is = absurd (cc)
+
+spoken_is : (list : Subscripts) (shape : Shape) → copies_led (not (is_none list)) shape ≡ spoken list (copies_of shape)
+unfolding is_none
+spoken_is NoSubscripts shape = refl
+spoken_is (MoreSubscripts first others) shape = refl
+
+-- the dimension of copies, where there are any
+abbrev copies_in : ℕ → Option ℕ → List Dimension
+copies_in stride count = elim count [ None ↦ [] | Some m ↦ dimension m stride ∷ [] ]
+
+-- a subscript that chooses one place of so many
+abbrev IndexAt : Code → Site → ℕ → Sub → ℕ → ℕ → Type 0
+IndexAt code site size (OnePlace one) from to = PositionAt code site (instr.Int (pos size)) one from to
+IndexAt code site size other from to = ⊥
+
 module _ (code : Code) (n : Numbering) (site : Site) (numbered : IsNumbered code n) where
   sign_at : (opening : Option Sign) (place : Place) (before after : List Instr) → sign_code before place opening ≡ Ok after → Begins after code.image.code
       → Placed code before after (λ from to. SignAt code opening from to)
@@ -110,12 +142,102 @@ module _ (code : Code) (n : Numbering) (site : Site) (numbered : IsNumbered code
       weaker code before after (λ from to at. λ held. subst (λ m. ValueAt code site path held m from to) (sym (name_means site held name)) (at held))
       (value_placed code n site numbered path (referent site name) before after given.0 given.1 given.2 begins)
 
-  reference_at : (reference : Reference) (before after : List Instr) → reference_code n site before reference ≡ Ok after → Begins after code.image.code
-      → Placed code before after (λ from to. ReferenceAt code site reference from to)
-  reference_at (Refers place name path Unsubscripted) before after is begins = name_at path name place before after is begins
-  reference_at (Refers place name path (ByName at one)) before after is begins = absurd (cc)
-  reference_at (Refers place name path (ByInteger at mark number)) before after is begins = absurd (cc)
-  reference_at (Refers place name path (ByParts at copies arrays components)) before after is begins = absurd (cc)
+  -- an integer in a subscript
+  integer_at : (number : ℕ) (place : Place) (before after : List Instr) → integer_code before place number ≡ Ok after → Begins after code.image.code
+      → Placed code before after (λ from to. One code from (instr.Int (pos number)) to)
+  integer_at number place before after is begins =
+      let given = any_given before place (integer_instr number) after is in
+      one_placed code before after (instr.Int (pos number)) (ap (λ i. before ++ (i ∷ [])) (sym (in_room (nat_le number 2147483647) (instr.Int (pos number)) given.0 given.1)) ∙ given.2) begins
+
+  -- CELL behind the code of subscripts
+  cell_at : (mentioned : Bool) (l : Led) (place : Place) (before after : List Instr) → cell_code n site before place mentioned l ≡ Ok after → Begins after code.image.code
+      → Placed code before after (λ from to. ((held : List Held) → BehindAt code held (dimensions_led mentioned l) (kind_of_first (chosen l.path l.shape.components)) (further (offset l.path l.shape.components) (spot_of (here_at site) held l.declared l.stored)) from) × (suc from ≡ to))
+  cell_at mentioned l place before after is begins =
+      let given = any_given before place (cell_of n site mentioned l) after is in
+      let there = one_placed code before after given.0 given.2 begins
+      in record {
+        at = (
+          (λ held. behind_at code n site numbered (dimensions_led mentioned l) l.declared l.stored (offset l.path l.shape.components) (kind_of_first (chosen l.path l.shape.components)) given.0 (length before) held given.1 there.at.0),
+          there.at.1,
+        );
+        begins = there.begins;
+      }
+
+  -- the one code or the other
+  either_at : {A B : ℕ → ℕ → Type 0} (b : Bool) (r other : Emitted) (before after : List Instr) → (if b then r else other) ≡ Ok after → (r ≡ Ok after → Placed code before after A) → (other ≡ Ok after → Placed code before after B)
+      → Placed code before after (λ from to. EitherAt b A B from to)
+  either_at true r other before after is first second = first is
+  either_at false r other before after is first second = second is
+
+  -- a subscript without a mark
+  place_at : {A : ℕ → ℕ → Type 0} (sizes : List ℕ) (r : Emitted) (l : Led) (place : Place) (kind : Kind) (spot : List Held → Spot) (before after : List Instr) → place_code n site before place r l sizes ≡ Ok after
+      → ((middle : List Instr) → r ≡ Ok middle → Begins middle code.image.code → Placed code before middle A)
+      → ((middle : List Instr) → cell_code n site middle place false l ≡ Ok after → Placed code middle after (λ from to. ((held : List Held) → BehindAt code held (dimensions_of sizes) kind (spot held) from) × (suc from ≡ to)))
+      → Placed code before after (λ from to. (held : List Held) → PlaceAt code held A kind (spot held) sizes from to)
+  place_at [] r l place kind spot before after is first cell = weaker code before after (λ from to at. λ held. (at.0 held, at.1)) (cell before is)
+  place_at (size ∷ sizes) r l place kind spot before after is first cell =
+      let alone = if_emitted (is_nil sizes) (onwards r (λ middle. cell_code n site middle place false l)) place after is in
+      weaker code before after (λ from to at. λ held. (at.0, at.1, nil_is sizes alone.0, at.2.0 held, at.2.1)) (both_placed code r (λ middle. cell_code n site middle place false l) before after alone.1 first cell)
+
+  -- the subscripts of an array
+  array_at : {A B : ℕ → ℕ → Type 0} (b : Bool) (sizes : List ℕ) (unmarked marked : Emitted) (before after : List Instr) → array_code b (is_arrayed sizes) unmarked marked (Ok before) ≡ Ok after → Begins after code.image.code
+      → (unmarked ≡ Ok after → Placed code before after A) → (marked ≡ Ok after → Placed code before after B)
+      → Placed code before after (λ from to. EitherAt b (λ begin end. ArrayAt A sizes begin end) B from to)
+  array_at true [] unmarked marked before after is begins first second = none_placed code before after (ok_is before after is) begins
+  array_at true (size ∷ sizes) unmarked marked before after is begins first second = first is
+  array_at false sizes unmarked marked before after is begins first second = second is
+
+  one_more : (d : Dimension) (ds : List Dimension) (first : Sub) (others : Subscripts) (from middle to : ℕ) → IndexAt code site d.size first from middle → IndexesAt code site ds others middle to
+      → IndexesAt code site (d ∷ ds) (MoreSubscripts first others) from to
+  one_more d ds (OnePlace one) others from middle to here rest = (middle, here, rest)
+  one_more d ds (Every there) others from middle to here rest = absurd here
+  one_more d ds (Range first last) others from middle to here rest = absurd here
+  one_more d ds (Portion count first) others from middle to here rest = absurd here
+
+  -- the address that a subscript chooses, whatever the own places hold
+  abbrev pub ChosenThere : Subscript → Led → ℕ → ℕ → Type 0
+  ChosenThere subscript l from to = (held : List Held) → ChosenAt code site held l.path subscript (spot_of (here_at site) held l.declared l.stored) l.shape from to
+
+  -- what is no data is given before its component
+  valued_at : {C : Bool → ℕ → ℕ → Type 0} (r : Referent) (path : List Naming) (component : Bool → List Instr → Emitted) (place : Place) (before after : List Instr)
+      → onwards (emit before place (value_of n site path r)) (λ middle. component false middle) ≡ Ok after
+      → ((arrayed : Bool) (middle : List Instr) → component arrayed middle ≡ Ok after → Placed code middle after (C arrayed))
+      → Placed code before after (λ from to. (held : List Held) → (middle : ℕ) × ValueAt code site path held (meaning_of site held r) from middle × C false middle to)
+  valued_at r path component place before after is second =
+      weaker code before after (λ from to at. λ held. (at.0, at.1 held, at.2))
+      (both_placed code (emit before place (value_of n site path r)) (λ middle. component false middle) before after is
+      (λ middle there begun. let given = emitted before place (value_of n site path r) middle there in value_placed code n site numbered path r before middle given.0 given.1 given.2 begun)
+      (λ middle there. second false middle there))
+
+  -- what is referred to with a subscript
+  subscripted_at : {C : Bool → ℕ → ℕ → Type 0} (A : List Held → Spot → Shape → ℕ → ℕ → Type 0) (r : Referent) (path : List Naming) (address : Led → Emitted) (component : Bool → List Instr → Emitted) (place : Place)
+      (before after : List Instr) → subscripted_code n site before place path address component r ≡ Ok after
+      → ((k : ℕ) (kept : Storing) (shape : Shape) (middle : List Instr) → address (led_to path k kept shape) ≡ Ok middle → Begins middle code.image.code
+      → Placed code before middle (λ from to. (held : List Held) → A held (spot_of (here_at site) held k kept) shape from to))
+      → ((arrayed : Bool) (middle : List Instr) → component arrayed middle ≡ Ok after → Placed code middle after (C arrayed))
+      → Placed code before after (λ from to. (held : List Held) → SubscriptedAt code site path held (A held) C (meaning_of site held r) from to)
+  subscripted_at A (DataOf k kept shape) path address component place before after is first second =
+      weaker code before after (λ from to at. λ held. (at.0, at.1 held, at.2.0, at.2.1))
+      (both_placed code (address (led_to path k kept shape)) (λ middle. onwards (emit_one middle place instr.Fetch) (λ late. component (is_arrayed (sizes_named path shape)) late)) before after is
+      (λ middle there begun. first k kept shape middle there begun)
+      (λ middle there. first_placed code middle after instr.Fetch (second (is_arrayed (sizes_named path shape)) (middle ++ (instr.Fetch ∷ [])) there)))
+  subscripted_at A (ConstantOf v) path address component place before after is first second = valued_at (ConstantOf v) path component place before after is second
+  subscripted_at A (EventOf e) path address component place before after is first second = valued_at (EventOf e) path component place before after is second
+  subscripted_at A (BlockOf unit) path address component place before after is first second = valued_at (BlockOf unit) path component place before after is second
+  subscripted_at A (BuiltinOf b) path address component place before after is first second = valued_at (BuiltinOf b) path component place before after is second
+  subscripted_at A Unmeant path address component place before after is first second = absurd (cc)
+
+  referred_at : (subscript : Subscript) (path : List Naming) (name : List ℕ) (place : Place) (before after : List Instr)
+      → subscripted_code n site before place path (λ l. chosen_code n site before place subscript l) (λ arrayed middle. component_code n site middle place arrayed subscript) (referent site name) ≡ Ok after
+      → ((l : Led) (middle : List Instr) → chosen_code n site before place subscript l ≡ Ok middle → Begins middle code.image.code → Placed code before middle (λ from to. ChosenThere subscript l from to))
+      → ((arrayed : Bool) (middle : List Instr) → component_code n site middle place arrayed subscript ≡ Ok after → Placed code middle after (λ from to. ComponentAt code site arrayed subscript from to))
+      → Placed code before after (λ from to. (held : List Held) → SubscriptedAt code site path held (λ at shape begin end. ChosenAt code site held path subscript at shape begin end) (λ arrayed begin end. ComponentAt code site arrayed subscript begin end) (name_meant (here_at site) name held) from to)
+  referred_at subscript path name place before after is first second =
+      weaker code before after
+      (λ from to at. λ held. subst (λ m. SubscriptedAt code site path held (λ at shape begin end. ChosenAt code site held path subscript at shape begin end) (λ arrayed begin end. ComponentAt code site arrayed subscript begin end) m from to) (sym (name_means site held name)) (at held))
+      (subscripted_at (λ held at shape begin end. ChosenAt code site held path subscript at shape begin end)
+      (referent site name) path (λ l. chosen_code n site before place subscript l) (λ arrayed middle. component_code n site middle place arrayed subscript) place before after is
+      (λ k kept shape middle there begun. first (led_to path k kept shape) middle there begun) second)
 
   -- a value that is followed by the operands of a product
   multiplied_at : {Folded : ℕ → ℕ → Type 0} (r : Referent) (folded : List Instr → Emitted) (place : Place) (before after : List Instr)
@@ -244,3 +366,103 @@ module _ (code : Code) (n : Numbering) (site : Site) (numbered : IsNumbered code
         (λ middle there begun. expression_at first before middle there begun) (λ middle there. arguments_at others unit names place middle after there begins))
     arguments_at NoExpressions unit (name ∷ names) place before after is begins = absurd (cc)
     arguments_at (MoreExpressions first others) unit [] place before after is begins = absurd (cc)
+
+    reference_at : (reference : Reference) (before after : List Instr) → reference_code n site before reference ≡ Ok after → Begins after code.image.code
+        → Placed code before after (λ from to. ReferenceAt code site reference from to)
+    reference_at (Refers place name path Unsubscripted) before after is begins = name_at path name place before after is begins
+    reference_at (Refers place name path (ByName there one)) before after is begins =
+        referred_at (ByName there one) path name place before after is (λ l middle got begun. chosen_at (ByName there one) l place before middle got begun) (λ arrayed middle got. component_at (ByName there one) arrayed place middle after got begins)
+    reference_at (Refers place name path (ByInteger there mark number)) before after is begins =
+        referred_at (ByInteger there mark number) path name place before after is (λ l middle got begun. chosen_at (ByInteger there mark number) l place before middle got begun)
+        (λ arrayed middle got. component_at (ByInteger there mark number) arrayed place middle after got begins)
+    reference_at (Refers place name path (ByParts there copies arrays components)) before after is begins =
+        referred_at (ByParts there copies arrays components) path name place before after is (λ l middle got begun. chosen_at (ByParts there copies arrays components) l place before middle got begun)
+        (λ arrayed middle got. component_at (ByParts there copies arrays components) arrayed place middle after got begins)
+
+    -- the address that a subscript chooses
+    pub chosen_at : (subscript : Subscript) (l : Led) (place : Place) (before after : List Instr) → chosen_code n site before place subscript l ≡ Ok after → Begins after code.image.code
+        → Placed code before after (λ from to. ChosenThere subscript l from to)
+    chosen_at Unsubscripted l place before after is begins =
+        let given = any_given before place (element_of n site l.path l.declared l.stored l.shape) after is in
+        let there = one_placed code before after given.0 given.2 begins
+        in record { at = λ held. (element_at code n site numbered l.path l.declared l.stored l.shape given.0 (length before) held given.1 there.at.0, there.at.1); begins = there.begins }
+    chosen_at (ByName there name) l place before after is begins =
+        place_at (sizes_led l) (name_code n site before name) l place (kind_of_first (chosen l.path l.shape.components)) (λ held. further (offset l.path l.shape.components) (spot_of (here_at site) held l.declared l.stored)) before after is
+        (λ middle got begun. name_at [] name.name name.place before middle got begun) (λ middle got. cell_at false l place middle after got begins)
+    chosen_at (ByInteger there mark number) l place before after is begins =
+        place_at (sizes_led l) (integer_code before place number) l place (kind_of_first (chosen l.path l.shape.components)) (λ held. further (offset l.path l.shape.components) (spot_of (here_at site) held l.declared l.stored)) before after is
+        (λ middle got begun. integer_at number place before middle got begun) (λ middle got. cell_at false l place middle after got begins)
+    chosen_at (ByParts there copies arrays components) l place before after is begins =
+        weaker code before after
+        (λ from to at. λ held.
+        (at.0, at.2.0, at.1, at.2.1, subst (λ ds. BehindAt code held (ds ++ dimensions_of (sizes_led l)) (kind_of_first (chosen l.path l.shape.components)) (further (offset l.path l.shape.components) (spot_of (here_at site) held l.declared l.stored)) at.2.0) (spoken_is copies l.shape) (at.2.2.0 held), at.2.2.1))
+        (both_placed code (copies_code n site before place l.shape.copies copies) _ before after is (λ middle got begun. copies_at copies l.shape.copies (copy_size l.shape.components) place before middle got begun)
+        (λ middle got. both_placed code
+        (array_code (is_none arrays) (is_arrayed (sizes_led l)) (indexes_code n site middle place (sizes_led l) components) (indexes_code n site middle place (sizes_led l) arrays) (Ok middle))
+        (λ last. cell_code n site last place (not (is_none copies)) l) middle after got
+        (λ last late begun. array_at (is_none arrays) (sizes_led l) (indexes_code n site middle place (sizes_led l) components) (indexes_code n site middle place (sizes_led l) arrays) middle last late begun
+        (λ chosen_there. indexes_at components (sizes_led l) place middle last chosen_there begun) (λ chosen_there. indexes_at arrays (sizes_led l) place middle last chosen_there begun))
+        (λ last late. cell_at (not (is_none copies)) l place last after late begins)))
+
+    copies_at : (list : Subscripts) (count : Option ℕ) (stride : ℕ) (place : Place) (before after : List Instr) → copies_code n site before place count list ≡ Ok after → Begins after code.image.code
+        → Placed code before after (λ from to. IndexesAt code site (spoken list (copies_in stride count)) list from to)
+    copies_at NoSubscripts count stride place before after is begins = none_placed code before after (ok_is before after is) begins
+    copies_at (MoreSubscripts first others) (Some count) stride place before after is begins =
+        let alone = if_emitted (is_none others) (index_code n site before place count first) place after is in
+        subst (λ rest. Placed code before after (λ from to. IndexesAt code site (dimension count stride ∷ []) (MoreSubscripts first rest) from to)) (sym (none_is others alone.0))
+        (weaker code before after (λ from to at. one_more (dimension count stride) [] first NoSubscripts from to to at refl) (index_at first count place before after alone.1 begins))
+    copies_at (MoreSubscripts first others) None stride place before after is begins = absurd (cc)
+
+    indexes_at : (list : Subscripts) (sizes : List ℕ) (place : Place) (before after : List Instr) → indexes_code n site before place sizes list ≡ Ok after → Begins after code.image.code
+        → Placed code before after (λ from to. IndexesAt code site (dimensions_of sizes) list from to)
+    indexes_at NoSubscripts [] place before after is begins = none_placed code before after (ok_is before after is) begins
+    indexes_at (MoreSubscripts first others) (size ∷ sizes) place before after is begins =
+        weaker code before after (λ from to at. one_more (dimension size (product sizes)) (dimensions_of sizes) first others from at.0 to at.1 at.2)
+        (both_placed code (index_code n site before place size first) (λ middle. indexes_code n site middle place sizes others) before after is (λ middle got begun. index_at first size place before middle got begun)
+        (λ middle got. indexes_at others sizes place middle after got begins))
+    indexes_at NoSubscripts (size ∷ sizes) place before after is begins = absurd (cc)
+    indexes_at (MoreSubscripts first others) [] place before after is begins = absurd (cc)
+
+    index_at : (first : Sub) (size : ℕ) (place : Place) (before after : List Instr) → index_code n site before place size first ≡ Ok after → Begins after code.image.code
+        → Placed code before after (λ from to. IndexAt code site size first from to)
+    index_at (OnePlace one) size place before after is begins = position_at one (instr.Int (pos size)) place before after is begins
+    index_at (Every there) size place before after is begins = absurd (cc)
+    index_at (Range first last) size place before after is begins = absurd (cc)
+    index_at (Portion count first) size place before after is begins = absurd (cc)
+
+    position_at : (one : Position) (ends : Instr) (place : Place) (before after : List Instr) → position_code n site before place ends one ≡ Ok after → Begins after code.image.code
+        → Placed code before after (λ from to. PositionAt code site ends one from to)
+    position_at (FromBeginning tree) ends place before after is begins = expression_at tree before after is begins
+    position_at (FromEnd there terms) ends place before after is begins = first_placed code before after ends (terms_at terms (before ++ (ends ∷ [])) after is begins)
+
+    -- the component of a value
+    component_at : (subscript : Subscript) (arrayed : Bool) (place : Place) (before after : List Instr) → component_code n site before place arrayed subscript ≡ Ok after → Begins after code.image.code
+        → Placed code before after (λ from to. ComponentAt code site arrayed subscript from to)
+    component_at Unsubscripted arrayed place before after is begins = none_placed code before after (ok_is before after is) begins
+    component_at (ByName there name) true place before after is begins = none_placed code before after (ok_is before after is) begins
+    component_at (ByName there name) false place before after is begins =
+        both_placed code (name_code n site before name) _ before after is (λ middle got begun. name_at [] name.name name.place before middle got begun) (λ middle got. one_placed code middle after (picks places.One) (ok_is _ after got) begins)
+    component_at (ByInteger there mark number) true place before after is begins = none_placed code before after (ok_is before after is) begins
+    component_at (ByInteger there mark number) false place before after is begins =
+        weaker code before after (λ from to at. (at.1.0, subst (λ m. One code m (picks places.One) to) (sym at.1.1) at.2))
+        (both_placed code (integer_code before place number) _ before after is (λ middle got begun. integer_at number place before middle got begun) (λ middle got. one_placed code middle after (picks places.One) (ok_is _ after got) begins))
+    component_at (ByParts there copies arrays components) arrayed place before after is begins =
+        either_at (arrayed && is_none arrays) (Ok before) (parts_code n site before place components) before after is (λ got. none_placed code before after (ok_is before after got) begins) (λ got. parts_at components place before after got begins)
+
+    parts_at : (list : Subscripts) (place : Place) (before after : List Instr) → parts_code n site before place list ≡ Ok after → Begins after code.image.code
+        → Placed code before after (λ from to. PartsAt code site list from to)
+    parts_at NoSubscripts place before after is begins = none_placed code before after (ok_is before after is) begins
+    parts_at (MoreSubscripts first others) place before after is begins =
+        let alone = if_emitted (is_none others) _ place after is in
+        both_placed code (part_code n site before place first) (λ middle. emit_one middle place (picks (places_of first))) before after alone.1 (λ middle got begun. part_at first place before middle got begun)
+        (λ middle got. one_placed code middle after (picks (places_of first)) (ok_is _ after got) begins)
+
+    pub part_at : (one : Sub) (place : Place) (before after : List Instr) → part_code n site before place one ≡ Ok after → Begins after code.image.code
+        → Placed code before after (λ from to. PartAt code site one from to)
+    part_at (Every there) place before after is begins = two_placed code n site numbered before after (instr.Int (pos 1)) (instr.Len 1) (ok_is _ after is) begins
+    part_at (OnePlace one) place before after is begins = position_at one (instr.Len 0) place before after is begins
+    part_at (Range first last) place before after is begins =
+        both_placed code (position_code n site before place (instr.Len 0) first) _ before after is (λ middle got begun. position_at first (instr.Len 0) place before middle got begun)
+        (λ middle got. position_at last (instr.Len 1) place middle after got begins)
+    part_at (Portion count first) place before after is begins =
+        both_placed code (expression_code n site before count) _ before after is (λ middle got begun. expression_at count before middle got begun) (λ middle got. position_at first (instr.Len 1) place middle after got begins)

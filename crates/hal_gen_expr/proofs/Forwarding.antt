@@ -1,9 +1,9 @@
 -- The code of expressions goes on: no instruction of it jumps.
-use Rattle.std.specs.Prelude.{◌≡◌, ◌≤◌, ◌<◌, ℕ, suc, nat_lt, Bool, true, false, List, [], ◌∷◌, Option, Some, None, slice_get}
+use Rattle.std.specs.Prelude.{◌≡◌, ◌≤◌, ◌<◌, ℕ, suc, nat_lt, Bool, true, false, ◌&&◌, List, [], ◌∷◌, ◌++◌, pos, Option, Some, None, slice_get}
 use Rattle.std.proofs.Common.{refl, sym, subst, arith}
 use Rattle.std.proofs.lemmas.Bool.{ltb-true, ltb-false}
 use Rattle.hal_grammar.specs.Leaves.{Naming, Sign, Plus, Minus}
-use Rattle.hal_grammar.specs.Expressions.{Expression, Or, And, Compare, Cat, Sum, Product, Power, Not, Literal, Decimal, Referred, Called, Convert, Parenthesis, Expressions, NoExpressions, MoreExpressions, Terms, NoTerms, MoreTerms, Reference, Refers, Unsubscripted, ByName, ByInteger, ByParts}
+use Rattle.hal_grammar.specs.Expressions.{Expression, Or, And, Compare, Cat, Sum, Product, Power, Not, Literal, Decimal, Referred, Called, Convert, Parenthesis, Expressions, NoExpressions, MoreExpressions, Terms, NoTerms, MoreTerms, Reference, Refers, Subscript, Unsubscripted, ByName, ByInteger, ByParts, Subscripts, NoSubscripts, MoreSubscripts, Sub, Every, Range, Portion, One as OnePlace, Position, FromBeginning, FromEnd}
 use Rattle.hal_scope.specs.declared.builtin.Builtin.{Builtin}
 use Rattle.hal_scope.specs.declared.builtin.Builtin.TheVariants as builtin
 use Rattle.hal_operations.specs.declared.operation.Op2.{Op2}
@@ -11,15 +11,20 @@ use Rattle.hal_operations.specs.declared.operation.Op2.TheVariants as op2
 use Rattle.hal_constants.specs.declared.operation.Operation.{Operation}
 use Rattle.hal_constants.specs.declared.operation.Operation.TheVariants as operation
 use Rattle.hal_constants.specs.Naming.{operation_of}
+use Rattle.hal_constants.specs.Constants.{is_none}
+use Rattle.hal_values.specs.declared.value.Kind.{Kind}
 use Rattle.hal_values.specs.declared.value.Value.{Value}
 use Rattle.hal_values.specs.declared.value.Value.TheVariants as value
+use Rattle.hal_states.specs.Spots.{Spot, further}
 use Rattle.hal_meaning.specs.Calls.{inputs_of}
-use Rattle.hal_meaning.specs.Expressions.{inputs_at, literal_value, exponent_of}
-use Rattle.hal_meaning.specs.Variables.{Meant, MeantData, MeantConstant, MeantEvent, MeantBlock, MeantBuiltin, MeantNothing, name_meant}
+use Rattle.hal_meaning.specs.Elements.{Shape, chosen, offset}
+use Rattle.hal_meaning.specs.Expressions.{inputs_at, literal_value, exponent_of, sizes_named, copies_of, spoken}
+use Rattle.hal_meaning.specs.Variables.{Meant, MeantData, MeantConstant, MeantEvent, MeantBlock, MeantBuiltin, MeantNothing, name_meant, kind_of_first, Dimension, dimensions_of, is_arrayed}
 use Rattle.hal_code.specs.Forward.{GoesOn}
 use Rattle.hal_code.specs.declared.instr.Instr.{Instr}
+use Rattle.hal_code.specs.declared.instr.Instr.TheVariants as instr
 use Rattle.hal_agreement.specs.Codes.{Code}
-use Rattle.hal_agreement.specs.PlacedExpressions.{Has, One, pushes, AloneAt, ParametersAt, CallAt, ValueAt, ReferenceAt, SignAt, CalledAt, ExpressionAt, FoldedAt, TermsAt, BuiltAt, ArgumentsAt}
+use Rattle.hal_agreement.specs.PlacedExpressions.{Has, One, pushes, AloneAt, ParametersAt, CallAt, ValueAt, NameAt, BehindAt, EitherAt, PlaceAt, ArrayAt, SubscriptedAt, SignAt, CalledAt, ExpressionAt, FoldedAt, TermsAt, BuiltAt, ArgumentsAt, ReferenceAt, ChosenAt, IndexesAt, PositionAt, ComponentAt, PartsAt, PartAt}
 use Rattle.hal_agreement.specs.Sites.{Site, here_at}
 
 module _ (code : Code) where
@@ -82,11 +87,34 @@ module _ (code : Code) where
     meant_goes path (MeantBuiltin b) from to there = alone_goes b from to there
     meant_goes path MeantNothing from to there = absurd there
 
-    reference_goes : (reference : Reference) (from to : ℕ) → ReferenceAt code site reference from to → Goes from to
-    reference_goes (Refers place name path Unsubscripted) from to at = meant_goes path (name_meant (here_at site) name []) from to (at [])
-    reference_goes (Refers place name path (ByName there one)) from to at = absurd at
-    reference_goes (Refers place name path (ByInteger there mark number)) from to at = absurd at
-    reference_goes (Refers place name path (ByParts there copies arrays components)) from to at = absurd at
+    name_goes : (name : List ℕ) (path : List Naming) (from to : ℕ) → NameAt code site name path from to → Goes from to
+    name_goes name path from to at = meant_goes path (name_meant (here_at site) name []) from to (at [])
+
+    place_goes : (placed : ℕ → ℕ → Type 0) (k : Kind) (spot : Spot) (sizes : List ℕ) (from to : ℕ) → PlaceAt code [] placed k spot sizes from to → ((middle : ℕ) → placed from middle → Goes from middle) → Goes from to
+    place_goes placed k spot [] from to there p = one_goes from to _ (there.0.cell, there.1) tt
+    place_goes placed k spot (n ∷ ns) from to there p = joined_goes from there.0 to (p there.0 there.1) (one_goes there.0 to _ (there.3.cell, there.4) tt)
+
+    behind_goes : (ds : List Dimension) (k : Kind) (spot : Spot) (from to : ℕ) → BehindAt code [] ds k spot from → suc from ≡ to → Goes from to
+    behind_goes [] k spot from to at same = one_goes from to _ (at.cell, same) tt
+    behind_goes (d ∷ ds) k spot from to at same = one_goes from to _ (at.cell, same) tt
+
+    array_goes : (places : ℕ → ℕ → Type 0) (sizes : List ℕ) (from to : ℕ) → ArrayAt places sizes from to → (places from to → Goes from to) → Goes from to
+    array_goes places [] from to at p = none_goes from to at
+    array_goes places (n ∷ ns) from to at p = p at
+
+    either_goes : (b : Bool) (one other : ℕ → ℕ → Type 0) (from to : ℕ) → EitherAt b one other from to → (one from to → Goes from to) → (other from to → Goes from to) → Goes from to
+    either_goes true one other from to at f s = f at
+    either_goes false one other from to at f s = s at
+
+    subscripted_goes : (path : List Naming) (m : Meant) (address : Spot → Shape → ℕ → ℕ → Type 0) (component : Bool → ℕ → ℕ → Type 0) (from to : ℕ) → SubscriptedAt code site path [] address component m from to
+        → ((spot : Spot) (shape : Shape) (middle : ℕ) → address spot shape from middle → Goes from middle) → ((arrayed : Bool) (middle : ℕ) → component arrayed middle to → Goes middle to) → Goes from to
+    subscripted_goes path (MeantData spot shape) address component from to there a c =
+        joined_goes from there.0 to (a spot shape there.0 there.1) (first_goes there.0 to _ there.2 tt (c (is_arrayed (sizes_named path shape)) (suc there.0) there.3))
+    subscripted_goes path (MeantConstant v) address component from to there a c = joined_goes from there.0 to (meant_goes path (MeantConstant v) from there.0 there.1) (c false there.0 there.2)
+    subscripted_goes path (MeantEvent e) address component from to there a c = joined_goes from there.0 to (meant_goes path (MeantEvent e) from there.0 there.1) (c false there.0 there.2)
+    subscripted_goes path (MeantBlock unit) address component from to there a c = joined_goes from there.0 to (meant_goes path (MeantBlock unit) from there.0 there.1) (c false there.0 there.2)
+    subscripted_goes path (MeantBuiltin b) address component from to there a c = joined_goes from there.0 to (meant_goes path (MeantBuiltin b) from there.0 there.1) (c false there.0 there.2)
+    subscripted_goes path MeantNothing address component from to there a c = absurd there.1
 
     sign_goes : (opening : Option Sign) (from to : ℕ) → SignAt code opening from to → Goes from to
     sign_goes (Some Minus) from to at = one_goes from to _ at tt
@@ -151,3 +179,61 @@ module _ (code : Code) where
       arguments_go (MoreExpressions first others) unit (name ∷ names) from to at = joined_goes from at.0 to (expression_goes first from at.0 at.2) (arguments_go others unit names at.0 to at.3)
       arguments_go NoExpressions unit (name ∷ names) from to at = absurd at
       arguments_go (MoreExpressions first others) unit [] from to at = absurd at
+
+      reference_goes : (reference : Reference) (from to : ℕ) → ReferenceAt code site reference from to → Goes from to
+      reference_goes (Refers place name path Unsubscripted) from to at = name_goes name path from to at
+      reference_goes (Refers place name path (ByName there one)) from to at =
+          subscripted_goes path (name_meant (here_at site) name []) (λ spot shape a e. ChosenAt code site [] path (ByName there one) spot shape a e) (λ arrayed a e. ComponentAt code site arrayed (ByName there one) a e) from to (at [])
+          (λ spot shape middle here. chosen_goes (ByName there one) path spot shape from middle here) (λ arrayed middle here. component_goes (ByName there one) arrayed middle to here)
+      reference_goes (Refers place name path (ByInteger there mark number)) from to at =
+          subscripted_goes path (name_meant (here_at site) name []) (λ spot shape a e. ChosenAt code site [] path (ByInteger there mark number) spot shape a e) (λ arrayed a e. ComponentAt code site arrayed (ByInteger there mark number) a e) from to (at [])
+          (λ spot shape middle here. chosen_goes (ByInteger there mark number) path spot shape from middle here) (λ arrayed middle here. component_goes (ByInteger there mark number) arrayed middle to here)
+      reference_goes (Refers place name path (ByParts there copies arrays components)) from to at =
+          subscripted_goes path (name_meant (here_at site) name []) (λ spot shape a e. ChosenAt code site [] path (ByParts there copies arrays components) spot shape a e) (λ arrayed a e. ComponentAt code site arrayed (ByParts there copies arrays components) a e) from to (at [])
+          (λ spot shape middle here. chosen_goes (ByParts there copies arrays components) path spot shape from middle here) (λ arrayed middle here. component_goes (ByParts there copies arrays components) arrayed middle to here)
+
+      pub chosen_goes : (subscript : Subscript) (path : List Naming) (spot : Spot) (shape : Shape) (from to : ℕ) → ChosenAt code site [] path subscript spot shape from to → Goes from to
+      chosen_goes Unsubscripted path spot shape from to at = one_goes from to _ (at.0.cell, at.1) tt
+      chosen_goes (ByName there name) path spot shape from to at =
+          place_goes (λ a e. NameAt code site name.name [] a e) (kind_of_first (chosen path shape.components)) (further (offset path shape.components) spot) (sizes_named path shape) from to at
+          (λ middle here. name_goes name.name [] from middle here)
+      chosen_goes (ByInteger there mark number) path spot shape from to at =
+          place_goes (λ a e. One code a (instr.Int (pos number)) e) (kind_of_first (chosen path shape.components)) (further (offset path shape.components) spot) (sizes_named path shape) from to at
+          (λ middle here. one_goes from middle _ here tt)
+      chosen_goes (ByParts there copies arrays components) path spot shape from to at =
+          joined_goes from at.0 to (indexes_goes copies (spoken copies (copies_of shape)) from at.0 at.2) (joined_goes at.0 at.1 to
+          (either_goes (is_none arrays) (λ a e. ArrayAt (λ b f. IndexesAt code site (dimensions_of (sizes_named path shape)) components b f) (sizes_named path shape) a e) (λ a e. IndexesAt code site (dimensions_of (sizes_named path shape)) arrays a e) at.0 at.1 at.3
+          (λ here. array_goes (λ b f. IndexesAt code site (dimensions_of (sizes_named path shape)) components b f) (sizes_named path shape) at.0 at.1 here (λ places. indexes_goes components (dimensions_of (sizes_named path shape)) at.0 at.1 places))
+          (λ here. indexes_goes arrays (dimensions_of (sizes_named path shape)) at.0 at.1 here)) (behind_goes (spoken copies (copies_of shape) ++ dimensions_of (sizes_named path shape)) _ _ at.1 to at.4 at.5))
+
+      indexes_goes : (list : Subscripts) (ds : List Dimension) (from to : ℕ) → IndexesAt code site ds list from to → Goes from to
+      indexes_goes NoSubscripts [] from to at = none_goes from to at
+      indexes_goes (MoreSubscripts (OnePlace one) others) (d ∷ ds) from to at = joined_goes from at.0 to (position_goes one (instr.Int (pos d.size)) from at.0 (λ k. tt) at.1) (indexes_goes others ds at.0 to at.2)
+      indexes_goes NoSubscripts (d ∷ ds) from to at = absurd at
+      indexes_goes (MoreSubscripts first others) [] from to at = absurd at
+      indexes_goes (MoreSubscripts (Every there) others) (d ∷ ds) from to at = absurd at
+      indexes_goes (MoreSubscripts (Range first last) others) (d ∷ ds) from to at = absurd at
+      indexes_goes (MoreSubscripts (Portion count first) others) (d ∷ ds) from to at = absurd at
+
+      position_goes : (one : Position) (ends : Instr) (from to : ℕ) → ((k : ℕ) → GoesOn code.image.code k ends) → PositionAt code site ends one from to → Goes from to
+      position_goes (FromBeginning tree) ends from to goes at = expression_goes tree from to at
+      position_goes (FromEnd there terms) ends from to goes at = first_goes from to ends at.0 (goes from) (terms_go terms (suc from) to at.1)
+
+      component_goes : (subscript : Subscript) (arrayed : Bool) (from to : ℕ) → ComponentAt code site arrayed subscript from to → Goes from to
+      component_goes Unsubscripted arrayed from to at = none_goes from to at
+      component_goes (ByName there name) true from to at = none_goes from to at
+      component_goes (ByName there name) false from to at = joined_goes from at.0 to (name_goes name.name [] from at.0 at.1) (one_goes at.0 to _ at.2 tt)
+      component_goes (ByInteger there mark number) true from to at = none_goes from to at
+      component_goes (ByInteger there mark number) false from to at = first_goes from to _ at.0 tt (one_goes (suc from) to _ at.1 tt)
+      component_goes (ByParts there copies arrays components) arrayed from to at =
+          either_goes (arrayed && is_none arrays) (λ a e. a ≡ e) (λ a e. PartsAt code site components a e) from to at (λ here. none_goes from to here) (λ here. parts_goes components from to here)
+
+      parts_goes : (list : Subscripts) (from to : ℕ) → PartsAt code site list from to → Goes from to
+      parts_goes NoSubscripts from to at = none_goes from to at
+      parts_goes (MoreSubscripts first others) from to at = joined_goes from at.0 to (part_goes first from at.0 at.1) (one_goes at.0 to _ at.2 tt)
+
+      pub part_goes : (one : Sub) (from to : ℕ) → PartAt code site one from to → Goes from to
+      part_goes (Every there) from to at = first_goes from to _ at.0 tt (one_goes (suc from) to _ at.1 tt)
+      part_goes (OnePlace one) from to at = position_goes one (instr.Len 0) from to (λ k. tt) at
+      part_goes (Range first last) from to at = joined_goes from at.0 to (position_goes first (instr.Len 0) from at.0 (λ k. tt) at.1) (position_goes last (instr.Len 1) at.0 to (λ k. tt) at.2)
+      part_goes (Portion count first) from to at = joined_goes from at.0 to (expression_goes count from at.0 at.1) (position_goes first (instr.Len 1) at.0 to (λ k. tt) at.2)

@@ -7,6 +7,7 @@ pub mod Appending
 pub mod Forwarding
 pub mod Uncalled
 mod Chosen
+mod Listed
 mod Capped
 mod Lent
 mod Formed

@@ -56,7 +56,7 @@ module _ (code : Code) (n : Numbering) (site : Site) (numbered : IsNumbered code
       → AddressAt code held (kind_of_first (chosen path shape.components)) (further (offset path shape.components) (spot_of (here_at site) held k stored)) from
   element_at path k stored shape i from held is has =
       address_at code n site numbered k stored (offset path shape.components) (kind_of_first (chosen path shape.components)) i from held
-      (given_is (not (is_some shape.copies) && is_one (chosen path shape.components)) (address_of n site k stored (offset path shape.components) (kind_of_first (chosen path shape.components))) i is).1 has
+      (given_is (not (is_some shape.copies) && is_one (chosen path shape.components)) (address_of n site [] k stored (offset path shape.components) (kind_of_first (chosen path shape.components))) i is).1 has
 
   alone_at : (b : Builtin) (i : Instr) (from to : ℕ) → alone_of b ≡ Some i → One code from i to → AloneAt code b from to
   alone_at builtin.Errgrp i from to is one = subst (λ j. One code from j to) (let same : i ≡ instr.ErrGrp = cc in same) one

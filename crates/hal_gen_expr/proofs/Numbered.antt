@@ -1,5 +1,5 @@
 -- Views and blocks by their numbers.
-use Rattle.std.specs.Prelude.{◌≡◌, ℕ, zero, suc, ◌+◌, ◌==◌, ◌<◌, nat_lt, length, Bool, true, false, ◌&&◌, List, [], ◌∷◌, Option, Some, None, slice_get, if◌then◌else◌}
+use Rattle.std.specs.Prelude.{◌≡◌, ℕ, zero, suc, ◌+◌, ◌==◌, ◌<◌, min, map, nat_lt, length, Bool, true, false, ◌&&◌, ◌||◌, List, [], ◌∷◌, Option, Some, None, slice_get, if◌then◌else◌}
 use Rattle.std.specs.Option.{option_map, option_and_then}
 use Rattle.std.specs.List.{position, position_or_len}
 use Rattle.std.proofs.lemmas.Bool.{eqb-true, ltb-true, and_parts}
@@ -23,11 +23,11 @@ use Rattle.hal_meaning.specs.Places.{Storing, InCells, InPlaces, ByReference, Un
 use Rattle.hal_meaning.specs.ReportNames.{first_cell, first_place}
 use Rattle.hal_meaning.specs.Variables as tree
 use Rattle.hal_agreement.specs.Codes.{Code}
-use Rattle.hal_agreement.specs.PlacedExpressions.{Has, IsPlain, AddressAt}
+use Rattle.hal_agreement.specs.PlacedExpressions.{Has, dimension_of, IsViewed, AddressAt, BehindAt}
 use Rattle.hal_agreement.specs.Sites.{Site, here_at}
 use Rattle.hal_gen_expr.specs.Standing.{IsNumbered}
-use Rattle.hal_gen_expr.specs.Numbering.{Numbering, below, most, base_of, same_base, has_none, gives_cell, is_cell_view, view_number}
-use Rattle.hal_gen_expr.specs.Leaves.{address_of}
+use Rattle.hal_gen_expr.specs.Numbering.{Numbering, below, most, base_of, same_base, row_of, same_row, same_rows, gives_cell, is_cell_view, view_number}
+use Rattle.hal_gen_expr.specs.Leaves.{is_nil, is_settled, settled_for, address_of}
 
 pub below_is : (limit n m : ℕ) → below limit n ≡ Some m → n ≡ m
 below_is limit n m = by (nat_lt n limit) where
@@ -77,22 +77,55 @@ base_same (base.Through at n) (base.Through other m) is =
     ap (λ p. base.Through p n) (eqb-true at other ((and_parts (at == other) (n == m) is).0)) ∙ ap (base.Through other) (eqb-true n m ((and_parts (at == other) (n == m) is).1))
 base_same one other is = absurd (cc)
 
-none_is : (ds : List Dimension) → has_none ds ≡ true → ds ≡ []
-none_is [] is = refl
-none_is (d ∷ ds) is = absurd (cc)
+below_limit : (d : ℕ) → min d most < most → min d most ≡ d
+below_limit d less = omega (arith, less)
+
+row_is : (row : Dimension) (d : tree.Dimension) → same_row row (row_of d) ≡ true → row ≡ dimension_of d
+row_is row d is =
+    let late = (and_parts (row.size == d.size) (row.stride == min d.stride most && nat_lt (min d.stride most) most) is).1 in
+    let size = eqb-true row.size d.size (and_parts (row.size == d.size) (row.stride == min d.stride most && nat_lt (min d.stride most) most) is).0 in
+    let stride = eqb-true row.stride (min d.stride most) (and_parts (row.stride == min d.stride most) (nat_lt (min d.stride most) most) late).0 in
+    let less = ltb-true (min d.stride most) most (and_parts (row.stride == min d.stride most) (nat_lt (min d.stride most) most) late).1 in
+    ap (λ m. let one : Dimension = record { size = m; stride = row.stride } in one) size ∙ ap (λ m. let one : Dimension = record { size = d.size; stride = m } in one) (stride ∙ below_limit d.stride less)
+
+rows_are : (rows : List Dimension) (ds : List tree.Dimension) → same_rows rows (map row_of ds) ≡ true → rows ≡ map dimension_of ds
+rows_are [] [] is = refl
+rows_are (row ∷ rows) (d ∷ ds) is =
+    let both = and_parts (same_row row (row_of d)) (same_rows rows (map row_of ds)) is in
+    ap (λ one. one ∷ rows) (row_is row d both.0) ∙ ap (λ others. dimension_of d ∷ others) (rows_are rows ds both.1)
+rows_are [] (d ∷ ds) is = absurd (cc)
+rows_are (row ∷ rows) [] is = absurd (cc)
 
 target_is : (k : Kind) (t : Target) → gives_cell k t ≡ true → t ≡ target.Cell k
 target_is k (target.Cell other) is = ap target.Cell (kind_same other k is)
 target_is k (target.Shape shape) is = absurd (cc)
 
-plain : (from : Base) (k : Kind) (row : View) (held : List Held) (at : Spot) → is_cell_view from k row ≡ true → machine.spot_of from held ≡ at → IsPlain row held k at
-plain from k row held at is there =
-    let late = (and_parts (same_base row.base from) (has_none row.dimensions && gives_cell k row.target) is).1 in
+viewed : (from : Base) (ds : List tree.Dimension) (k : Kind) (row : View) (held : List Held) (at : Spot) → is_cell_view from (map row_of ds) k row ≡ true → machine.spot_of from held ≡ at → IsViewed row ds held k at
+viewed from ds k row held at is there =
+    let late = (and_parts (same_base row.base from) (same_rows row.dimensions (map row_of ds) && gives_cell k row.target) is).1 in
     record {
-      dimensions = none_is row.dimensions ((and_parts (has_none row.dimensions) (gives_cell k row.target) late).0);
-      target = target_is k row.target ((and_parts (has_none row.dimensions) (gives_cell k row.target) late).1);
-      base = ap (λ b. machine.spot_of b held) (base_same row.base from ((and_parts (same_base row.base from) (has_none row.dimensions && gives_cell k row.target) is).0)) ∙ there;
+      dimensions = rows_are row.dimensions ds ((and_parts (same_rows row.dimensions (map row_of ds)) (gives_cell k row.target) late).0);
+      target = target_is k row.target ((and_parts (same_rows row.dimensions (map row_of ds)) (gives_cell k row.target) late).1);
+      base = ap (λ b. machine.spot_of b held) (base_same row.base from ((and_parts (same_base row.base from) (same_rows row.dimensions (map row_of ds) && gives_cell k row.target) is).0)) ∙ there;
     }
+
+-- where a view may begin
+settled_is : (rows : List Dimension) (from one : Base) (b : Bool) → (if b then Some from else None) ≡ Some one → from ≡ one
+settled_is rows from one true is = cc
+settled_is rows from one false is = absurd (cc)
+
+begun_is : (rows : List Dimension) (o : Option Base) (one : Base) → option_and_then (settled_for rows) o ≡ Some one → o ≡ Some one
+begun_is rows None one is = absurd (cc)
+begun_is rows (Some from) one is = ap Some (settled_is rows from one (is_nil rows || is_settled from) is)
+
+-- where subscripts are evaluated before CELL, it is settled
+settled_by : (from one : Base) (b : Bool) → is_settled from ≡ b → (if b then Some from else None) ≡ Some one → is_settled one ≡ true
+settled_by from one true same is = subst (λ other. is_settled other ≡ true) (let there : from ≡ one = cc in there) same
+settled_by from one false same is = absurd (cc)
+
+settled_there : (row : Dimension) (rows : List Dimension) (o : Option Base) (one : Base) → option_and_then (settled_for (row ∷ rows)) o ≡ Some one → is_settled one ≡ true
+settled_there row rows None one is = absurd (cc)
+settled_there row rows (Some from) one is = settled_by from one (is_settled from) refl is
 
 module _ (code : Code) (n : Numbering) (site : Site) (numbered : IsNumbered code n) where
   -- a base leads where the data lie
@@ -111,18 +144,59 @@ module _ (code : Code) (n : Numbering) (site : Site) (numbered : IsNumbered code
       (sym low.2 ∙ (ap (base.Through place.0) (sym (below_is most at low.0 low.1)) ∙ ap (λ p. base.Through p at) (sym (below_is most (first_place site.places k) place.0 place.1))))
   base_leads k at Unstored from held is = absurd (cc)
 
-  -- CELL with the number of a view
-  pub address_at : (k : ℕ) (stored : Storing) (at : ℕ) (kind : Kind) (i : Instr) (from : ℕ) (held : List Held) → address_of n site k stored at kind ≡ Some i → Has code from i
+  -- CELL with the number of a view that begins at a base
+  numbered_view : (rows : List Dimension) (kind : Kind) (from : Base) (i : Instr) → option_map instr.Cell (view_number n rows kind from) ≡ Some i
+      → (number : ℕ) × (view : View) × (instr.Cell number ≡ i) × (slice_get code.image.views number ≡ Some view) × (is_cell_view from rows kind view ≡ true)
+  numbered_view rows kind from i is =
+      let named = mapped_is instr.Cell (view_number n rows kind from) i is in
+      let low = then_is (below most) (position (is_cell_view from rows kind) n.views) named.0 named.1 in
+      let row = first_is (is_cell_view from rows kind) n.views low.0 low.1
+      in (
+        named.0,
+        row.0,
+        named.2,
+        ap (λ views. slice_get views named.0) numbered.views ∙ (ap (λ m. slice_get n.views m) (sym (below_is most low.0 named.0 low.2)) ∙ row.1),
+        row.2,
+      )
+
+  -- one cell
+  pub address_at : (k : ℕ) (stored : Storing) (at : ℕ) (kind : Kind) (i : Instr) (from : ℕ) (held : List Held) → address_of n site [] k stored at kind ≡ Some i → Has code from i
       → AddressAt code held kind (further at (tree.spot_of (here_at site) held k stored)) from
   address_at k stored at kind i from held is has =
-      let there = then_is (λ b. option_map instr.Cell (view_number n kind b)) (base_of site k at stored) i is in
-      let named = mapped_is instr.Cell (view_number n kind there.0) i there.2 in
-      let low = then_is (below most) (position (is_cell_view there.0 kind) n.views) named.0 named.1 in
-      let row = first_is (is_cell_view there.0 kind) n.views low.0 low.1
+      let there = then_is (λ b. option_map instr.Cell (view_number n [] kind b)) (option_and_then (settled_for []) (base_of site k at stored)) i is in
+      let row = numbered_view [] kind there.0 i there.2 in
+      record {
+        number = row.0;
+        view = row.1;
+        cell = subst (λ one. Has code from one) (sym row.2) has;
+        row = row.3;
+        plain = viewed there.0 [] kind row.1 held (further at (tree.spot_of (here_at site) held k stored)) row.4 (base_leads k at stored there.0 held (begun_is [] (base_of site k at stored) there.0 there.1));
+      }
+
+  -- data that lie at a base which is settled lie there whatever the own places hold
+  ever_there : (k at : ℕ) (stored : Storing) (from : Base) (held other : List Held) → base_of site k at stored ≡ Some from → is_settled from ≡ true
+      → machine.spot_of from other ≡ further at (tree.spot_of (here_at site) held k stored)
+  ever_there k at (InCells group) from held other is settled = base_leads k at (InCells group) from other is
+  ever_there k at InPlaces from held other is settled = base_leads k at InPlaces from other is
+  ever_there k at ByReference from held other is settled =
+      let place = then_is (λ p. option_map (base.Through p) (below most at)) (below most (first_place site.places k)) from is in
+      let low = mapped_is (base.Through place.0) (below most at) from place.2 in
+      absurd (let never : false ≡ true = ap is_settled low.2 ∙ settled in cc)
+  ever_there k at Unstored from held other is settled = absurd (cc)
+
+  -- cells in dimensions
+  pub behind_at : (ds : List tree.Dimension) (k : ℕ) (stored : Storing) (at : ℕ) (kind : Kind) (i : Instr) (from : ℕ) (held : List Held) → address_of n site (map row_of ds) k stored at kind ≡ Some i → Has code from i
+      → BehindAt code held ds kind (further at (tree.spot_of (here_at site) held k stored)) from
+  behind_at [] k stored at kind i from held is has = address_at k stored at kind i from held is has
+  behind_at (d ∷ ds) k stored at kind i from held is has =
+      let there = then_is (λ b. option_map instr.Cell (view_number n (map row_of (d ∷ ds)) kind b)) (option_and_then (settled_for (map row_of (d ∷ ds))) (base_of site k at stored)) i is in
+      let row = numbered_view (map row_of (d ∷ ds)) kind there.0 i there.2 in
+      let lies = begun_is (map row_of (d ∷ ds)) (base_of site k at stored) there.0 there.1 in
+      let settled = settled_there (row_of d) (map row_of ds) (base_of site k at stored) there.0 there.1
       in record {
-        number = named.0;
-        view = row.0;
-        cell = subst (λ one. Has code from one) (sym named.2) has;
-        row = ap (λ views. slice_get views named.0) numbered.views ∙ (ap (λ m. slice_get n.views m) (sym (below_is most low.0 named.0 low.2)) ∙ row.1);
-        plain = plain there.0 kind row.0 held (further at (tree.spot_of (here_at site) held k stored)) row.2 (base_leads k at stored there.0 held there.1);
+        number = row.0;
+        view = row.1;
+        cell = subst (λ one. Has code from one) (sym row.2) has;
+        row = row.3;
+        viewed = λ other. viewed there.0 (d ∷ ds) kind row.1 other (further at (tree.spot_of (here_at site) held k stored)) row.4 (ever_there k at stored there.0 held other lies settled);
       }

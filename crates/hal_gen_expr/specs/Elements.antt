@@ -6,6 +6,7 @@ use Rattle.hal_meaning.specs.Variables.{kind_of_first}
 use Rattle.hal_gen_expr.specs.declared.elements.Element.{Element}
 use Rattle.hal_gen_expr.specs.Leaves.{is_nil, is_one}
 use Rattle.hal_values.specs.declared.value.Kind.{Kind}
+use Rattle.hal_values.specs.declared.value.Kind.TheVariants as kind
 
 -- the most elements that are counted
 abbrev pub counted : ℕ
@@ -17,6 +18,10 @@ an_element before kind = record { before = before; kind = kind }
 -- the element to which names lead, where it is one
 abbrev pub element_in : List Naming → List Component → Option Element
 element_in path cs = if is_one (chosen path cs) then Some (an_element (min (offset path cs) counted) (kind_of_first (chosen path cs))) else None
+
+-- the first element to which names lead; behind all where they lead to none
+abbrev pub first_in : List Naming → List Component → Element
+first_in path cs = an_element (min (offset path cs) counted) (kind_of_first (chosen path cs))
 
 -- whether these names lead to none of the components
 unfoldable pub leads_to_none : List Naming → List Component → Bool
@@ -31,3 +36,8 @@ sole path before c cs = if leads_to_none path cs && is_nil c.sizes then Some (an
 unfoldable pub element_from : List Naming → ℕ → List Component → Option Element
 element_from path before [] = None
 element_from path before (c ∷ cs) = if leads path c.path then sole path before c cs else element_from path (min (before + min (count c) counted) counted) cs
+
+-- the same among components before which so many elements lie
+unfoldable pub first_from : List Naming → ℕ → List Component → Element
+first_from path before [] = an_element before kind.Double
+first_from path before (c ∷ cs) = if leads path c.path then an_element before c.kind else first_from path (min (before + min (count c) counted) counted) cs

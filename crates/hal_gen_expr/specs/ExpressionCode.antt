@@ -1,9 +1,9 @@
 -- The code of expressions, behind the code so far: each leaves its value on the stack.
-use Rattle.std.specs.Prelude.{ℕ, pos, nat_le, Bool, true, false, ◌||◌, List, [], ◌∷◌, ◌++◌, length, Option, Some, None, Ok, Err, if◌then◌else◌}
+use Rattle.std.specs.Prelude.{ℕ, pos, nat_le, Bool, true, false, not, ◌&&◌, ◌||◌, List, [], ◌∷◌, ◌++◌, length, Option, Some, None, Ok, Err, if◌then◌else◌}
 use Rattle.std.specs.Option.{option_map}
 use Rattle.hal_base.specs.declared.refusal.Place.{Place}
 use Rattle.hal_grammar.specs.Leaves.{Naming, Sign, Minus, LiteralValue, Integer, Text}
-use Rattle.hal_grammar.specs.Expressions.{Expression, Or, And, Compare, Cat, Sum, Product, Power, Not, Literal, Decimal, Referred, Called, Convert, Parenthesis, Expressions, NoExpressions, MoreExpressions, Terms, NoTerms, MoreTerms, Reference, Refers, Unsubscripted}
+use Rattle.hal_grammar.specs.Expressions.{Expression, Or, And, Compare, Cat, Sum, Product, Power, Not, Literal, Decimal, Referred, Called, Convert, Parenthesis, Expressions, NoExpressions, MoreExpressions, Terms, NoTerms, MoreTerms, Reference, Refers, Subscript, Unsubscripted, ByName, ByInteger, ByParts, Subscripts, NoSubscripts, MoreSubscripts, Sub, Every, Range, Portion, One as OnePlace, Position, FromBeginning, FromEnd}
 use Rattle.hal_operations.specs.declared.operation.Op2.{Op2}
 use Rattle.hal_operations.specs.declared.operation.Op1.{Op1}
 use Rattle.hal_operations.specs.declared.operation.Op1.TheVariants as op1
@@ -11,16 +11,19 @@ use Rattle.hal_operations.specs.declared.operation.Op2.TheVariants as op2
 use Rattle.hal_constants.specs.declared.operation.Operation.{Operation}
 use Rattle.hal_constants.specs.declared.operation.Operation.TheVariants as operation
 use Rattle.hal_constants.specs.Naming.{operation_of}
+use Rattle.hal_constants.specs.Constants.{is_none}
 use Rattle.hal_meaning.specs.Calls.{parameter_named}
 use Rattle.hal_meaning.specs.Expressions.{literal_value, is_condition, are_conditions, operation_of_relation, operation_of_sign, operation_of_conversion, is_size, inputs_at}
-use Rattle.hal_meaning.specs.Variables.{is_whole}
+use Rattle.hal_meaning.specs.Variables.{is_arrayed, is_whole}
 use Rattle.hal_code.specs.declared.choice.Choice.TheVariants as choice
 use Rattle.hal_code.specs.declared.instr.Instr.{Instr}
 use Rattle.hal_code.specs.declared.instr.Instr.TheVariants as instr
-use Rattle.hal_agreement.specs.PlacedExpressions.{pushes, two, stay}
+use Rattle.hal_code.specs.declared.operand.Places.TheVariants as places
+use Rattle.hal_agreement.specs.PlacedExpressions.{pushes, two, stay, picks, places_of}
 use Rattle.hal_agreement.specs.Sites.{Site}
 use Rattle.hal_gen_expr.specs.Emitting.{Emitted, onwards, emit}
-use Rattle.hal_gen_expr.specs.Leaves.{value_of, call_of}
+use Rattle.hal_gen_expr.specs.Led.{Led, led_by, sizes_led, cell_of}
+use Rattle.hal_gen_expr.specs.Leaves.{is_nil, element_of, value_of, call_of}
 use Rattle.hal_gen_expr.specs.Numbering.{Numbering}
 use Rattle.hal_referents.specs.Referents.{Referent, DataOf, ConstantOf, BlockOf, BuiltinOf}
 use Rattle.hal_gen_expr.specs.Referents.{referent}
@@ -74,10 +77,45 @@ abbrev pub sign_code : List Instr → Place → Option Sign → Emitted
 sign_code before place (Some Minus) = emit_one before place (one op1.Minus)
 sign_code before place other = Ok before
 
--- a reference; those with subscripts have no code yet
-abbrev pub reference_code : Numbering → Site → List Instr → Reference → Emitted
-reference_code n site before (Refers place name path Unsubscripted) = emit before place (value_of n site path (referent site name))
-reference_code n site before (Refers place name path other) = Err place
+-- one instruction that may be there
+abbrev pub emit_any : List Instr → Place → Option Instr → Emitted
+emit_any before place i = emit before place (option_map (λ one. one ∷ []) i)
+
+-- the value of a name in a subscript, and an integer there
+abbrev pub name_code : Numbering → Site → List Instr → Naming → Emitted
+name_code n site before name = emit before name.place (value_of n site [] (referent site name.name))
+
+abbrev pub integer_code : List Instr → Place → ℕ → Emitted
+integer_code before place number = emit_any before place (integer_instr number)
+
+-- CELL of what subscripts choose, whose code stands before it
+abbrev pub cell_code : Numbering → Site → List Instr → Place → Bool → Led → Emitted
+cell_code n site before place spoken l = emit_any before place (cell_of n site spoken l)
+
+-- the address that a subscript without a mark chooses, of which the code is given: it is a place of the array of these sizes where there is one
+abbrev pub place_code : Numbering → Site → List Instr → Place → Emitted → Led → List ℕ → Emitted
+place_code n site before place one l [] = cell_code n site before place false l
+place_code n site before place one l (size ∷ sizes) = if is_nil sizes then onwards one (λ middle. cell_code n site middle place false l) else Err place
+
+-- the subscripts of an array, of which the code is given: those without a mark are its where no others are, and where there is none, none has code
+abbrev pub array_code : Bool → Bool → Emitted → Emitted → Emitted → Emitted
+array_code true true unmarked marked none = unmarked
+array_code true false unmarked marked none = none
+array_code false arrayed unmarked marked none = marked
+
+-- the value of data to which names lead, and its component: it is read between them
+abbrev pub led_code : Place → (Led → Emitted) → (Bool → List Instr → Emitted) → Led → Emitted
+led_code place address component l = onwards (address l) (λ middle. onwards (emit_one middle place instr.Fetch) (λ late. component (is_arrayed (sizes_led l)) late))
+
+-- what a name refers to, with a subscript: the code of the address that its copies and its array choose is given, and that of its component
+abbrev pub subscripted_code : Numbering → Site → List Instr → Place → List Naming → (Led → Emitted) → (Bool → List Instr → Emitted) → Referent → Emitted
+subscripted_code n site before place path address component r =
+    elim (led_by path r) [ None ↦ onwards (emit before place (value_of n site path r)) (λ middle. component false middle) | Some l ↦ led_code place address component l ]
+
+-- whether there is no subscript
+abbrev pub is_plain : Subscript → Bool
+is_plain Unsubscripted = true
+is_plain other = false
 
 -- a name with a list: what it refers to is called with arguments, computes of operands, or is multiplied by a parenthesis
 abbrev pub called_code : Numbering → Site → List Instr → Place → (List Instr → Emitted) → (Operation → Emitted) → (ℕ → Emitted) → Referent → Emitted
@@ -102,7 +140,7 @@ abbrev mutual
   expression_code n site before (Product place first others) = onwards (expression_code n site before first) (λ middle. folded_code n site middle place op2.Product others)
   expression_code n site before (Power place base exponent) = onwards (expression_code n site before base) (λ middle. emit middle place (power_of (exponent_instr exponent)))
   expression_code n site before (Not place operand) = onwards (expression_code n site before operand) (λ middle. emit_one middle place (one op1.Not))
-  expression_code n site before (Literal place literal) = emit before place (option_map (λ i. i ∷ []) (literal_instr literal))
+  expression_code n site before (Literal place literal) = emit_any before place (literal_instr literal)
   expression_code n site before (Decimal place number) = Err place
   expression_code n site before (Referred reference) = reference_code n site before reference
   expression_code n site before (Called place name arguments) =
@@ -141,3 +179,65 @@ abbrev mutual
       if is_whole (parameter_named site.set unit name).shape then Err place
       else onwards (expression_code n site before first) (λ middle. arguments_code n site middle place unit names others)
   arguments_code n site before place unit names arguments = Err place
+
+  -- a reference
+  pub reference_code : Numbering → Site → List Instr → Reference → Emitted
+  reference_code n site before (Refers place name path subscript) =
+      if is_plain subscript then emit before place (value_of n site path (referent site name))
+      else subscripted_code n site before place path (λ l. chosen_code n site before place subscript l) (λ arrayed middle. component_code n site middle place arrayed subscript) (referent site name)
+
+  -- the address of the one element that copy and array subscripts choose, in a reference at this place
+  pub chosen_code : Numbering → Site → List Instr → Place → Subscript → Led → Emitted
+  chosen_code n site before place Unsubscripted l = emit_any before place (element_of n site l.path l.declared l.stored l.shape)
+  chosen_code n site before place (ByName there name) l = place_code n site before place (name_code n site before name) l (sizes_led l)
+  chosen_code n site before place (ByInteger there mark number) l = place_code n site before place (integer_code before place number) l (sizes_led l)
+  chosen_code n site before place (ByParts there copies arrays components) l =
+      onwards (copies_code n site before place l.shape.copies copies)
+      (λ middle. onwards (array_code (is_none arrays) (is_arrayed (sizes_led l)) (indexes_code n site middle place (sizes_led l) components) (indexes_code n site middle place (sizes_led l) arrays) (Ok middle))
+      (λ last. cell_code n site last place (not (is_none copies)) l))
+
+  -- a subscript of the copies, where there are copies
+  pub copies_code : Numbering → Site → List Instr → Place → Option ℕ → Subscripts → Emitted
+  copies_code n site before place count NoSubscripts = Ok before
+  copies_code n site before place (Some count) (MoreSubscripts first others) = if is_none others then index_code n site before place count first else Err place
+  copies_code n site before place None (MoreSubscripts first others) = Err place
+
+  -- subscripts of an array of these sizes, one place for each
+  pub indexes_code : Numbering → Site → List Instr → Place → List ℕ → Subscripts → Emitted
+  indexes_code n site before place [] NoSubscripts = Ok before
+  indexes_code n site before place (size ∷ sizes) (MoreSubscripts first others) = onwards (index_code n site before place size first) (λ middle. indexes_code n site middle place sizes others)
+  indexes_code n site before place sizes other = Err place
+
+  -- one place of so many; subscripts that choose several have no code
+  pub index_code : Numbering → Site → List Instr → Place → ℕ → Sub → Emitted
+  index_code n site before place size (OnePlace one) = position_code n site before place (instr.Int (pos size)) one
+  index_code n site before place size other = Err place
+
+  -- a place of data, the number of whose places this instruction leaves
+  pub position_code : Numbering → Site → List Instr → Place → Instr → Position → Emitted
+  position_code n site before place ends (FromBeginning one) = expression_code n site before one
+  position_code n site before place ends (FromEnd there terms) = onwards (emit_one before place ends) (λ middle. terms_code n site middle terms)
+
+  -- the component of a value that a subscript chooses, of data with an array or without one
+  pub component_code : Numbering → Site → List Instr → Place → Bool → Subscript → Emitted
+  component_code n site before place arrayed Unsubscripted = Ok before
+  component_code n site before place true (ByName there name) = Ok before
+  component_code n site before place true (ByInteger there mark number) = Ok before
+  component_code n site before place false (ByName there name) = onwards (name_code n site before name) (λ middle. emit_one middle place (picks places.One))
+  component_code n site before place false (ByInteger there mark number) = onwards (integer_code before place number) (λ middle. emit_one middle place (picks places.One))
+  component_code n site before place arrayed (ByParts there copies arrays components) = if arrayed && is_none arrays then Ok before else parts_code n site before place components
+
+  -- the same of the subscripts of the component
+  pub parts_code : Numbering → Site → List Instr → Place → Subscripts → Emitted
+  parts_code n site before place NoSubscripts = Ok before
+  parts_code n site before place (MoreSubscripts first others) =
+      if is_none others then onwards (part_code n site before place first) (λ middle. emit_one middle place (picks (places_of first))) else Err place
+
+  -- the places of a component of the value on the stack, which LEN counts
+  pub part_code : Numbering → Site → List Instr → Place → Sub → Emitted
+  part_code n site before place (Every there) = emit before place (Some (instr.Int (pos 1) ∷ instr.Len 1 ∷ []))
+  part_code n site before place (OnePlace one) = position_code n site before place (instr.Len 0) one
+  part_code n site before place (Range first last) =
+      onwards (position_code n site before place (instr.Len 0) first) (λ middle. position_code n site middle place (instr.Len 1) last)
+  part_code n site before place (Portion count first) =
+      onwards (expression_code n site before count) (λ middle. position_code n site middle place (instr.Len 1) first)

@@ -1,5 +1,5 @@
 -- The code of names: None where there is none yet.
-use Rattle.std.specs.Prelude.{ℕ, Bool, true, false, not, ◌&&◌, List, [], ◌∷◌, ◌++◌, Option, Some, None, if◌then◌else◌}
+use Rattle.std.specs.Prelude.{ℕ, Bool, true, false, not, ◌&&◌, ◌||◌, List, [], ◌∷◌, ◌++◌, Option, Some, None, if◌then◌else◌}
 use Rattle.std.specs.Option.{option_map, option_and_then, is_some}
 use Rattle.hal_grammar.specs.Leaves.{Naming}
 use Rattle.hal_scope.specs.declared.builtin.Builtin.{Builtin}
@@ -7,6 +7,9 @@ use Rattle.hal_scope.specs.declared.builtin.Builtin.TheVariants as builtin
 use Rattle.hal_values.specs.declared.value.Kind.{Kind}
 use Rattle.hal_code.specs.declared.instr.Instr.{Instr}
 use Rattle.hal_code.specs.declared.instr.Instr.TheVariants as instr
+use Rattle.hal_code.specs.declared.row.Base.{Base}
+use Rattle.hal_code.specs.declared.row.Base.TheVariants as base
+use Rattle.hal_code.specs.declared.row.Dimension.{Dimension}
 use Rattle.hal_meaning.specs.Bodies.{Body}
 use Rattle.hal_meaning.specs.Calls.{Parameter, parameter_named, inputs_of, outputs_of, is_function}
 use Rattle.hal_meaning.specs.Elements.{Component, Shape, chosen, offset}
@@ -28,15 +31,25 @@ abbrev pub is_one : List Component → Bool
 is_one (c ∷ []) = is_nil c.sizes
 is_one other = false
 
--- CELL of an element that lies there
-abbrev pub address_of : Numbering → Site → ℕ → Storing → ℕ → Kind → Option Instr
-address_of n site k stored at kind = option_and_then (λ from. option_map instr.Cell (view_number n kind from)) (base_of site k at stored)
+-- whether data lie there whatever the own places hold
+abbrev pub is_settled : Base → Bool
+is_settled (base.Shared n) = true
+is_settled (base.Own n) = true
+is_settled other = false
 
--- the same of the one element to which names lead
+-- where a view in these dimensions begins: where it has some, subscripts are evaluated before CELL, which may change what the own places hold
+abbrev pub settled_for : List Dimension → Base → Option Base
+settled_for rows from = if is_nil rows || is_settled from then Some from else None
+
+-- CELL of the elements in these dimensions, of which the first one lies there
+abbrev pub address_of : Numbering → Site → List Dimension → ℕ → Storing → ℕ → Kind → Option Instr
+address_of n site rows k stored at kind = option_and_then (λ from. option_map instr.Cell (view_number n rows kind from)) (option_and_then (settled_for rows) (base_of site k at stored))
+
+-- CELL of the one element to which names lead
 abbrev pub element_of : Numbering → Site → List Naming → ℕ → Storing → Shape → Option Instr
 element_of n site path k stored shape =
     if not (is_some shape.copies) && is_one (chosen path shape.components)
-    then address_of n site k stored (offset path shape.components) (kind_of_first (chosen path shape.components))
+    then address_of n site [] k stored (offset path shape.components) (kind_of_first (chosen path shape.components))
     else None
 
 -- built-in functions without a list
@@ -48,7 +61,7 @@ alone_of other = None
 
 -- the stores of input parameters of a unit, from the last to the first
 abbrev pub parameter_of : Numbering → Site → Parameter → Option Instr
-parameter_of n site p = address_of n site p.number InPlaces 0 (kind_of_first p.shape.components)
+parameter_of n site p = address_of n site [] p.number InPlaces 0 (kind_of_first p.shape.components)
 
 abbrev pub and_kept : Option (List Instr) → Option Instr → Option (List Instr)
 and_kept stores address = option_and_then (λ is. option_map (λ i. is ++ (i ∷ instr.Keep ∷ [])) address) stores

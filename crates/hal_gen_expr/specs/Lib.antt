@@ -1,10 +1,12 @@
 pub mod Referents
 pub mod Numbering
 pub mod Leaves
+pub mod Elements
+pub mod Led
 pub mod Emitting
 pub mod ExpressionCode
 pub mod Standing
 pub mod SeenSites
+pub mod SeenLed
 pub mod Emits
-pub mod Elements
 pub mod Called

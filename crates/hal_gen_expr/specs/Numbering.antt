@@ -1,5 +1,5 @@
 -- How the code of a set numbers its views and blocks.
-use Rattle.std.specs.Prelude.{ℕ, ◌+◌, ◌==◌, nat_lt, Bool, true, false, ◌&&◌, List, [], ◌∷◌, Option, Some, None, if◌then◌else◌}
+use Rattle.std.specs.Prelude.{ℕ, ◌+◌, ◌==◌, min, nat_lt, Bool, true, false, ◌&&◌, List, [], ◌∷◌, Option, Some, None, if◌then◌else◌}
 use Rattle.std.specs.List.{position}
 use Rattle.std.specs.Option.{option_map, option_and_then}
 use Rattle.hal_values.specs.declared.value.Kind.{Kind}
@@ -12,6 +12,7 @@ use Rattle.hal_code.specs.declared.row.View.{View}
 use Rattle.hal_code.specs.Sorts.{same_kind}
 use Rattle.hal_meaning.specs.Places.{Storing, InCells, InPlaces, ByReference, Unstored}
 use Rattle.hal_meaning.specs.ReportNames.{first_cell, first_place}
+use Rattle.hal_meaning.specs.Variables as tree
 use Rattle.hal_agreement.specs.Sites.{Site}
 
 -- the rows of the views, and the units of the blocks that are called, each in the order of its numbers
@@ -44,25 +45,34 @@ same_base (base.Own n) (base.Own m) = n == m
 same_base (base.Through at n) (base.Through other m) = (at == other) && (n == m)
 same_base one other = false
 
--- the view of a cell of this kind there
-abbrev pub cell_view : Base → Kind → View
-cell_view from kind = record { base = from; dimensions = []; target = target.Cell kind }
+-- a dimension as views have it; its stride is counted up to a limit, at which no view is found
+abbrev pub row_of : tree.Dimension → Dimension
+row_of d = record { size = d.size; stride = min d.stride most }
 
-abbrev pub has_none : List Dimension → Bool
-has_none [] = true
-has_none (d ∷ ds) = false
+-- whether a dimension of a view is this one
+abbrev pub same_row : Dimension → Dimension → Bool
+same_row one other = one.size == other.size && (one.stride == other.stride && nat_lt other.stride most)
+
+abbrev pub same_rows : List Dimension → List Dimension → Bool
+same_rows [] [] = true
+same_rows (one ∷ ones) (other ∷ others) = same_row one other && same_rows ones others
+same_rows ones others = false
+
+-- the view of cells of this kind in these dimensions, which begins there
+abbrev pub cell_view : Base → List Dimension → Kind → View
+cell_view from rows kind = record { base = from; dimensions = rows; target = target.Cell kind }
 
 abbrev pub gives_cell : Kind → Target → Bool
 gives_cell kind (target.Cell other) = same_kind other kind
 gives_cell kind (target.Shape shape) = false
 
 -- whether a row is this view
-abbrev pub is_cell_view : Base → Kind → View → Bool
-is_cell_view from kind row = same_base row.base from && (has_none row.dimensions && gives_cell kind row.target)
+abbrev pub is_cell_view : Base → List Dimension → Kind → View → Bool
+is_cell_view from rows kind row = same_base row.base from && (same_rows row.dimensions rows && gives_cell kind row.target)
 
--- the number of the view of a cell
-abbrev pub view_number : Numbering → Kind → Base → Option ℕ
-view_number n kind from = option_and_then (below most) (position (is_cell_view from kind) n.views)
+-- the number of this view
+abbrev pub view_number : Numbering → List Dimension → Kind → Base → Option ℕ
+view_number n rows kind from = option_and_then (below most) (position (is_cell_view from rows kind) n.views)
 
 -- the number of the block of a unit
 abbrev pub block_number : Numbering → ℕ → Option ℕ

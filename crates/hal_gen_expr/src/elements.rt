@@ -4,6 +4,7 @@ ghost use Rattle.std.specs.Prelude.{◌≡◌, map};
 ghost use Rattle.hal_tree.specs.SeenLeaves.{seen_name};
 ghost use Rattle.hal_elements.specs.SeenComponents.{seen_component};
 ghost use Rattle.hal_meaning.specs.Elements as elements;
+ghost use Rattle.hal_meaning.specs.Variables as variables;
 ghost use Rattle.hal_gen_expr.specs.Elements as found;
 
 use hal_elements::{Component, count};
@@ -93,4 +94,47 @@ pub fn element_named(path: &[Identifier], components: &[Component]) -> Option<El
     ensures { result ≡ found.element_in (map seen_name path.now) (map seen_component components.now) }
 {
     element_among(path, components)
+}
+
+/// The first element of the first component to which names lead.
+#[tactic(auto, unfolding(crate::specs::Elements::first_from))]
+fn first_among(path: &[Identifier], components: &[Component]) -> Element
+    ensures { result ≡ found.first_from (map seen_name path.now) 0 (map seen_component components.now) }
+{
+    let mut before: u32 = 0;
+    let mut rest = components;
+    while let Some((component, others)) = rest.split_first() {
+        if leads(path, &component.path) {
+            return Element {
+                before,
+                kind: component.kind,
+            };
+        }
+        before = before.saturating_add(count(component));
+        rest = others;
+    }
+    Element {
+        before,
+        kind: Kind::Double,
+    }
+}
+
+/// The first element to which names lead, 4,294,967,295 behind the first one of all where it lies farther (language document, Places).
+#[tactic(auto, using(crate::proofs::Chosen::first_chosen))]
+pub(crate) fn first_element(path: &[Identifier], components: &[Component]) -> Element
+    ensures { result ≡ found.first_in (map seen_name path.now) (map seen_component components.now) }
+{
+    first_among(path, components)
+}
+
+/// The sizes of the array of the first component to which names lead; none where there is none.
+pub(crate) fn sizes_named<'a>(path: &[Identifier], components: &'a [Component]) -> &'a [u16]
+    ensures { result.now ≡ variables.sizes_of_first (elements.chosen (map seen_name path.now) (map seen_component components.now)) }
+{
+    for component in components {
+        if leads(path, &component.path) {
+            return &component.sizes;
+        }
+    }
+    &[]
 }

@@ -3,7 +3,7 @@
 ghost use Rattle.std.specs.Prelude.{◌≡◌, ◌∷◌, [], map};
 ghost use Rattle.std.specs.Option.{option_map};
 ghost use Rattle.hal_tree.specs.Rows.{expressions, terms};
-ghost use Rattle.hal_tree.specs.SeenExpressions.{seen_expression, seen_reference, seen_signed};
+ghost use Rattle.hal_tree.specs.SeenExpressions.{seen_expression, seen_signed};
 ghost use Rattle.hal_tree.specs.SeenLeaves.{seen_conversion, seen_literal};
 ghost use Rattle.hal_constants.specs.declared.operation.Operation.TheVariants as operation;
 ghost use Rattle.hal_meaning.specs.Expressions as meaning;
@@ -17,9 +17,11 @@ ghost use Rattle.hal_gen_expr.specs.SeenSites.{seen_site, seen_numbering, IsSite
 
 use crate::conditions::stay;
 use crate::leaves::{
-    emit_one, emit_sign, emit_two, exponent_instr, literal_instr, one, operation_of_relation, two,
+    emit_any, emit_one, emit_sign, emit_two, exponent_instr, literal_instr, one,
+    operation_of_relation, two,
 };
 use crate::names::{emit_value, referent};
+use crate::references::emit_reference;
 use crate::site::Site;
 use crate::uncoded::Uncoded;
 use hal_base::Place;
@@ -28,7 +30,7 @@ use hal_constants::{Operation, operation_of, operation_of_conversion, operation_
 use hal_operations::{Op1, Op2};
 use hal_referents::{Meant, Referent};
 use hal_scope::Builtin;
-use hal_tree::{Conversion, Expr, LiteralValue, Reference, SignedTerm, Subscript};
+use hal_tree::{Conversion, Expr, LiteralValue, SignedTerm};
 
 /// Whether a built-in function is SIZE.
 fn is_size(builtin: Builtin) -> bool
@@ -129,36 +131,9 @@ fn converts(conversion: Conversion) -> Instr
 
 /// Adds the code of a literal.
 fn emit_literal(code: &mut Vec<Instr>, place: Place, literal: LiteralValue) -> Result<(), Uncoded>
-    ensures { Emits (emitting.emit code.old.items place (option_map (λ i. i ∷ []) (codes.literal_instr (seen_literal literal)))) result code.new.items }
+    ensures { Emits (codes.emit_any code.old.items place (codes.literal_instr (seen_literal literal))) result code.new.items }
 {
-    match literal_instr(literal) {
-        None => Err(Uncoded::At(place)),
-        Some(instr) => emit_one(code, place, instr),
-    }
-}
-
-/// Adds the code of a reference; those with subscripts have none yet.
-#[tactic(auto, using(hal_tree::proofs::MadeExpressions::made_reference, hal_tree::proofs::MadeExpressions::made_unsubscripted, hal_tree::proofs::MadeExpressions::made_by_name, hal_tree::proofs::MadeExpressions::made_by_integer, hal_tree::proofs::MadeExpressions::made_by_parts))]
-fn emit_reference(
-    code: &mut Vec<Instr>,
-    site: &Site<'_>,
-    reference: &Reference,
-) -> Result<(), Uncoded>
-    requires site { IsSite site.now }
-    ensures { Emits (codes.reference_code (seen_numbering site.now) (seen_site site.now) code.old.items (seen_reference reference.now)) result code.new.items }
-{
-    match &reference.subscript {
-        Subscript::None => emit_value(
-            code,
-            site,
-            reference.place,
-            &reference.further,
-            referent(site, &reference.name),
-        ),
-        Subscript::Name { .. } => Err(Uncoded::At(reference.place)),
-        Subscript::Integer { .. } => Err(Uncoded::At(reference.place)),
-        Subscript::Parts { .. } => Err(Uncoded::At(reference.place)),
-    }
+    emit_any(code, place, literal_instr(literal))
 }
 
 /// Adds the code of an expression, which leaves its value on the stack, or tells the place of the first part of it that has none yet (image document, Code
@@ -238,7 +213,7 @@ pub fn emit_expression(tree: &Expr, code: &mut Vec<Instr>, site: &Site<'_>) -> R
         }
         Expr::Literal { place, literal } => emit_literal(code, *place, *literal),
         Expr::Decimal { place, .. } => Err(Uncoded::At(*place)),
-        Expr::Reference(reference) => emit_reference(code, site, reference),
+        Expr::Reference(reference) => emit_reference(reference, code, site),
         Expr::Call {
             place,
             name,
@@ -287,7 +262,11 @@ fn emit_folded(
 /// Adds the code of terms behind a value.
 #[cycle(expressions)]
 #[tactic(auto, unfolding(hal_tree::specs::Rows::terms))]
-fn emit_terms(list: &Vec<SignedTerm>, code: &mut Vec<Instr>, site: &Site<'_>) -> Result<(), Uncoded>
+pub(crate) fn emit_terms(
+    list: &Vec<SignedTerm>,
+    code: &mut Vec<Instr>,
+    site: &Site<'_>,
+) -> Result<(), Uncoded>
     requires site { IsSite site.now }
     ensures { Emits (codes.terms_code (seen_numbering site.now) (seen_site site.now) code.old.items (terms (map seen_signed list.now.items))) result code.new.items }
 {

@@ -14,7 +14,7 @@ ghost use Rattle.hal_gen_expr.specs.Leaves as leaves;
 
 use crate::uncoded::Uncoded;
 use hal_base::Place;
-use hal_code::{Choice, Instr};
+use hal_code::{Choice, Instr, Places};
 use hal_operations::{Op1, Op2};
 use hal_scope::Builtin;
 use hal_tree::{Expr, LiteralValue, Relation, Sign};
@@ -35,6 +35,20 @@ pub fn emit_one(code: &mut Vec<Instr>, place: Place, instr: Instr) -> Result<(),
 {
     push(code, instr)?;
     Ok(())
+}
+
+/// Adds one instruction of the phrase that begins there, where it has one.
+pub(crate) fn emit_any(
+    code: &mut Vec<Instr>,
+    place: Place,
+    instr: Option<Instr>,
+) -> Result<(), Uncoded>
+    ensures { Emits (codes.emit_any code.old.items place instr) result code.new.items }
+{
+    match instr {
+        None => Err(Uncoded::At(place)),
+        Some(instr) => emit_one(code, place, instr),
+    }
 }
 
 /// Adds an instruction and another one behind it, where the first one is there.
@@ -69,6 +83,13 @@ pub fn two(op: Op2) -> Instr
     Instr::Op2(Choice::Known(op))
 }
 
+/// PICK of such places.
+pub fn picks(places: Places) -> Instr
+    ensures { result ≡ placed.picks places }
+{
+    Instr::Pick(Choice::Known(places))
+}
+
 /// The instruction that puts a value on the stack.
 pub fn pushes(value: &Value) -> Instr
     ensures { result ≡ placed.pushes value.now }
@@ -84,7 +105,7 @@ pub fn pushes(value: &Value) -> Instr
 }
 
 /// An integer of a literal, where it has 31 bits.
-fn integer_instr(number: u32) -> Option<Instr>
+pub(crate) fn integer_instr(number: u32) -> Option<Instr>
     ensures { result ≡ codes.integer_instr number }
 {
     match i32::try_from(number) {

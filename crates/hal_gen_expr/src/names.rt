@@ -5,6 +5,7 @@ ghost use Rattle.hal_tree.specs.SeenLeaves.{seen_name};
 ghost use Rattle.hal_referents.specs.SeenReferents.{seen_meant, seen_referent};
 ghost use Rattle.hal_gen_expr.specs.Emits.{Emits};
 ghost use Rattle.hal_gen_expr.specs.Emitting as emitting;
+ghost use Rattle.hal_gen_expr.specs.ExpressionCode as codes;
 ghost use Rattle.hal_gen_expr.specs.Leaves as leaves;
 ghost use Rattle.hal_gen_expr.specs.Referents as referents;
 ghost use Rattle.hal_gen_expr.specs.SeenSites.{seen_site, seen_numbering, IsSite};
@@ -78,4 +79,12 @@ pub(crate) fn emit_value(
         Meant::Builtin(builtin) => emit_alone(code, place, builtin),
         Meant::Nothing => Err(Uncoded::At(place)),
     }
+}
+
+/// Adds the code of the value of a name in a subscript.
+pub fn emit_name(code: &mut Vec<Instr>, site: &Site<'_>, name: &Identifier) -> Result<(), Uncoded>
+    requires site { IsSite site.now }
+    ensures { Emits (codes.name_code (seen_numbering site.now) (seen_site site.now) code.old.items (seen_name name.now)) result code.new.items }
+{
+    emit_value(code, site, name.place, &[], referent(site, &name.name))
 }

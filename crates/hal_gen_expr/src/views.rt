@@ -1,6 +1,6 @@
-//! The views of single cells, and their numbers.
+//! The views of cells, and their numbers.
 
-ghost use Rattle.std.specs.Prelude.{◌≡◌, ◌+◌, map};
+ghost use Rattle.std.specs.Prelude.{◌≡◌, ◌+◌, [], map};
 ghost use Rattle.std.specs.List.{position};
 ghost use Rattle.hal_tree.specs.SeenLeaves.{seen_name};
 ghost use Rattle.hal_cells.specs.SeenStoring.{seen_storing};
@@ -11,10 +11,10 @@ ghost use Rattle.hal_gen_expr.specs.Leaves as leaves;
 ghost use Rattle.hal_gen_expr.specs.Numbering as numbers;
 ghost use Rattle.hal_gen_expr.specs.SeenSites.{lent_place, lent_place_in, seen_site, seen_numbering, IsSite};
 
-use crate::elements::element_named;
+use crate::elements::{Element, element_named};
 use crate::site::Site;
 use hal_cells::Storing;
-use hal_code::{Base, Instr, Target, View};
+use hal_code::{Base, Dimension, Instr, Target, View};
 use hal_elements::Shape;
 use hal_own_places::Place;
 use hal_tree::Identifier;
@@ -122,54 +122,101 @@ fn gives_cell(kind: Kind, target: Target) -> bool
     }
 }
 
-/// Whether a view has no dimensions.
-fn has_none(view: &View) -> bool
-    ensures { result ≡ numbers.has_none view.now.dimensions }
+/// Whether a dimension of a view is this one; from 4,294,967,295 on no stride is one of a view.
+fn is_same_row(one: Dimension, other: Dimension) -> bool
+    ensures { result ≡ numbers.same_row one other }
 {
-    view.dimensions.as_slice().is_empty()
+    one.size == other.size && (one.stride == other.stride && other.stride < 4_294_967_295)
 }
 
-/// Whether a view is that of the cell of this kind there (image document, Views).
-pub fn is_cell_view(from: Base, kind: Kind, view: &View) -> bool
-    ensures { result ≡ numbers.is_cell_view from kind view.now }
+/// Whether the dimensions of a view are these.
+fn has_rows(found: &[Dimension], wanted: &[Dimension]) -> bool
+    ensures { result ≡ numbers.same_rows found.now wanted.now }
 {
-    is_same_base(view.base, from) && (has_none(view) && gives_cell(kind, view.target))
+    let Some((one, ones)) = found.split_first() else {
+        return wanted.is_empty();
+    };
+    let Some((other, others)) = wanted.split_first() else {
+        return false;
+    };
+    is_same_row(*one, *other) && has_rows(ones, others)
 }
 
-/// The place among views of that of the cell of this kind there.
-fn place_of(views: &[View], kind: Kind, from: Base) -> Option<usize>
-    ensures { result ≡ position (numbers.is_cell_view from kind) views.now }
+/// Whether a view is that of cells of this kind in these dimensions, which begins there (image document, Views).
+pub fn is_cell_view(from: Base, rows: &[Dimension], kind: Kind, view: &View) -> bool
+    ensures { result ≡ numbers.is_cell_view from rows.now kind view.now }
 {
-    views.iter().position(|view| is_cell_view(from, kind, view))
+    is_same_base(view.base, from)
+        && (has_rows(view.dimensions.as_slice(), rows) && gives_cell(kind, view.target))
 }
 
-/// The number of the view of the cell of this kind there.
+/// The place of this view among views.
+fn place_of(views: &[View], rows: &[Dimension], kind: Kind, from: Base) -> Option<usize>
+    ensures { result ≡ position (numbers.is_cell_view from rows.now kind) views.now }
+{
+    views
+        .iter()
+        .position(|view| is_cell_view(from, rows, kind, view))
+}
+
+/// The number of this view.
 #[tactic(auto, unfolding(crate::specs::SeenSites::seen_numbering))]
-fn view_number(site: &Site<'_>, kind: Kind, from: Base) -> Option<u32>
-    ensures { result ≡ numbers.view_number (seen_numbering site.now) kind from }
+fn view_number(site: &Site<'_>, rows: &[Dimension], kind: Kind, from: Base) -> Option<u32>
+    ensures { result ≡ numbers.view_number (seen_numbering site.now) rows.now kind from }
 {
-    let place = place_of(site.views, kind, from)?;
+    let place = place_of(site.views, rows, kind, from)?;
     numbered(place)
 }
 
-/// CELL of an element of the data that the phrase with this number declares and that are stored so.
-fn address_of(
+/// Whether data lie there whatever the own places hold.
+fn is_settled(from: Base) -> bool
+    ensures { result ≡ leaves.is_settled from }
+{
+    match from {
+        Base::Shared(_) => true,
+        Base::Own(_) => true,
+        Base::Through { .. } => false,
+        Base::Other { .. } => false,
+    }
+}
+
+/// Where a view in these dimensions begins. Where it has some, subscripts are evaluated before CELL, which may change what the own places hold.
+fn settled_for(rows: &[Dimension], from: Base) -> Option<Base>
+    ensures { result ≡ leaves.settled_for rows.now from }
+{
+    if rows.is_empty() || is_settled(from) {
+        Some(from)
+    } else {
+        None
+    }
+}
+
+/// CELL of the elements in these dimensions of the data that the phrase with this number declares and that are stored so, before which so many lie.
+pub(crate) fn address_of(
     site: &Site<'_>,
+    rows: &[Dimension],
     declared: usize,
     stored: Storing,
-    before: u32,
-    kind: Kind,
+    one: Element,
 ) -> Option<Instr>
     requires site { IsSite site.now }
-    ensures { result ≡ leaves.address_of (seen_numbering site.now) (seen_site site.now) declared (seen_storing stored) before kind }
+    ensures { result ≡ leaves.address_of (seen_numbering site.now) (seen_site site.now) rows.now declared (seen_storing stored) one.before one.kind }
 {
-    let from = base_of(site, declared, stored, before)?;
-    let number = view_number(site, kind, from)?;
+    let base = base_of(site, declared, stored, one.before)?;
+    let from = settled_for(rows, base)?;
+    let number = view_number(site, rows, one.kind, from)?;
     Some(Instr::Cell(number))
 }
 
+/// CELL of one element.
+fn address_of_one(site: &Site<'_>, declared: usize, stored: Storing, one: Element) -> Option<Instr>
+    requires site { IsSite site.now }
+    ensures { result ≡ leaves.address_of (seen_numbering site.now) (seen_site site.now) [] declared (seen_storing stored) one.before one.kind }
+{
+    address_of(site, &[], declared, stored, one)
+}
+
 /// CELL of the one element of data to which names lead, where it is one and has a view (image document, Code that stands for a set).
-#[tactic(auto, using(crate::proofs::Capped::element_given))]
 pub fn element_of(
     site: &Site<'_>,
     path: &[Identifier],
@@ -184,5 +231,5 @@ pub fn element_of(
         return None;
     }
     let one = element_named(path, &shape.components)?;
-    address_of(site, declared, stored, one.before, one.kind)
+    address_of_one(site, declared, stored, one)
 }

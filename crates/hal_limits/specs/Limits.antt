@@ -3,12 +3,12 @@ use Rattle.std.specs.Prelude.{◌≡◌, ◌≤◌, ◌<◌, ◌⊎◌, ⊤, ℕ
 use Rattle.hal_base.specs.declared.limits.TheConstants.{CELL_LIMIT, EVENT_LIMIT, PROCESS_LIMIT}
 use Rattle.hal_base.specs.declared.refusal.Fault.{Fault}
 use Rattle.hal_base.specs.declared.refusal.Fault.TheVariants as fault
-use Rattle.hal_base.specs.declared.refusal.Place.{Place}
 use Rattle.hal_phrases.specs.Phrases.{Phrase}
 use Rattle.hal_constants.specs.Known.{Known}
 use Rattle.hal_meaning.specs.Bodies.{processes_of}
 use Rattle.hal_meaning.specs.Events.{declared_events}
 use Rattle.hal_meaning.specs.Places.{cell_count}
+use Rattle.hal_meaning.specs.Sets.{beginning}
 use Rattle.hal_views.specs.Views.{view_cells, view_limit}
 
 -- no limit is passed
@@ -30,11 +30,7 @@ abbrev pub Tells : List Phrase → Known → Option ℕ → Type 0
 Tells ps vs None = IsWithin ps vs
 Tells ps vs (Some rule) = BreaksLimit ps vs rule
 
--- where these rules are broken: the beginning of the first unit
-abbrev pub beginning : Place
-beginning = record { unit = 0; line = 1; column = 1 }
-
--- a rule that is broken, at its place; want of memory says nothing of the set
+-- a rule that is broken, at the beginning of the set; want of memory says nothing of the set
 abbrev pub IsBeyondBy : List Phrase → Known → Fault → Type 0
 IsBeyondBy ps vs (fault.Broken refusal) = BreaksLimit ps vs refusal.rule.0 × (refusal.place ≡ beginning)
 IsBeyondBy ps vs (fault.Memory e) = ⊤

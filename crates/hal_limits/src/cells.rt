@@ -9,13 +9,12 @@ ghost use Rattle.hal_limits.specs.Counts.{capped, counted};
 ghost use Rattle.hal_limits.specs.Sizes as sizes;
 
 use crate::own::places_in;
-use crate::reentrant::is_reentrant_at;
 use crate::sizes::{capped, size_of_item};
 use hal_cells::{Storing, storing_of};
 use hal_constants::Known;
 use hal_names::Names;
 use hal_phrases::{Node, Phrase};
-use hal_reach::{processes_of, unit_numbers};
+use hal_reach::{is_reentrant_at, processes_of, unit_numbers};
 use std::alloc::{AllocError, Global};
 
 /// How many shared cells a phrase declares.

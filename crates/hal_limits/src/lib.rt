@@ -9,7 +9,6 @@ mod laws;
 mod limits;
 mod own;
 mod reached;
-mod reentrant;
 mod shapes;
 mod sizes;
 mod view;

@@ -1,12 +1,14 @@
--- The views that the code of a set names: one for each cell and place to which names in the units of its processes lead, each once, in the order of these names.
-use Rattle.std.specs.Prelude.{ℕ, ◌+◌, ◌==◌, List, [], ◌∷◌, ◌++◌, Option, Some, None, if◌then◌else◌}
+-- The views that the code of a set names: one for each cell and place to which names in the units of its processes lead, and one for the elements among which
+-- subscripts choose, each once, in the order of these names.
+use Rattle.std.specs.Prelude.{ℕ, ◌+◌, ◌==◌, map, Bool, List, [], ◌∷◌, ◌++◌, Option, Some, None, if◌then◌else◌}
 use Rattle.std.specs.List.{list_any}
 use Rattle.std.specs.Option.{is_some}
 use Rattle.hal_values.specs.declared.value.Kind.{Kind}
 use Rattle.hal_grammar.specs.Leaves.{Naming}
-use Rattle.hal_grammar.specs.Expressions.{Reference, Refers, Unsubscripted}
-use Rattle.hal_phrases.specs.Phrases.{Node, Phrase, OfReference, OfCallForm}
+use Rattle.hal_grammar.specs.Expressions.{Reference, Refers}
+use Rattle.hal_phrases.specs.Phrases.{Node, Phrase, OfReference, OfSubscriptName, OfCallForm}
 use Rattle.hal_code.specs.declared.row.Base.{Base}
+use Rattle.hal_code.specs.declared.row.Dimension.{Dimension}
 use Rattle.hal_code.specs.declared.row.View.{View}
 use Rattle.hal_meaning.specs.Bodies.{Body, processes_of}
 use Rattle.hal_meaning.specs.Places.{Storing}
@@ -15,32 +17,40 @@ use Rattle.hal_agreement.specs.Sites.{Site}
 use Rattle.hal_referents.specs.Referents.{Referent, DataOf}
 use Rattle.hal_gen_expr.specs.declared.elements.Element.{Element}
 use Rattle.hal_gen_expr.specs.Elements.{element_in}
-use Rattle.hal_gen_expr.specs.Numbering.{base_of, cell_view, is_cell_view}
+use Rattle.hal_gen_expr.specs.ExpressionCode.{is_plain}
+use Rattle.hal_gen_expr.specs.Led.{Led, led_by, first_led, dimensions_led, speaks}
+use Rattle.hal_gen_expr.specs.Numbering.{base_of, row_of, cell_view, is_cell_view}
 use Rattle.hal_gen_expr.specs.Referents.{referent}
 use Rattle.hal_link.specs.Linking.{process_site}
 
--- the view of the cell of this kind there, unless it is among them
-abbrev pub with_cell : Kind → List View → Option Base → List View
-with_cell kind views None = views
-with_cell kind views (Some from) = if list_any (is_cell_view from kind) views then views else views ++ (cell_view from kind ∷ [])
+-- the view of cells of this kind in these dimensions, which begins there, unless it is among them
+abbrev pub with_cell : List Dimension → Kind → List View → Option Base → List View
+with_cell rows kind views None = views
+with_cell rows kind views (Some from) = if list_any (is_cell_view from rows kind) views then views else views ++ (cell_view from rows kind ∷ [])
 
 -- that of an element
 abbrev pub with_element : Site → ℕ → Storing → List View → Option Element → List View
 with_element site k way views None = views
-with_element site k way views (Some one) = with_cell one.kind views (base_of site k one.before way)
+with_element site k way views (Some one) = with_cell [] one.kind views (base_of site k one.before way)
 
 -- that of the one element to which names lead, where it is one
 abbrev pub with_referent : Site → List View → List Naming → Referent → List View
 with_referent site views path (DataOf k way shape) = if is_some shape.copies then views else with_element site k way views (element_in path shape.components)
 with_referent site views path other = views
 
+-- that of elements among which a subscript chooses, where it is data
+abbrev pub with_led : Site → List View → Bool → Option Led → List View
+with_led site views spoken None = views
+with_led site views spoken (Some l) = with_cell (map row_of (dimensions_led spoken l)) (first_led l).kind views (base_of site l.declared (first_led l).before l.stored)
+
 abbrev pub with_reference : Site → List View → Reference → List View
-with_reference site views (Refers place name path Unsubscripted) = with_referent site views path (referent site name)
-with_reference site views (Refers place name path other) = views
+with_reference site views (Refers place name path subscript) =
+    if is_plain subscript then with_referent site views path (referent site name) else with_led site views (speaks subscript) (led_by path (referent site name))
 
 -- those of a phrase
 abbrev pub with_node : Site → List View → Node → List View
 with_node site views (OfReference role reference) = with_reference site views reference
+with_node site views (OfSubscriptName name) = with_referent site views [] (referent site name.name)
 with_node site views (OfCallForm place name arguments) = with_referent site views [] (referent site name)
 with_node site views other = views
 

@@ -1,6 +1,6 @@
 //! The views that code names.
 
-ghost use Rattle.std.specs.Prelude.{◌≡◌, OnOk, map};
+ghost use Rattle.std.specs.Prelude.{◌≡◌, OnOk, Some, map};
 ghost use Rattle.std.specs.List.{list_any};
 ghost use Rattle.hal_cells.specs.SeenStoring.{seen_storing};
 ghost use Rattle.hal_phrases.specs.SeenPhrases.{seen_node, seen_phrase};
@@ -8,43 +8,49 @@ ghost use Rattle.hal_referents.specs.SeenReferents.{seen_meant, seen_referent};
 ghost use Rattle.hal_tree.specs.SeenExpressions.{seen_reference};
 ghost use Rattle.hal_tree.specs.SeenLeaves.{seen_name};
 ghost use Rattle.hal_gen_expr.specs.Numbering.{is_cell_view};
+ghost use Rattle.hal_gen_expr.specs.SeenLed.{seen_led};
 ghost use Rattle.hal_gen_expr.specs.SeenSites.{seen_site, IsSite};
 ghost use Rattle.hal_link.specs.Views as views;
 
 use hal_cells::Storing;
-use hal_code::{Base, Target, View};
-use hal_gen_expr::{Element, Site, base_of, element_named, is_cell_view, referent};
+use hal_code::{Base, Dimension, Target, View};
+use hal_gen_expr::{
+    Element, Led, Site, base_of, dimensions_led, element_named, first_led, is_cell_view, is_plain,
+    led_by, referent, speaks,
+};
 use hal_phrases::{Node, Phrase};
 use hal_referents::{Meant, Referent};
-use hal_tree::{Identifier, Reference, Subscript};
+use hal_tree::{Identifier, Reference};
 use hal_values::{Kind, Listing};
 use std::alloc::AllocError;
 
-/// Whether the view of the cell of this kind there is among these.
-fn has_view(views: &[View], kind: Kind, from: Base) -> bool
-    ensures { result ≡ list_any (is_cell_view from kind) views.now }
+/// Whether the view of cells of this kind in these dimensions, which begins there, is among these.
+fn has_view(views: &[View], rows: &[Dimension], kind: Kind, from: Base) -> bool
+    ensures { result ≡ list_any (is_cell_view from rows.now kind) views.now }
 {
-    views.iter().any(|view| is_cell_view(from, kind, view))
+    views
+        .iter()
+        .any(|view| is_cell_view(from, rows, kind, view))
 }
 
-/// Adds the view of the cell of this kind there, unless it is among them.
+/// Adds the view of cells of this kind in these dimensions, which begins there, unless it is among them.
 fn push_cell(
     into: &mut Vec<View>,
-    site: &Site<'_>,
+    rows: Vec<Dimension>,
     kind: Kind,
     from: Option<Base>,
 ) -> Result<(), AllocError>
-    ensures { OnOk result (into.new.items ≡ views.with_cell kind into.old.items from) }
+    ensures { OnOk result (into.new.items ≡ views.with_cell rows.items kind into.old.items from) }
 {
     let Some(base) = from else {
         return Ok(());
     };
-    if has_view(into, kind, base) {
+    if has_view(into, &rows, kind, base) {
         return Ok(());
     }
     into.push(View {
         base,
-        dimensions: Listing::empty(site.alloc),
+        dimensions: Listing::new(rows),
         target: Target::Cell(kind),
     })?;
     Ok(())
@@ -65,7 +71,7 @@ fn push_element(
         None => Ok(()),
         Some(one) => {
             let from = base_of(site, declared, stored, one.before);
-            push_cell(into, site, one.kind, from)
+            push_cell(into, Vec::new(site.alloc), one.kind, from)
         }
     }
 }
@@ -115,8 +121,25 @@ fn push_meant(
     }
 }
 
+/// Adds that of the elements among which a subscript chooses, where it is data.
+#[tactic(auto, unfolding(hal_gen_expr::specs::SeenLed::seen_led))]
+fn push_led(
+    into: &mut Vec<View>,
+    site: &Site<'_>,
+    spoken: bool,
+    led: Led<'_>,
+) -> Result<(), AllocError>
+    requires site { IsSite site.now }
+    ensures { OnOk result (into.new.items ≡ views.with_led (seen_site site.now) into.old.items spoken (Some (seen_led led.entry))) }
+{
+    let rows = dimensions_led(site.alloc, spoken, led)?;
+    let one = first_led(led);
+    let from = base_of(site, led.declared, led.stored, one.before);
+    push_cell(into, rows, one.kind, from)
+}
+
 /// Adds that of a reference.
-#[tactic(auto, using(hal_tree::proofs::MadeExpressions::made_reference, hal_tree::proofs::MadeExpressions::made_unsubscripted, hal_tree::proofs::MadeExpressions::made_by_name, hal_tree::proofs::MadeExpressions::made_by_integer, hal_tree::proofs::MadeExpressions::made_by_parts))]
+#[tactic(auto, using(hal_tree::proofs::MadeExpressions::made_reference))]
 fn push_reference(
     into: &mut Vec<View>,
     site: &Site<'_>,
@@ -125,16 +148,13 @@ fn push_reference(
     requires site { IsSite site.now }
     ensures { OnOk result (into.new.items ≡ views.with_reference (seen_site site.now) into.old.items (seen_reference reference.now)) }
 {
-    match &reference.subscript {
-        Subscript::None => push_meant(
-            into,
-            site,
-            &reference.further,
-            referent(site, &reference.name),
-        ),
-        Subscript::Name { .. } => Ok(()),
-        Subscript::Integer { .. } => Ok(()),
-        Subscript::Parts { .. } => Ok(()),
+    let meant = referent(site, &reference.name);
+    if is_plain(&reference.subscript) {
+        return push_meant(into, site, &reference.further, meant);
+    }
+    match led_by(&reference.further, meant) {
+        None => Ok(()),
+        Some(led) => push_led(into, site, speaks(&reference.subscript), led),
     }
 }
 
@@ -145,6 +165,7 @@ fn push_node(into: &mut Vec<View>, site: &Site<'_>, node: Node<'_>) -> Result<()
 {
     match node {
         Node::Reference { role: _, reference } => push_reference(into, site, reference),
+        Node::SubscriptName { name } => push_meant(into, site, &[], referent(site, &name.name)),
         Node::CallForm {
             place: _,
             name,

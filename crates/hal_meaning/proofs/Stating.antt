@@ -12,6 +12,7 @@ use Rattle.hal_values.specs.declared.environment.Entry.{Entry}
 use Rattle.hal_values.specs.declared.environment.ErrNo.{ErrNo}
 use Rattle.hal_values.specs.declared.plan.Pause.TheVariants as pause
 use Rattle.hal_values.specs.declared.request.Request.TheVariants as request
+use Rattle.hal_values.specs.declared.value.Kind.{Kind}
 use Rattle.hal_values.specs.declared.value.Value.{Value}
 use Rattle.hal_values.specs.declared.value.Value.TheVariants as value
 use Rattle.hal_values.specs.Answers.{Answered, error}
@@ -25,27 +26,27 @@ use Rattle.hal_states.specs.Numbers.{integer_of, holds, is_past}
 use Rattle.hal_meaning.specs.Marks.{after_statement, after_alternative}
 use Rattle.hal_meaning.specs.Variables.{Meant, MeantData, MeantConstant, MeantEvent, MeantBlock, MeantBuiltin, MeantNothing, name_meant}
 use Rattle.hal_meaning.specs.States.{State, Evaluated, Gives, Asks, Caught, Restarts, Lost, bind, Flow, Normal, Leaves, Repeats, Returned}
-use Rattle.hal_meaning.specs.Access.{Here, within, updating, raise, turn, put}
+use Rattle.hal_meaning.specs.Access.{Here, within, updating, raise, turn, store}
 use Rattle.hal_meaning.specs.Expressions.{inputs_at, Located}
 use Rattle.hal_meaning.specs.RealTime.{stated_at_mark}
 use Rattle.hal_meaning.specs.Statements.{goes_on, replaced, components_in, component_received, received_by, is_array_named, received, all_received, kind_meant, kind_named, datum_of, datum_received, all_read, line_fitting, channel_of, written, spots, called, group_left, After, NextTurn, Ended, after_turn, goes_round, turn_made, turn_if, guard_holds, first_holds, span_holds, kept_at, variable_spot, variable_stored, variable_read, group_here, end_place, update_left, resumed, settled, update_groups, entered_update, returned, step_of, begun_stepping, span_begins, next_stored, next_stepping, looping, listed, waited, is_one, goes_behind, one_of, spanned, statement, basic_statement, otherwise, without_case, case_of, selected, grouped, statements}
 use Rattle.hal_meaning.specs.Tasks.{Looping, Meaning, Tested, Stepping, Listing, Resuming}
 use Rattle.hal_meaning.proofs.Going.{weight, turns_in, spare, pushed, Turned-through, Fine, Answers, Goes-bind, Goes-weaker}
-use Rattle.hal_meaning.proofs.Accessing.{after_answer, Begins, Goes-ask, Goes-request, Goes-if, Goes-raise, Goes-turn, Goes-read, Goes-put, Goes-store}
+use Rattle.hal_meaning.proofs.Accessing.{after_answer, Begins, Goes-ask, Goes-request, Goes-if, Goes-raise, Goes-turn, Goes-read, Goes-store}
 use Rattle.hal_meaning.proofs.Able.{Ready, Runs, Fit, seq, begun as task_begun, same}
 use Rattle.hal_meaning.proofs.Calling.{Runs-call}
 use Rattle.hal_meaning.proofs.Expressing.{Runs-mapped, Runs-named, Runs-expression, Runs-values, Runs-passed, Runs-chosen, Runs-part_chosen}
 use Rattle.hal_meaning.proofs.RealTiming.{Gets-time, with_got, EachStated, at_mark_exist, Runs-eventful, Runs-cancel, Runs-terminate, Runs-changed, Runs-scheduled}
 
-Runs-replaced_by : (h : Here) (limit : ℕ) (a : Answered) (at : Spot) (old new : Value) (p : Part) (r : Result Value ErrNo) (st : State) → Fit h limit st
-    → Runs h limit a (elim r [ Ok v ↦ put h at v st | Err e ↦ bind (raise h e st) (λ ignored later. put h at (mended_patch old p new) later) ])
-    (elim r [ Ok v ↦ put h at v (pushed a st) | Err e ↦ bind (raise h e (pushed a st)) (λ ignored later. put h at (mended_patch old p new) later) ])
-Runs-replaced_by h limit a at old new p (Ok v) st fit = Goes-put h h.set.turns limit a at v st fit
-Runs-replaced_by h limit a at old new p (Err e) st fit =
-    seq h limit a _ _ _ _ (Goes-raise h h.set.turns limit a e st fit) (λ ignored later known. Goes-put h h.set.turns limit a at (mended_patch old p new) later known)
+Runs-replaced_by : (h : Here) (limit : ℕ) (a : Answered) (k : Kind) (at : Spot) (old new : Value) (p : Part) (r : Result Value ErrNo) (st : State) → Fit h limit st
+    → Runs h limit a (elim r [ Ok v ↦ store h k at v st | Err e ↦ bind (raise h e st) (λ ignored later. store h k at (mended_patch old p new) later) ])
+    (elim r [ Ok v ↦ store h k at v (pushed a st) | Err e ↦ bind (raise h e (pushed a st)) (λ ignored later. store h k at (mended_patch old p new) later) ])
+Runs-replaced_by h limit a k at old new p (Ok v) st fit = Goes-store h h.set.turns limit a k at v st fit
+Runs-replaced_by h limit a k at old new p (Err e) st fit =
+    seq h limit a _ _ _ _ (Goes-raise h h.set.turns limit a e st fit) (λ ignored later known. Goes-store h h.set.turns limit a k at (mended_patch old p new) later known)
 
-Runs-replaced : (h : Here) (limit : ℕ) (a : Answered) (at : Spot) (old new : Value) (p : Part) (st : State) → Fit h limit st → Runs h limit a (replaced h at old new p st) (replaced h at old new p (pushed a st))
-Runs-replaced h limit a at old new p st fit = Runs-replaced_by h limit a at old new p (patched old p new) st fit
+Runs-replaced : (h : Here) (limit : ℕ) (a : Answered) (k : Kind) (at : Spot) (old new : Value) (p : Part) (st : State) → Fit h limit st → Runs h limit a (replaced h k at old new p st) (replaced h k at old new p (pushed a st))
+Runs-replaced h limit a k at old new p st fit = Runs-replaced_by h limit a k at old new p (patched old p new) st fit
 
 Runs-goes_on : (h : Here) (limit : ℕ) (a : Answered) (done other : Evaluated (Unit {0})) → Runs h limit a done other → Runs h limit a (goes_on done) (goes_on other)
 Runs-goes_on h limit a done other is = Runs-mapped h limit a done other (λ nothing. Normal) is
@@ -171,7 +172,7 @@ module _ (n : ℕ) (a : Answered) (rec after : Meaning) where
   Runs-component h limit ready l NoSubscripts v st fit = Goes-store h h.set.turns limit a l.kind l.at v st fit
   Runs-component h limit ready l (MoreSubscripts first others) v st fit =
       seq h limit a _ _ _ _ (Goes-read h h.set.turns limit a l.kind l.at st fit)
-      (λ old later known. seq h limit a _ _ _ _ (Runs-part_chosen h limit n a rec after ready (place_count old) first later known) (λ p last more. Runs-replaced h limit a l.at old v p last more))
+      (λ old later known. seq h limit a _ _ _ _ (Runs-part_chosen h limit n a rec after ready (place_count old) first later known) (λ p last more. Runs-replaced h limit a l.kind l.at old v p last more))
 
   Runs-by : (h : Here) (limit : ℕ) → Ready h limit n a rec after → (l : Located) (arrayed : Bool) (subscript : Subscript) (v : Value) (st : State) → Fit h limit st
       → Runs h limit a (received_by rec h l arrayed subscript v st) (received_by after h l arrayed subscript v (pushed a st))
@@ -182,9 +183,9 @@ module _ (n : ℕ) (a : Answered) (rec after : Meaning) where
   Runs-by h limit ready l false Unsubscripted v st fit = Runs-component h limit ready l (components_in false Unsubscripted) v st fit
   Runs-by h limit ready l false (ByName place name) v st fit =
       seq h limit a _ _ _ _ (Goes-read h h.set.turns limit a l.kind l.at st fit)
-      (λ old later known. seq h limit a _ _ _ _ (Runs-named h limit n a rec after ready name later known) (λ i last more. Runs-replaced h limit a l.at old v (part.One (integer_of i)) last more))
+      (λ old later known. seq h limit a _ _ _ _ (Runs-named h limit n a rec after ready name later known) (λ i last more. Runs-replaced h limit a l.kind l.at old v (part.One (integer_of i)) last more))
   Runs-by h limit ready l false (ByInteger place mark number) v st fit =
-      seq h limit a _ _ _ _ (Goes-read h h.set.turns limit a l.kind l.at st fit) (λ old later known. Runs-replaced h limit a l.at old v (part.One (pos number)) later known)
+      seq h limit a _ _ _ _ (Goes-read h h.set.turns limit a l.kind l.at st fit) (λ old later known. Runs-replaced h limit a l.kind l.at old v (part.One (pos number)) later known)
   Runs-by h limit ready l false (ByParts place copies arrays components) v st fit = Runs-component h limit ready l (components_in false (ByParts place copies arrays components)) v st fit
 
   Runs-received : (h : Here) (limit : ℕ) → Ready h limit n a rec after → (v : Value) (receiver : Reference) (st : State) → Fit h limit st → Runs h limit a (received rec h v receiver st) (received after h v receiver (pushed a st))

@@ -5,7 +5,7 @@ use Rattle.std.specs.List.{list_any}
 use Rattle.hal_grammar.specs.Declarations.{Declared, Declaration, Declare, Structure}
 use Rattle.hal_grammar.specs.Statements.{Statements, NoStatements, MoreStatements}
 use Rattle.hal_grammar.specs.Units.{Head, Program, Compool, Task, Procedure, Function, Mode, Reentrant, Block, BlockOf, Elements, NoElements, StatementFirst, BlockFirst, Preface, Include, Templates, File}
-use Rattle.hal_phrases.specs.Phrases.{Node, Phrase, OfFile, OfTemplate, OfUnit, OfItem, OfCallForm, OfReference, OfCall, OfGroup, OfTemporaryGroup, OfUpdate, OfHandler, OfRealTime}
+use Rattle.hal_phrases.specs.Phrases.{Node, Phrase, OfFile, OfTemplate, OfUnit, OfItem, OfCallForm, OfReference, OfSubscriptName, OfCall, OfGroup, OfTemporaryGroup, OfUpdate, OfHandler, OfRealTime}
 use Rattle.hal_names.specs.declared.key.Space.TheVariants as space
 use Rattle.hal_names.specs.Keys.{key, own}
 use Rattle.hal_names.specs.Means.{means, unit_named}
@@ -96,6 +96,7 @@ abbrev pub callee_at : List Phrase → ℕ → Node → Option ℕ
 callee_at ps block (OfCall name arguments receivers) = called_block ps (meant ps block name.name)
 callee_at ps block (OfCallForm place name arguments) = called_block ps (meant ps block name)
 callee_at ps block (OfReference role reference) = elim (used (OfReference role reference)) [ None ↦ None | Some u ↦ called_block ps (meant ps block u.name) ]
+callee_at ps block (OfSubscriptName name) = called_block ps (meant ps block name.name)
 callee_at ps block other = None
 
 -- the block that a phrase calls

@@ -1,5 +1,6 @@
 -- A set of files, with what its meaning looks up.
 use Rattle.std.specs.Prelude.{ℕ, ◌==◌, List, Option, Some, None, slice_get, flat_map, map, find, position, unwrap_or, Bool, true, false}
+use Rattle.hal_base.specs.declared.refusal.Place.{Place}
 use Rattle.hal_grammar.specs.Units.{File, Program}
 use Rattle.hal_phrases.specs.Phrases.{Node, Phrase, OfUnit}
 use Rattle.hal_phrases.specs.GatheredUnits.{phrases_of}
@@ -57,3 +58,7 @@ set_of turns files = let ps = phrases_of files in set_with turns files ps (known
 -- the unit whose phrase has this number
 abbrev pub body_at : Set → ℕ → Option Body
 body_at s k = find (λ (b : Body). b.number == k) s.bodies
+
+-- the beginning of the first unit, where rules of the whole set are broken
+abbrev pub beginning : Place
+beginning = record { unit = 0; line = 1; column = 1 }

@@ -34,7 +34,7 @@ use Rattle.hal_meaning.specs.Marks.{after_statement, after_alternative}
 use Rattle.hal_meaning.specs.ReportNames.{first_place}
 use Rattle.hal_meaning.specs.Sets.{body_at}
 use Rattle.hal_meaning.specs.States.{State, with_entries, with_mode, with_places, Evaluated, Gives, Asks, Caught, Restarts, Lost, bind, Flow, Normal, Leaves, Repeats, Returned}
-use Rattle.hal_meaning.specs.Access.{Here, within, updating, ask, request_made, raise, turn, read, put, store}
+use Rattle.hal_meaning.specs.Access.{Here, within, updating, ask, request_made, raise, turn, read, store}
 use Rattle.hal_meaning.specs.Variables.{Meant, MeantData, MeantBlock, name_meant, kind_of_first, is_arrayed}
 use Rattle.hal_meaning.specs.Calls.{call, returned_by}
 use Rattle.hal_meaning.specs.Expressions.{expression, values, passed, inputs_at, chosen_data, Located, part_chosen, named_value, sizes_named}
@@ -45,12 +45,12 @@ use Rattle.hal_meaning.specs.Tasks.{Looping, Meaning, Tested, Stepping, Listing,
 abbrev pub goes_on : Evaluated (Unit {0}) → Evaluated Flow
 goes_on done = bind done (λ nothing after. Gives Normal after)
 
--- a component of a variable is replaced: the part of the old value
-abbrev pub replaced : Here → Spot → Value → Value → Part → State → Evaluated (Unit {0})
-replaced h at old new p st =
+-- a component of a variable of this kind is replaced: the part of the old value, which is stored whole then
+abbrev pub replaced : Here → Kind → Spot → Value → Value → Part → State → Evaluated (Unit {0})
+replaced h k at old new p st =
     elim (patched old p new) [
-      | Ok v ↦ put h at v st
-      | Err e ↦ bind (raise h e st) (λ ignored after. put h at (mended_patch old p new) after)
+      | Ok v ↦ store h k at v st
+      | Err e ↦ bind (raise h e st) (λ ignored after. store h k at (mended_patch old p new) after)
     ]
 
 -- the subscripts of a component that a receiver has
@@ -63,13 +63,13 @@ components_in arrayed other = NoSubscripts
 abbrev pub component_received : Meaning → Here → Located → Subscripts → Value → State → Evaluated (Unit {0})
 component_received rec h l NoSubscripts v st = store h l.kind l.at v st
 component_received rec h l (MoreSubscripts first others) v st =
-    bind (read h l.kind l.at st) (λ old after. bind (part_chosen rec h (place_count old) first after) (λ p later. replaced h l.at old v p later))
+    bind (read h l.kind l.at st) (λ old after. bind (part_chosen rec h (place_count old) first after) (λ p later. replaced h l.kind l.at old v p later))
 
 -- a receiver without a mark in its subscript: of an array its place was evaluated, else it is a component's
 abbrev pub received_by : Meaning → Here → Located → Bool → Subscript → Value → State → Evaluated (Unit {0})
 received_by rec h l false (ByName place name) v st =
-    bind (read h l.kind l.at st) (λ old after. bind (named_value rec h name after) (λ i later. replaced h l.at old v (part.One (integer_of i)) later))
-received_by rec h l false (ByInteger place mark number) v st = bind (read h l.kind l.at st) (λ old after. replaced h l.at old v (part.One (pos number)) after)
+    bind (read h l.kind l.at st) (λ old after. bind (named_value rec h name after) (λ i later. replaced h l.kind l.at old v (part.One (integer_of i)) later))
+received_by rec h l false (ByInteger place mark number) v st = bind (read h l.kind l.at st) (λ old after. replaced h l.kind l.at old v (part.One (pos number)) after)
 received_by rec h l arrayed subscript v st = component_received rec h l (components_in arrayed subscript) v st
 
 -- whether a name with a path is an array

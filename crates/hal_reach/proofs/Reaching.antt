@@ -40,7 +40,7 @@ numbered_one : (ns : List ℕ) (calls : List Call) (p : Phrase) (b : Bool) (us :
 numbered_one ns calls p true us ks is = ap (λ (list : List ℕ). p.number ∷ list) is
 numbered_one ns calls p false us ks is = is
 
-numbered : (ns : List ℕ) (calls : List Call) (qs : List Phrase) → numbers (units_among ns calls qs) ≡ unit_numbers qs
+pub numbered : (ns : List ℕ) (calls : List Call) (qs : List Phrase) → numbers (units_among ns calls qs) ≡ unit_numbers qs
 numbered ns calls [] = refl
 numbered ns calls (p ∷ qs) = numbered_one ns calls p (is_unit p.node) (units_among ns calls qs) (unit_numbers qs) (numbered ns calls qs)
 
@@ -87,11 +87,11 @@ chosen ns calls f [] = refl
 chosen ns calls f (p ∷ qs) = chosen_if ns calls f p (is_unit p.node) (units_among ns calls qs) (processes_of qs) (sort_of p.node) (chosen ns calls f qs)
 
 -- those that reach a block
-right_units : (ps : List Phrase) → AreRight ps (numbers (units_of ps)) (units_of ps)
+pub right_units : (ps : List Phrase) → AreRight ps (numbers (units_of ps)) (units_of ps)
 unfolding units_of
 right_units ps = subst (λ ns. AreRight ps ns (units_of ps)) (sym (numbered (unit_numbers ps) (calls_of ps) ps)) (right ps ps)
 
-marked : (ps : List Phrase) (blocks : List ℕ) → marks.reaching (units_of ps) blocks ≡ map (reaches_any ps blocks) (numbers (units_of ps))
+pub marked : (ps : List Phrase) (blocks : List ℕ) → marks.reaching (units_of ps) blocks ≡ map (reaches_any ps blocks) (numbers (units_of ps))
 unfolding units_of
 marked ps blocks =
     reaching_within ps blocks (units_of ps) (right_units ps)

@@ -6,7 +6,7 @@ use Rattle.hal_grammar.specs.Expressions.{Reference, Refers}
 use Rattle.hal_grammar.specs.Declarations.{Declared}
 use Rattle.hal_grammar.specs.Units.{Preface, Include, Templates}
 use Rattle.hal_phrases.specs.Phrases.{Phrase}
-use Rattle.hal_meaning.specs.Bodies.{declares, is_compool_head, pooled_at, meant, called_block, callee, is_process, is_unit, processes_reaching, reaches}
+use Rattle.hal_meaning.specs.Bodies.{declares, is_compool_head, pooled_at, meant, called_block, callee, callees, is_process, is_unit, processes_reaching, reaches}
 use Rattle.hal_meaning.specs.Places.{unit_numbers}
 use Rattle.hal_reach.specs.declared.call.Call.{Call}
 use Rattle.hal_reach.specs.Marks as marks
@@ -73,3 +73,11 @@ reached ps q = record { unit = q; processes = processes_reaching ps q }
 -- each unit of a set with the processes that reach it
 unfoldable pub reached_of : List Phrase → List marks.Reached
 reached_of ps = map (reached ps) (unit_numbers ps)
+
+-- whether a block reaches itself by one call or more
+abbrev pub calls_itself : List Phrase → ℕ → Bool
+calls_itself ps q = list_any (λ k. reaches ps k q) (callees ps q)
+
+-- the units that do
+unfoldable pub recursive : List Phrase → List ℕ
+recursive ps = filter (calls_itself ps) (unit_numbers ps)

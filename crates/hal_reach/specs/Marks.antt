@@ -64,3 +64,15 @@ row units u = record { unit = u.number; processes = processes_marked units (reac
 
 unfoldable pub rows : List Unit → List Reached
 rows units = map (row units) units
+
+-- whether a unit calls one that reaches it
+unfoldable pub calls_itself : List Unit → Unit → Bool
+calls_itself units u = list_any (is_marked (reaching units (u.number ∷ []))) u.callees
+
+-- the units that do, among some of these
+unfoldable pub recursive_among : List Unit → List Unit → List ℕ
+recursive_among units [] = []
+recursive_among units (u ∷ us) = if calls_itself units u then u.number ∷ recursive_among units us else recursive_among units us
+
+unfoldable pub recursive : List Unit → List ℕ
+recursive units = recursive_among units units

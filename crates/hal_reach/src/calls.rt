@@ -43,7 +43,7 @@ fn called_by_reference(names: &Names<'_>, block: usize, reference: &Reference) -
     called_by_name(names, block, &reference.name)
 }
 
-/// The number of the block that a phrase calls, where it calls one: by CALL, by a call form, or by a FUNCTION's name alone (language document, Units).
+/// The number of the block that a phrase calls, where it calls one: by CALL, by a call form, or by a FUNCTION's name alone, as the name behind `$` is (language document, Units).
 #[tactic(auto, using(crate::proofs::Callees::by_reference))]
 pub fn callee(names: &Names<'_>, phrase: &Phrase<'_>) -> Option<usize>
     ensures { result ≡ bodies.callee (seen_names names.now) (seen_phrase phrase.now) }
@@ -53,6 +53,7 @@ pub fn callee(names: &Names<'_>, phrase: &Phrase<'_>) -> Option<usize>
         Node::Call { name, .. } => called_by_name(names, block, &name.name),
         Node::CallForm { name, .. } => called_by_name(names, block, name),
         Node::Reference { role: _, reference } => called_by_reference(names, block, reference),
+        Node::SubscriptName { name } => called_by_name(names, block, &name.name),
         _ => None,
     }
 }

@@ -20,7 +20,7 @@ fn is_marked(marked: &[bool], place: usize) -> bool
 }
 
 /// Whether one of the units at these places is.
-fn is_any_marked(marked: &[bool], places: &[usize]) -> bool
+pub(crate) fn is_any_marked(marked: &[bool], places: &[usize]) -> bool
     ensures { result ≡ list_any (marks.is_marked marked.now) places.now }
 {
     for place in places {

@@ -4,6 +4,7 @@ ghost use Rattle.std.specs.Str.Lines.{lines};
 ghost use Rattle.hal_script.specs.Readings.{past};
 ghost use Rattle.hal_script.specs.ScriptTexts.{IsScriptOf, IsFaultTold};
 ghost use Rattle.hal_script.specs.Fits.{Fits};
+ghost use Rattle.exec_model.specs.Scripts.{IsScript};
 
 use crate::fault::{ScriptError, ScriptFault};
 use crate::reading::{Reading, SoFar, read_line};
@@ -41,6 +42,7 @@ fn add(
 /// followed by more, 3 number out of range, 5 a byte outside 32 to 126.
 pub fn read_script(alloc: Global, bytes: &[u8]) -> Result<Script, ScriptError>
     ensures found { IfOk result (λ script. IsScriptOf (lines bytes.now) script) }
+    ensures limits { IfOk result (λ script. IsScript script) }
     ensures faulty { IfErr result (λ error. IsFaultTold (lines bytes.now) error) }
 {
     let mut script = Vec::new(alloc);

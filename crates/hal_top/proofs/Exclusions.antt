@@ -6,12 +6,12 @@ use Rattle.exec_model.specs.declared.script.ScriptLine.{ScriptLine}
 use Rattle.hal_script.specs.declared.fault.ScriptFault.{ScriptFault}
 use Rattle.hal_script.specs.ScriptTexts.{IsScriptOf, IsFault}
 use Rattle.hal_script.proofs.OneReading.{IsFault-unique, IsScriptOf-excludes}
-use Rattle.hal_core.specs.Tree.{UnitTree}
+use Rattle.hal_grammar.specs.Units as units
+use Rattle.hal_compile.specs.Texts.{HasMeaning}
+use Rattle.hal_compile.proofs.Meanings.{meaning_breaks_nothing}
 use Rattle.hal_base.specs.declared.refusal.Refusal.{Refusal}
 use Rattle.hal_top.specs.CommandLine.{IsRunLine}
-use Rattle.hal_top.specs.UnitTexts.{HasMeaning}
 use Rattle.hal_top.specs.Causes.{IsPresent, IsAbsent, IsTooLong, FirstWrong, IsFirstWrong, Fetched, IsFaulty, IsBroken, IsWork}
-use Rattle.hal_top.proofs.Meanings.{meaning_breaks_nothing}
 
 -- the words name the same files
 same_script : (words : List (List ℕ)) (s u s' u' : List ℕ) → IsRunLine words s u → IsRunLine words s' u' → s ≡ s'
@@ -101,7 +101,7 @@ faulty-no_script files words f s u orders x fetched read =
     IsScriptOf-excludes (lines x.script) orders f (subst (λ (t : List ℕ). IsScriptOf (lines t) orders) (sym same) read) x.first
 
 -- a unit that breaks a rule has no meaning
-pub broken-no_work : (files : List File) (words : List (List ℕ)) (refusal : Refusal) (script : List ScriptLine) (tree : UnitTree) → IsBroken files words refusal → IsWork files words script tree → ⊥
-broken-no_work files words refusal script tree x y =
+pub broken-no_work : (files : List File) (words : List (List ℕ)) (refusal : Refusal) (script : List ScriptLine) (set : List units.File) → IsBroken files words refusal → IsWork files words script set → ⊥
+broken-no_work files words refusal script set x y =
     let same : y.unit_text ≡ x.unit = fetched-unit files words y.script_text y.unit_text x.script x.unit y.fetched x.fetched in
-    meaning_breaks_nothing 0 x.unit tree refusal (subst (λ (t : List ℕ). HasMeaning 0 t tree) same y.has) x.broken
+    meaning_breaks_nothing (x.unit ∷ []) set refusal (subst (λ (t : List ℕ). HasMeaning (t ∷ []) set) same y.has) x.broken

@@ -2,7 +2,7 @@
 use Rattle.std.proofs.Common.{◌≡◌, ℕ, ◌⊎◌, inl, inr, List, Option, Some, None, IfSome, ap, ◌∙◌, sym, subst, arith}
 use Rattle.hal_base.specs.Files.{File}
 use Rattle.hal_base.specs.declared.refusal.Refusal.{Refusal}
-use Rattle.hal_core.specs.Tree.{UnitTree}
+use Rattle.hal_grammar.specs.Units as units
 use Rattle.exec_model.specs.declared.script.ScriptLine.{ScriptLine}
 use Rattle.hal_script.specs.declared.fault.ScriptFault.{ScriptFault}
 use Rattle.exec_model.specs.declared.event.Event.{Event}
@@ -11,54 +11,56 @@ use Rattle.hal_top.specs.declared.refused.Refused.{Refused}
 use Rattle.hal_top.specs.declared.refused.Refused.TheVariants.{Usage, Absent, TooLong, Script, Rule, Shelf, Memory}
 use Rattle.hal_top.specs.Causes.{IsAbsent, IsTooLong, IsFirstWrong, IsFaulty, IsBroken, IsWork}
 use Rattle.hal_top.specs.Outcomes.{IsExcused, Completes, PrintsReport, PrintsFront}
-use Rattle.hal_top.specs.Performed.{HasReport, Reported}
+use Rattle.hal_code.specs.declared.image.ImageParts.{ImageParts}
+use Rattle.hal_top.specs.Performed.{HasReport, ReportsImage, Reported}
+use Rattle.hal_top.specs.Works.{HasImage}
 use Rattle.hal_top.specs.Told.{IsCause, outcome_of}
 use Rattle.hal_top.proofs.Exclusions.{fetched-none_wrong, Excludes-absent, Excludes-long, faulty-unique, faulty-no_script, broken-no_work}
 
 -- where there is work nothing is wrong
-pub work-none_absent : (files : Option (List File)) (words : List (List ℕ)) (script : List ScriptLine) (tree : UnitTree) (Claim : ℕ → Type 0)
-    → IfSome files (λ told. IsWork told words script tree) → IfSome files (λ told. (number : ℕ) → IsFirstWrong IsAbsent told words number → Claim number)
-work-none_absent None words script tree Claim work = tt
-work-none_absent (Some files) words script tree Claim work = λ number x. absurd (fetched-none_wrong IsAbsent Excludes-absent files words work.script_text work.unit_text number work.fetched x)
+pub work-none_absent : (files : Option (List File)) (words : List (List ℕ)) (script : List ScriptLine) (image : ImageParts) (Claim : ℕ → Type 0)
+    → IfSome files (λ told. HasImage told words script image) → IfSome files (λ told. (number : ℕ) → IsFirstWrong IsAbsent told words number → Claim number)
+work-none_absent None words script image Claim work = tt
+work-none_absent (Some files) words script image Claim work = λ number x. absurd (fetched-none_wrong IsAbsent Excludes-absent files words work.work.script_text work.work.unit_text number work.work.fetched x)
 
-pub work-none_long : (files : Option (List File)) (words : List (List ℕ)) (script : List ScriptLine) (tree : UnitTree) (Claim : ℕ → Type 0)
-    → IfSome files (λ told. IsWork told words script tree) → IfSome files (λ told. (number : ℕ) → IsFirstWrong IsTooLong told words number → Claim number)
-work-none_long None words script tree Claim work = tt
-work-none_long (Some files) words script tree Claim work = λ number x. absurd (fetched-none_wrong IsTooLong Excludes-long files words work.script_text work.unit_text number work.fetched x)
+pub work-none_long : (files : Option (List File)) (words : List (List ℕ)) (script : List ScriptLine) (image : ImageParts) (Claim : ℕ → Type 0)
+    → IfSome files (λ told. HasImage told words script image) → IfSome files (λ told. (number : ℕ) → IsFirstWrong IsTooLong told words number → Claim number)
+work-none_long None words script image Claim work = tt
+work-none_long (Some files) words script image Claim work = λ number x. absurd (fetched-none_wrong IsTooLong Excludes-long files words work.work.script_text work.work.unit_text number work.work.fetched x)
 
-pub work-not_faulty : (files : Option (List File)) (words : List (List ℕ)) (script : List ScriptLine) (tree : UnitTree) (Claim : ScriptFault → Type 0)
-    → IfSome files (λ told. IsWork told words script tree) → IfSome files (λ told. (fault : ScriptFault) → IsFaulty told words fault → Claim fault)
-work-not_faulty None words script tree Claim work = tt
-work-not_faulty (Some files) words script tree Claim work = λ fault x. absurd (faulty-no_script files words fault work.script_text work.unit_text script x work.fetched work.read)
+pub work-not_faulty : (files : Option (List File)) (words : List (List ℕ)) (script : List ScriptLine) (image : ImageParts) (Claim : ScriptFault → Type 0)
+    → IfSome files (λ told. HasImage told words script image) → IfSome files (λ told. (fault : ScriptFault) → IsFaulty told words fault → Claim fault)
+work-not_faulty None words script image Claim work = tt
+work-not_faulty (Some files) words script image Claim work = λ fault x. absurd (faulty-no_script files words fault work.work.script_text work.work.unit_text script x work.work.fetched work.work.read)
 
-pub work-not_broken : (files : Option (List File)) (words : List (List ℕ)) (script : List ScriptLine) (tree : UnitTree) (Claim : Refusal → Type 0)
-    → IfSome files (λ told. IsWork told words script tree) → IfSome files (λ told. (refusal : Refusal) → IsBroken told words refusal → Claim refusal)
-work-not_broken None words script tree Claim work = tt
-work-not_broken (Some files) words script tree Claim work = λ refusal x. absurd (broken-no_work files words refusal script tree x work)
+pub work-not_broken : (files : Option (List File)) (words : List (List ℕ)) (script : List ScriptLine) (image : ImageParts) (Claim : Refusal → Type 0)
+    → IfSome files (λ told. HasImage told words script image) → IfSome files (λ told. (refusal : Refusal) → IsBroken told words refusal → Claim refusal)
+work-not_broken None words script image Claim work = tt
+work-not_broken (Some files) words script image Claim work = λ refusal x. absurd (broken-no_work files words refusal script work.set x work.work)
 
 -- the report of a run of the work
-pub reported-whole : (files : Option (List File)) (words : List (List ℕ)) (script : List ScriptLine) (tree : UnitTree) (journal performed : List Event) (bytes : List ℕ) (before now : Option (List ℕ)) (faults_before faults_now status : ℕ)
-    → IfSome files (λ told. IsWork told words script tree) → HasReport script tree performed bytes → journal ≡ performed → Reported before now bytes faults_before faults_now status → status ≡ 0
+pub reported-whole : (files : Option (List File)) (words : List (List ℕ)) (script : List ScriptLine) (image : ImageParts) (journal performed : List Event) (bytes : List ℕ) (before now : Option (List ℕ)) (faults_before faults_now status : ℕ)
+    → IfSome files (λ told. HasImage told words script image) → ReportsImage script image performed bytes → journal ≡ performed → Reported before now bytes faults_before faults_now status → status ≡ 0
     → IfSome files (λ told. PrintsReport told words journal before now)
-reported-whole None words script tree journal performed bytes before now fb fn status work has same reported zero = tt
-reported-whole (Some files) words script tree journal performed bytes before now fb fn status work has same (inl taken) zero = record {
+reported-whole None words script image journal performed bytes before now fb fn status work has same reported zero = tt
+reported-whole (Some files) words script image journal performed bytes before now fb fn status work has same (inl taken) zero = record {
   bytes = bytes;
-  ran = record { script = script; tree = tree; work = work; reported = subst (λ (j : List Event). HasReport script tree j bytes) (sym same) has };
+  ran = record { script = script; set = work.set; work = work.work; reported = subst (λ (j : List Event). HasReport script work.set j bytes) (sym same) (has work.set work.compiled) };
   taken = taken.1;
 }
-reported-whole (Some files) words script tree journal performed bytes before now fb fn status work has same (inr cut) zero = absurd (omega (arith, zero, cut.0))
+reported-whole (Some files) words script image journal performed bytes before now fb fn status work has same (inr cut) zero = absurd (omega (arith, zero, cut.0))
 
-pub reported-front : (files : Option (List File)) (words : List (List ℕ)) (script : List ScriptLine) (tree : UnitTree) (journal performed : List Event) (bytes : List ℕ) (before now : Option (List ℕ)) (faults_before faults_now status : ℕ)
-    → IfSome files (λ told. IsWork told words script tree) → HasReport script tree performed bytes → journal ≡ performed → Reported before now bytes faults_before faults_now status → status ≡ 8
+pub reported-front : (files : Option (List File)) (words : List (List ℕ)) (script : List ScriptLine) (image : ImageParts) (journal performed : List Event) (bytes : List ℕ) (before now : Option (List ℕ)) (faults_before faults_now status : ℕ)
+    → IfSome files (λ told. HasImage told words script image) → ReportsImage script image performed bytes → journal ≡ performed → Reported before now bytes faults_before faults_now status → status ≡ 8
     → IfSome files (λ told. PrintsFront told words journal before now)
-reported-front None words script tree journal performed bytes before now fb fn status work has same reported eight = tt
-reported-front (Some files) words script tree journal performed bytes before now fb fn status work has same (inr cut) eight = record {
+reported-front None words script image journal performed bytes before now fb fn status work has same reported eight = tt
+reported-front (Some files) words script image journal performed bytes before now fb fn status work has same (inr cut) eight = record {
   bytes = bytes;
   count = cut.1.0;
-  ran = record { script = script; tree = tree; work = work; reported = subst (λ (j : List Event). HasReport script tree j bytes) (sym same) has };
+  ran = record { script = script; set = work.set; work = work.work; reported = subst (λ (j : List Event). HasReport script work.set j bytes) (sym same) (has work.set work.compiled) };
   taken = cut.1.1;
 }
-reported-front (Some files) words script tree journal performed bytes before now fb fn status work has same (inl taken) eight = absurd (omega (arith, eight, taken.0))
+reported-front (Some files) words script image journal performed bytes before now fb fn status work has same (inl taken) eight = absurd (omega (arith, eight, taken.0))
 
 -- the outcome is that of the refusal, or of want of memory for its line
 abbrev Ends : Refused → Outcome → Type 0
@@ -98,17 +100,31 @@ refused-broken (Some files) words refused result (inl is) cause = broken-told fi
 refused-broken (Some files) words refused result (inr is) cause = λ refusal x. inr (inr (ap (λ (o : Outcome). o.status) is))
 
 work-told : (files : List File) (words : List (List ℕ)) (refused : Refused) (result : Outcome) → result ≡ outcome_of refused → IsCause files words refused
-    → (script : List ScriptLine) (tree : UnitTree) → IsWork files words script tree → IsExcused result.status
-work-told files words Usage result is cause script tree x = absurd (cause _ _ x.fetched.form)
-work-told files words (Absent n) result is cause script tree x = absurd (fetched-none_wrong IsAbsent Excludes-absent files words x.script_text x.unit_text n x.fetched cause)
-work-told files words (TooLong n) result is cause script tree x = absurd (fetched-none_wrong IsTooLong Excludes-long files words x.script_text x.unit_text n x.fetched cause)
-work-told files words (Script fault) result is cause script tree x = absurd (faulty-no_script files words fault x.script_text x.unit_text script cause x.fetched x.read)
-work-told files words (Rule refusal) result is cause script tree x = absurd (broken-no_work files words refusal script tree cause x)
-work-told files words Shelf result is cause script tree x = inl (ap (λ (o : Outcome). o.status) is)
-work-told files words Memory result is cause script tree x = inr (ap (λ (o : Outcome). o.status) is)
+    → (script : List ScriptLine) (set : List units.File) → IsWork files words script set → IsExcused result.status
+work-told files words Usage result is cause script set x = absurd (cause _ _ x.fetched.form)
+work-told files words (Absent n) result is cause script set x = absurd (fetched-none_wrong IsAbsent Excludes-absent files words x.script_text x.unit_text n x.fetched cause)
+work-told files words (TooLong n) result is cause script set x = absurd (fetched-none_wrong IsTooLong Excludes-long files words x.script_text x.unit_text n x.fetched cause)
+work-told files words (Script fault) result is cause script set x = absurd (faulty-no_script files words fault x.script_text x.unit_text script cause x.fetched x.read)
+work-told files words (Rule refusal) result is cause script set x = absurd (broken-no_work files words refusal script set cause x)
+work-told files words Shelf result is cause script set x = inl (ap (λ (o : Outcome). o.status) is)
+work-told files words Memory result is cause script set x = inr (ap (λ (o : Outcome). o.status) is)
 
 pub refused-work : (files : Option (List File)) (words : List (List ℕ)) (refused : Refused) (result : Outcome) → Ends refused result → IfSome files (λ told. IsCause told words refused)
-    → IfSome files (λ told. (script : List ScriptLine) (tree : UnitTree) → IsWork told words script tree → Completes result.status)
+    → IfSome files (λ told. (script : List ScriptLine) (set : List units.File) → IsWork told words script set → Completes result.status)
 refused-work None words refused result ends cause = tt
-refused-work (Some files) words refused result (inl is) cause = λ script tree x. inr (work-told files words refused result is cause script tree x)
-refused-work (Some files) words refused result (inr is) cause = λ script tree x. inr (inr (ap (λ (o : Outcome). o.status) is))
+refused-work (Some files) words refused result (inl is) cause = λ script set x. inr (work-told files words refused result is cause script set x)
+refused-work (Some files) words refused result (inr is) cause = λ script set x. inr (inr (ap (λ (o : Outcome). o.status) is))
+
+-- what is printed of a run ends it
+pub printed-completes : (files : Option (List File)) (words : List (List ℕ)) (before now : Option (List ℕ)) (bytes : List ℕ) (faults_before faults_now status : ℕ) → Reported before now bytes faults_before faults_now status
+    → IfSome files (λ told. (script : List ScriptLine) (set : List units.File) → IsWork told words script set → Completes status)
+printed-completes None words before now bytes fb fn status reported = tt
+printed-completes (Some files) words before now bytes fb fn status (inl taken) = λ script set x. inl (inl taken.0)
+printed-completes (Some files) words before now bytes fb fn status (inr cut) = λ script set x. inl (inr cut.0)
+
+-- and so does want of memory
+pub memory-completes : (files : Option (List File)) (words : List (List ℕ)) (result : Outcome) → Ends Memory result
+    → IfSome files (λ told. (script : List ScriptLine) (set : List units.File) → IsWork told words script set → Completes result.status)
+memory-completes None words result ends = tt
+memory-completes (Some files) words result (inl is) = λ script set x. inr (inr (ap (λ (o : Outcome). o.status) is))
+memory-completes (Some files) words result (inr is) = λ script set x. inr (inr (ap (λ (o : Outcome). o.status) is))

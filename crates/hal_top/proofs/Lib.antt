@@ -1,8 +1,5 @@
 pub mod Exclusions
-pub mod FewDeclarations
 pub mod Headline
 pub mod Lists
-pub mod Meanings
+pub mod Performing
 pub mod Prepared
-pub mod Stages
-pub mod Telling

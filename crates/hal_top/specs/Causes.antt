@@ -5,12 +5,12 @@ use Rattle.std.specs.Str.Lines.{lines}
 use Rattle.hal_base.specs.declared.limits.TheConstants.{TEXT_LIMIT}
 use Rattle.hal_base.specs.declared.refusal.Refusal.{Refusal}
 use Rattle.hal_base.specs.Files.{File, file_named}
-use Rattle.hal_core.specs.Tree.{UnitTree}
+use Rattle.hal_grammar.specs.Units as units
+use Rattle.hal_compile.specs.Texts.{Breaks, HasMeaning}
 use Rattle.exec_model.specs.declared.script.ScriptLine.{ScriptLine}
 use Rattle.hal_script.specs.declared.fault.ScriptFault.{ScriptFault}
 use Rattle.hal_script.specs.ScriptTexts.{IsScriptOf, IsFault}
 use Rattle.hal_top.specs.CommandLine.{IsRunLine}
-use Rattle.hal_top.specs.UnitTexts.{HasMeaning, Breaks}
 
 -- the file is there with these bytes, and they are not too many
 abbrev pub IsPresent : List File → List ℕ → List ℕ → Type 0
@@ -57,12 +57,12 @@ pub record IsBroken (files : List File) (words : List (List ℕ)) (refusal : Ref
   pub script_lines : List ScriptLine
   pub fetched : Fetched files words script unit
   pub read : IsScriptOf (lines script) script_lines
-  pub broken : Breaks 0 unit refusal
+  pub broken : Breaks (unit ∷ []) refusal
 
--- nothing is wrong: this is the script, and this tree is the unit's meaning
-pub record IsWork (files : List File) (words : List (List ℕ)) (script : List ScriptLine) (tree : UnitTree) : Type 0 where
+-- nothing is wrong: this is the script, and these files are the set of the unit, which has a meaning
+pub record IsWork (files : List File) (words : List (List ℕ)) (script : List ScriptLine) (set : List units.File) : Type 0 where
   pub script_text : List ℕ
   pub unit_text : List ℕ
   pub fetched : Fetched files words script_text unit_text
   pub read : IsScriptOf (lines script_text) script
-  pub has : HasMeaning 0 unit_text tree
+  pub has : HasMeaning (unit_text ∷ []) set

@@ -1,9 +1,6 @@
 pub mod CommandLine
-pub mod UnitTexts
 pub mod Causes
 pub mod Outcomes
 pub mod Told
-pub mod Programs
 pub mod Works
 pub mod Performed
-pub mod Asking

@@ -5,7 +5,7 @@ use Rattle.hal_base.specs.declared.refusal.Refusal.{Refusal}
 use Rattle.hal_base.specs.Faults.{Rose}
 use Rattle.hal_base.specs.Files.{File}
 use Rattle.hal_base.specs.Sink.{Takes}
-use Rattle.hal_core.specs.Tree.{UnitTree}
+use Rattle.hal_grammar.specs.Units as units
 use Rattle.exec_model.specs.declared.script.ScriptLine.{ScriptLine}
 use Rattle.hal_script.specs.declared.fault.ScriptFault.{ScriptFault}
 use Rattle.exec_model.specs.declared.event.Event.{Event}
@@ -62,9 +62,9 @@ Prints (Some before) now piece faults_before faults_now =
 -- the work that the words name, a run of it with this journal, and the report of the moment after it
 pub record Ran (files : List File) (words : List (List ℕ)) (journal : List Event) (bytes : List ℕ) : Type 0 where
   pub script : List ScriptLine
-  pub tree : UnitTree
-  pub work : IsWork files words script tree
-  pub reported : HasReport script tree journal bytes
+  pub set : List units.File
+  pub work : IsWork files words script set
+  pub reported : HasReport script set journal bytes
 
 -- the sink took the report of a run with this journal, where it tells its bytes
 pub record PrintsReport (files : List File) (words : List (List ℕ)) (journal : List Event) (before now : Option (List ℕ)) : Type 0 where

@@ -1,22 +1,26 @@
+//! Runs, and what is printed of them.
+
 ghost use Rattle.std.specs.Prelude.{◌≡◌, ◌≤◌, IfOk};
-ghost use Rattle.hal_core.specs.View.{unit_tree};
-ghost use Rattle.hal_top.specs.Performed.{HasReport, Reported};
-ghost use Rattle.hal_top.specs.Programs.{IsRunnable};
+ghost use Rattle.exec_model.specs.Scripts.{IsScript};
+ghost use Rattle.hal_compile.specs.Compiling.{CanRun};
+ghost use Rattle.hal_top.specs.Performed.{ReportsImage, Reported};
 
 use crate::outcome::Outcome;
 use crate::prepare::Work;
-use crate::tree_procs::TreeProcs;
 use hal_base::Sink;
+use hal_compile::TURN_LIMIT;
 use hal_report::drain;
+use image_procs::ImageProcs;
 use script_run::{Performed, play};
 use std::alloc::{AllocError, Global};
 
-/// Runs the script on the unit's one process, and writes the report.
+/// Runs the script on the processes of the image, and writes the report.
 pub fn perform(alloc: Global, work: Work) -> Result<Performed, AllocError>
-    requires { IsRunnable work.program }
-    ensures { IfOk result (λ performed. HasReport work.script (unit_tree work.program.unit) performed.journal performed.report.items) }
+    requires limits { IsScript work.script }
+    requires runs { CanRun work.image }
+    ensures { IfOk result (λ performed. ReportsImage work.script work.image performed.journal performed.report.items) }
 {
-    let procs = TreeProcs::start(alloc, work.program)?;
+    let procs = ImageProcs::start(alloc, work.image, TURN_LIMIT)?;
     let performed = play(alloc, procs, &work.script)?;
     Ok(performed)
 }

@@ -3,7 +3,7 @@ ghost use Rattle.hal_base.specs.Faults.{Rose};
 ghost use Rattle.hal_base.specs.declared.refusal.Refusal.{Refusal};
 ghost use Rattle.hal_script.specs.declared.fault.ScriptFault.{ScriptFault};
 ghost use Rattle.exec_model.specs.declared.script.ScriptLine.{ScriptLine};
-ghost use Rattle.hal_core.specs.Tree.{UnitTree};
+ghost use Rattle.hal_grammar.specs.Units.{File};
 ghost use Rattle.hal_top.specs.CommandLine.{texts, HasNoForm};
 ghost use Rattle.hal_top.specs.Causes.{IsAbsent, IsTooLong, IsFirstWrong, IsFaulty, IsBroken, IsWork};
 ghost use Rattle.hal_top.specs.Outcomes.{IsStatus, IsRefusal, IsExcused, Completes, IsTold, Prints, PrintsReport, PrintsFront, refusal_line};
@@ -40,7 +40,7 @@ pub fn hal<S: Shelf, O: Sink>(
     ensures sink_fault { result.status ≡ 8 → Rose (O.faults out.old) (O.faults out.new) }
     ensures done { result.status ≡ 0 → IfSome (S.files shelf.old) (λ files. PrintsReport files (texts words.now) result.journal (O.taken out.old) (O.taken out.new)) }
     ensures cut_short { result.status ≡ 8 → IfSome (S.files shelf.old) (λ files. PrintsFront files (texts words.now) result.journal (O.taken out.old) (O.taken out.new)) }
-    ensures completes { IfSome (S.files shelf.old) (λ files. (script : List ScriptLine) (tree : UnitTree) → IsWork files (texts words.now) script tree → Completes result.status) }
+    ensures completes { IfSome (S.files shelf.old) (λ files. (script : List ScriptLine) (set : List File) → IsWork files (texts words.now) script set → Completes result.status) }
     ensures nothing_ran { IsRefusal result.status → result.journal ≡ [] }
     ensures line { IsRefusal result.status → Prints (O.taken out.old) (O.taken out.new) (refusal_line (texts words.now) result) (O.faults out.old) (O.faults out.new) }
     ensures told { IsTold result }

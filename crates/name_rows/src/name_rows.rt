@@ -1,8 +1,9 @@
-//! Rows of names, types and locks. `UNIT ~~ UNIT => rule 601 0 3:7` is a set of units that breaks a rule in unit 0 at a line and a column, and `UNIT => right` one
-//! that breaks none: no rule of names where it is tried as `names`, none of types either where it is tried as `types`, and none of locks either where it is tried as
-//! `locks`. A newline in a unit is written `\n`.
+//! Rows of names, types, locks and calls. `UNIT ~~ UNIT => rule 601 0 3:7` is a set of units that breaks a rule in unit 0 at a line and a column, and `UNIT => right` one
+//! that breaks none: no rule of names where it is tried as `names`, none of types either where it is tried as `types`, none of locks either where it is tried as
+//! `locks`, and none of calls either where it is tried as `calls`. A newline in a unit is written `\n`.
 
 use hal_base::{Fault, Place, Refusal, Rule};
+use hal_calls::{check_calls, check_program};
 use hal_lexer::tokens;
 use hal_locks::check_locks;
 use hal_parse::parse;
@@ -31,6 +32,7 @@ impl Rows for NameRows {
             "names" => names_of(alloc, units),
             "types" => types_of(alloc, units),
             "locks" => locks_of(alloc, units),
+            "calls" => calls_of(alloc, units),
             _ => return String::from_str(alloc, "a way in which nothing is tried"),
         };
         let came = match outcome {
@@ -93,4 +95,14 @@ fn locks_of(alloc: Global, units: &str) -> Result<(), Fault> {
     let names = resolve(alloc, files.as_slice())?;
     check_types(alloc, &names)?;
     check_locks(alloc, &names)
+}
+
+/// Whether a set of units breaks no rule of names, none of types, none of locks and none of calls.
+fn calls_of(alloc: Global, units: &str) -> Result<(), Fault> {
+    let files = files_of(alloc, units)?;
+    let names = resolve(alloc, files.as_slice())?;
+    check_types(alloc, &names)?;
+    check_locks(alloc, &names)?;
+    check_program(&names)?;
+    check_calls(alloc, &names)
 }

@@ -4,3 +4,4 @@ pub mod Rules70
 pub mod Rules71
 pub mod Rules72
 pub mod Rules80
+pub mod Rules90

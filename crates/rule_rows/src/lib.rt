@@ -1,2 +1,2 @@
-//! Rows of the rules of names and types, which the checker computes.
+//! Rows of the rules of names, types, locks and calls, which the checker computes.
 #![tactic(auto)]

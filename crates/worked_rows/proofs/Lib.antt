@@ -1,4 +1,4 @@
-pub mod HelloMeaning
-pub mod CountMeaning
+pub mod HelloReading
+pub mod CountReading
 pub mod Names
 pub mod Types

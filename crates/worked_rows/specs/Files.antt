@@ -5,7 +5,7 @@ use Rattle.hal_grammar.specs.Expressions.{Expression, Compare, Sum, Literal, Ref
 use Rattle.hal_grammar.specs.Declarations.{IntegerKind, Value, NoInitials, MoreInitials, Typed, InitialValues, declared_of, Declare}
 use Rattle.hal_grammar.specs.Statements.{While, Statement, Labelled, Assignment, If, DoLoop, Write, NoAlternative, Groups, NoStatements, MoreStatements}
 use Rattle.hal_grammar.specs.Units.{Program, BlockOf, NoElements, StatementFirst, File, file_of}
-use Rattle.worked_rows.specs.Trees.{column}
+use Rattle.worked_rows.specs.Columns.{column}
 
 -- the variable N in a column
 abbrev pub variable : ℕ → Reference

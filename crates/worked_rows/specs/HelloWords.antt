@@ -7,7 +7,7 @@ use Rattle.hal_words.specs.declared.word.Symbol.TheVariants as symbol
 use Rattle.hal_words.specs.declared.word.Word.TheVariants as word
 use Rattle.hal_words.specs.declared.word.Token.{Token}
 use Rattle.hal_grammar.specs.Words.{Words, token}
-use Rattle.worked_rows.specs.Trees.{column}
+use Rattle.worked_rows.specs.Columns.{column}
 
 -- the text of HELLO
 abbrev pub hello_text : List ℕ

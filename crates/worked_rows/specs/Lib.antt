@@ -1,4 +1,4 @@
-pub mod Trees
+pub mod Columns
 pub mod Files
 pub mod Runs
 pub mod HelloWords

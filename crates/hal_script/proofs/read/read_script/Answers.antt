@@ -21,3 +21,6 @@ pub returns-clause-found : goal.returns-clause-found
 returns-clause-found c =
     let none : c.lines.rest.now ≡ [] = c.in_default.ensures.none.0 refl in
     rw c.new.ensures (IsRead-end _ c.lines.rest.now c.lines.so_far c.lines.script.items c.lines.invariant (ap lines none))
+
+pub returns-clause-limits : goal.returns-clause-limits
+returns-clause-limits c = rw c.new.ensures (IsScript-within c.lines.so_far c.lines.script.items c.lines.invariant.within)

@@ -1,4 +1,4 @@
-use Rattle.worked_rows.proofs.HelloMeaning.{SpellsFile-hello}
+use Rattle.worked_rows.proofs.HelloReading.{SpellsFile-hello}
 use Rattle.worked_rows.proofs.laws.hello_is_spelled.Goals as goal
 
 pub returns : goal.returns

@@ -1,9 +1,0 @@
-pub mod Answered
-pub mod FirstReference
-pub mod Formed
-pub mod Gathered
-pub mod Parts
-pub mod Taken
-pub mod Tests
-pub mod Values
-pub mod Examples

@@ -1,7 +1,0 @@
-use Rattle.std.proofs.Common.{◌≡◌, map, drop}
-use Rattle.hal_built.specs.Unbuilt.{first_of, unbuilt_declared}
-use Rattle.hal_tree.specs.SeenDeclarations.{seen_declared}
-use Rattle.hal_built.proofs.unbuilt.declarations.unbuilt_items.Given as goal
-
-abbrev pub invariant-loop-tree : goal.invariant-loop-tree
-invariant-loop-tree l = first_of unbuilt_declared (map seen_declared (drop l.tree-index l.trees)) ≡ first_of unbuilt_declared (map seen_declared l.trees)

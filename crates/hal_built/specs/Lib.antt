@@ -1,6 +1,0 @@
-pub mod Each
-pub mod Looks
-pub mod Parts
-pub mod References
-pub mod SecondForm
-pub mod Unbuilt

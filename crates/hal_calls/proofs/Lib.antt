@@ -1,0 +1,2 @@
+pub mod Contention
+pub mod Tables

@@ -1,0 +1,5 @@
+pub mod Blocks
+pub mod Placed
+pub mod Programs
+pub mod Rules
+pub mod Faults

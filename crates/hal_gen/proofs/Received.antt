@@ -1,0 +1,102 @@
+-- The code of receivers stands where it was put.
+use Rattle.std.specs.Prelude.{◌≡◌, ℕ, Bool, true, false, List, [], ◌∷◌, ◌++◌, Ok}
+use Rattle.std.proofs.Common.{sym, subst}
+use Rattle.hal_base.specs.declared.refusal.Place.{Place}
+use Rattle.hal_grammar.specs.Leaves.{Naming}
+use Rattle.hal_grammar.specs.Expressions.{Reference, Refers, Subscript, Unsubscripted, ByName, ByInteger, ByParts, Subscripts, NoSubscripts, MoreSubscripts}
+use Rattle.hal_states.specs.Spots.{Held}
+use Rattle.hal_meaning.specs.Expressions.{sizes_named}
+use Rattle.hal_meaning.specs.Statements.{components_in}
+use Rattle.hal_meaning.specs.Variables.{is_arrayed, name_meant}
+use Rattle.hal_code.specs.declared.instr.Instr.{Instr}
+use Rattle.hal_code.specs.declared.instr.Instr.TheVariants as instr
+use Rattle.hal_agreement.specs.Codes.{Code}
+use Rattle.hal_agreement.specs.PlacedExpressions.{One, ChosenAt}
+use Rattle.hal_agreement.specs.PlacedStatements.{KeptAt, StoredAt, ReceivedAt, AddressedAt, ReceiverAt, ReceiversAt}
+use Rattle.hal_agreement.specs.Sites.{Site, here_at}
+use Rattle.hal_gen_expr.specs.ExpressionCode.{chosen_code}
+use Rattle.hal_gen_expr.specs.Led.{led_to, led_by}
+use Rattle.hal_gen_expr.specs.Numbering.{Numbering}
+use Rattle.hal_referents.specs.Referents.{Referent, DataOf, ConstantOf, EventOf, BlockOf, BuiltinOf, Unmeant}
+use Rattle.hal_gen_expr.specs.Referents.{referent}
+use Rattle.hal_gen_expr.specs.Standing.{Begins, IsNumbered, Placed}
+use Rattle.hal_gen_expr.proofs.Expressed.{ok_is, chosen_at}
+use Rattle.hal_gen_expr.proofs.Growing.{weaker, one_placed, first_placed, both_placed}
+use Rattle.hal_gen_expr.proofs.Referring.{meaning_of, name_means}
+use Rattle.hal_gen.specs.Receiving.{stored_code, received_code, addressed_code, receiver_code}
+use Rattle.hal_gen.specs.StatementCode.{receivers_code}
+
+module _ (code : Code) (n : Numbering) (site : Site) (numbered : IsNumbered code n) where
+  -- KEEP
+  stored_at : (list : Subscripts) (place : Place) (before after : List Instr) → stored_code n site before place list ≡ Ok after → Begins after code.image.code → Placed code before after (λ from to. StoredAt code list from to)
+  stored_at NoSubscripts place before after e begins = one_placed code before after instr.Keep (ok_is _ after e) begins
+  stored_at (MoreSubscripts first others) place before after e begins = absurd (cc)
+
+  received_at : (subscript : Subscript) (arrayed : Bool) (place : Place) (before after : List Instr) → received_code n site before place arrayed subscript ≡ Ok after → Begins after code.image.code
+      → Placed code before after (λ from to. ReceivedAt code arrayed subscript from to)
+  received_at Unsubscripted true place before after e begins = stored_at NoSubscripts place before after e begins
+  received_at Unsubscripted false place before after e begins = stored_at NoSubscripts place before after e begins
+  received_at (ByName there name) true place before after e begins = stored_at NoSubscripts place before after e begins
+  received_at (ByName there name) false place before after e begins = absurd (cc)
+  received_at (ByInteger there mark number) true place before after e begins = stored_at NoSubscripts place before after e begins
+  received_at (ByInteger there mark number) false place before after e begins = absurd (cc)
+  received_at (ByParts there copies arrays components) true place before after e begins = stored_at (components_in true (ByParts there copies arrays components)) place before after e begins
+  received_at (ByParts there copies arrays components) false place before after e begins = stored_at components place before after e begins
+
+  -- a receiver without a subscript
+  kept_by : (arrayed : Bool) (place : Place) (before after : List Instr) → received_code n site before place arrayed Unsubscripted ≡ Ok after → Begins after code.image.code → Placed code before after (λ from to. One code from instr.Keep to)
+  kept_by true place before after e begins = stored_at NoSubscripts place before after e begins
+  kept_by false place before after e begins = stored_at NoSubscripts place before after e begins
+
+  kept_at : (path : List Naming) (r : Referent) (place : Place) (before after : List Instr) → addressed_code n site before place Unsubscripted (led_by path r) ≡ Ok after → Begins after code.image.code
+      → Placed code before after (λ from to. (held : List Held) → KeptAt code path held (meaning_of site held r) from to)
+  kept_at path (DataOf k kept shape) place before after e begins =
+      weaker code before after (λ from to at. λ held. ((at.1 held).0, subst (λ m. One code m instr.Keep to) (sym (at.1 held).1) at.2))
+      (both_placed code (chosen_code n site before place Unsubscripted (led_to path k kept shape)) (λ middle. received_code n site middle place (is_arrayed (sizes_named path shape)) Unsubscripted) before after e
+      (λ middle there begun. chosen_at code n site numbered Unsubscripted (led_to path k kept shape) place before middle there begun)
+      (λ middle there. kept_by (is_arrayed (sizes_named path shape)) place middle after there begins))
+  kept_at path (ConstantOf v) place before after e begins = absurd (cc)
+  kept_at path (EventOf v) place before after e begins = absurd (cc)
+  kept_at path (BlockOf unit) place before after e begins = absurd (cc)
+  kept_at path (BuiltinOf b) place before after e begins = absurd (cc)
+  kept_at path Unmeant place before after e begins = absurd (cc)
+
+  -- a receiver with one
+  addressed_at : (subscript : Subscript) (path : List Naming) (r : Referent) (place : Place) (before after : List Instr) → addressed_code n site before place subscript (led_by path r) ≡ Ok after → Begins after code.image.code
+      → Placed code before after (λ from to. (held : List Held) → AddressedAt code path subscript (λ at shape begin end. ChosenAt code site held path subscript at shape begin end) (meaning_of site held r) from to)
+  addressed_at subscript path (DataOf k kept shape) place before after e begins =
+      weaker code before after (λ from to at. λ held. (at.0, at.1 held, at.2))
+      (both_placed code (chosen_code n site before place subscript (led_to path k kept shape)) (λ middle. received_code n site middle place (is_arrayed (sizes_named path shape)) subscript) before after e
+      (λ middle there begun. chosen_at code n site numbered subscript (led_to path k kept shape) place before middle there begun)
+      (λ middle there. received_at subscript (is_arrayed (sizes_named path shape)) place middle after there begins))
+  addressed_at subscript path (ConstantOf v) place before after e begins = absurd (cc)
+  addressed_at subscript path (EventOf v) place before after e begins = absurd (cc)
+  addressed_at subscript path (BlockOf unit) place before after e begins = absurd (cc)
+  addressed_at subscript path (BuiltinOf b) place before after e begins = absurd (cc)
+  addressed_at subscript path Unmeant place before after e begins = absurd (cc)
+
+  subscripted_at : (subscript : Subscript) (path : List Naming) (name : List ℕ) (place : Place) (before after : List Instr) → addressed_code n site before place subscript (led_by path (referent site name)) ≡ Ok after
+      → Begins after code.image.code
+      → Placed code before after (λ from to. (held : List Held) → AddressedAt code path subscript (λ at shape begin end. ChosenAt code site held path subscript at shape begin end) (name_meant (here_at site) name held) from to)
+  subscripted_at subscript path name place before after e begins =
+      weaker code before after
+      (λ from to at. λ held. subst (λ m. AddressedAt code path subscript (λ at shape begin end. ChosenAt code site held path subscript at shape begin end) m from to) (sym (name_means site held name)) (at held))
+      (addressed_at subscript path (referent site name) place before after e begins)
+
+  pub receiver_at : (receiver : Reference) (before after : List Instr) → receiver_code n site before receiver ≡ Ok after → Begins after code.image.code
+      → Placed code before after (λ from to. ReceiverAt code site receiver from to)
+  receiver_at (Refers place name path Unsubscripted) before after e begins =
+      weaker code before after (λ from to at. λ held. subst (λ m. KeptAt code path held m from to) (sym (name_means site held name)) (at held)) (kept_at path (referent site name) place before after e begins)
+  receiver_at (Refers place name path (ByName there one)) before after e begins = subscripted_at (ByName there one) path name place before after e begins
+  receiver_at (Refers place name path (ByInteger there mark number)) before after e begins = subscripted_at (ByInteger there mark number) path name place before after e begins
+  receiver_at (Refers place name path (ByParts there copies arrays components)) before after e begins = subscripted_at (ByParts there copies arrays components) path name place before after e begins
+
+  pub receivers_at : (receivers : List Reference) (place : Place) (before after : List Instr) → receivers_code n site before place receivers ≡ Ok after → Begins after code.image.code
+      → Placed code before after (λ from to. ReceiversAt code site receivers from to)
+  receivers_at [] place before after e begins = absurd (cc)
+  receivers_at (receiver ∷ []) place before after e begins = receiver_at receiver before after e begins
+  receivers_at (receiver ∷ next ∷ others) place before after e begins =
+      weaker code before after (λ from to at. (at.1.0, at.0, at.1.1, at.1.2))
+      (first_placed code before after instr.Dup
+      (both_placed code (receiver_code n site (before ++ (instr.Dup ∷ [])) receiver) (λ middle. receivers_code n site middle place (next ∷ others)) (before ++ (instr.Dup ∷ [])) after e
+      (λ middle there begun. receiver_at receiver (before ++ (instr.Dup ∷ [])) middle there begun) (λ middle there. receivers_at (next ∷ others) place middle after there begins)))

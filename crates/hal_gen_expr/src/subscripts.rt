@@ -1,0 +1,212 @@
+//! The code of subscripts.
+
+ghost use Rattle.std.specs.Prelude.{◌≡◌, map, pos};
+ghost use Rattle.hal_tree.specs.Rows.{subscripts};
+ghost use Rattle.hal_tree.specs.SeenExpressions.{seen_position, seen_sub};
+ghost use Rattle.hal_code.specs.declared.instr.Instr.TheVariants as instr;
+ghost use Rattle.hal_constants.specs.Constants.{is_none};
+ghost use Rattle.hal_agreement.specs.PlacedExpressions as placed;
+ghost use Rattle.hal_gen_expr.specs.Emits.{Emits};
+ghost use Rattle.hal_gen_expr.specs.Emitting.{onwards};
+ghost use Rattle.hal_gen_expr.specs.ExpressionCode as codes;
+ghost use Rattle.hal_gen_expr.specs.Led as leading;
+ghost use Rattle.hal_gen_expr.specs.SeenLed.{seen_led};
+ghost use Rattle.hal_gen_expr.specs.SeenSites.{seen_site, seen_numbering, IsSite};
+
+use crate::expressions::{emit_expression, emit_terms};
+use crate::leaves::{emit_one, emit_two, picks};
+use crate::led::{Led, emit_cell, sizes_led};
+use crate::site::Site;
+use crate::uncoded::Uncoded;
+use hal_base::Place;
+use hal_code::{Instr, Places};
+use hal_tree::{Position, Sub};
+
+/// Whether there are no subscripts.
+#[tactic(auto, using(hal_constants::proofs::Lists::no_subscript))]
+pub fn are_none(subs: &[Sub]) -> bool
+    ensures { result ≡ is_none (subscripts (map seen_sub subs.now)) }
+{
+    subs.is_empty()
+}
+
+/// Which places of a component a subscript chooses: all are those from the first one to the last.
+#[tactic(auto, using(hal_tree::proofs::MadeExpressions::made_every, hal_tree::proofs::MadeExpressions::made_one, hal_tree::proofs::MadeExpressions::made_range, hal_tree::proofs::MadeExpressions::made_portion))]
+pub fn places_of(sub: &Sub) -> Places
+    ensures { result ≡ placed.places_of (seen_sub sub.now) }
+{
+    match sub {
+        Sub::Every { .. } => Places::To,
+        Sub::One { .. } => Places::One,
+        Sub::Range { .. } => Places::To,
+        Sub::Portion { .. } => Places::At,
+    }
+}
+
+/// Adds the code of a subscript of the copies, where there are so many.
+#[cycle(expressions)]
+#[tactic(auto, unfolding(hal_tree::specs::Rows::subscripts))]
+pub(crate) fn emit_copies(
+    subs: &Vec<Sub>,
+    code: &mut Vec<Instr>,
+    site: &Site<'_>,
+    place: Place,
+    count: Option<u16>,
+) -> Result<(), Uncoded>
+    requires site { IsSite site.now }
+    ensures { Emits (codes.copies_code (seen_numbering site.now) (seen_site site.now) code.old.items place count (subscripts (map seen_sub subs.now.items))) result code.new.items }
+{
+    let Some((first, others)) = subs.split_first() else {
+        return Ok(());
+    };
+    let Some(count) = count else {
+        return Err(Uncoded::At(place));
+    };
+    if !are_none(others) {
+        return Err(Uncoded::At(place));
+    }
+    emit_index(first, code, site, place, count)
+}
+
+/// Adds the code of the address that subscripts of the array choose, behind one of the copies where it was spoken of.
+#[cycle(expressions)]
+pub(crate) fn emit_places(
+    subs: &Vec<Sub>,
+    code: &mut Vec<Instr>,
+    site: &Site<'_>,
+    place: Place,
+    spoken: bool,
+    led: Led<'_>,
+) -> Result<(), Uncoded>
+    requires site { IsSite site.now }
+    ensures { Emits (onwards (codes.indexes_code (seen_numbering site.now) (seen_site site.now) code.old.items place (leading.sizes_led (seen_led led.entry)) (subscripts (map seen_sub subs.now.items))) (λ last. codes.cell_code (seen_numbering site.now) (seen_site site.now) last place spoken (seen_led led.entry))) result code.new.items }
+{
+    emit_indexes(subs, code, site, place, sizes_led(led))?;
+    emit_cell(code, site, place, spoken, led)
+}
+
+/// Adds the code of subscripts of an array of these sizes, one place for each.
+#[cycle(expressions)]
+#[tactic(auto, unfolding(hal_tree::specs::Rows::subscripts))]
+fn emit_indexes(
+    subs: &Vec<Sub>,
+    code: &mut Vec<Instr>,
+    site: &Site<'_>,
+    place: Place,
+    sizes: &[u16],
+) -> Result<(), Uncoded>
+    requires site { IsSite site.now }
+    ensures { Emits (codes.indexes_code (seen_numbering site.now) (seen_site site.now) code.old.items place sizes.now (subscripts (map seen_sub subs.now.items))) result code.new.items }
+{
+    let mut left = sizes;
+    for sub in subs {
+        let Some((size, others)) = left.split_first() else {
+            return Err(Uncoded::At(place));
+        };
+        emit_index(sub, code, site, place, *size)?;
+        left = others;
+    }
+    if left.is_empty() {
+        Ok(())
+    } else {
+        Err(Uncoded::At(place))
+    }
+}
+
+/// The instruction that leaves the number of a dimension's places.
+fn size_instr(size: u16) -> Instr
+    ensures { result ≡ instr.Int (pos size) }
+{
+    Instr::Int(i32::from(size))
+}
+
+/// Adds the code of one place of so many; subscripts that choose several have none.
+#[cycle(expressions)]
+#[tactic(auto, using(hal_tree::proofs::MadeExpressions::made_every, hal_tree::proofs::MadeExpressions::made_one, hal_tree::proofs::MadeExpressions::made_range, hal_tree::proofs::MadeExpressions::made_portion))]
+fn emit_index(
+    sub: &Sub,
+    code: &mut Vec<Instr>,
+    site: &Site<'_>,
+    place: Place,
+    size: u16,
+) -> Result<(), Uncoded>
+    requires site { IsSite site.now }
+    ensures { Emits (codes.index_code (seen_numbering site.now) (seen_site site.now) code.old.items place size (seen_sub sub.now)) result code.new.items }
+{
+    match sub {
+        Sub::One { position } => emit_position(position, code, site, place, size_instr(size)),
+        Sub::Every { .. } => Err(Uncoded::At(place)),
+        Sub::Range { .. } => Err(Uncoded::At(place)),
+        Sub::Portion { .. } => Err(Uncoded::At(place)),
+    }
+}
+
+/// Adds the code of a place of data, the number of whose places this instruction leaves.
+#[cycle(expressions)]
+#[tactic(auto, using(hal_tree::proofs::MadeExpressions::made_from_beginning, hal_tree::proofs::MadeExpressions::made_from_end))]
+fn emit_position(
+    position: &Position,
+    code: &mut Vec<Instr>,
+    site: &Site<'_>,
+    place: Place,
+    ends: Instr,
+) -> Result<(), Uncoded>
+    requires site { IsSite site.now }
+    ensures { Emits (codes.position_code (seen_numbering site.now) (seen_site site.now) code.old.items place ends (seen_position position.now)) result code.new.items }
+{
+    match position {
+        Position::FromBeginning { position } => emit_expression(position, code, site),
+        Position::FromEnd { place: _, terms } => {
+            emit_one(code, place, ends)?;
+            emit_terms(terms, code, site)
+        }
+    }
+}
+
+/// Adds the code of subscripts of the component of the value on the stack.
+#[cycle(expressions)]
+#[tactic(auto, unfolding(hal_tree::specs::Rows::subscripts))]
+pub(crate) fn emit_parts(
+    subs: &Vec<Sub>,
+    code: &mut Vec<Instr>,
+    site: &Site<'_>,
+    place: Place,
+) -> Result<(), Uncoded>
+    requires site { IsSite site.now }
+    ensures { Emits (codes.parts_code (seen_numbering site.now) (seen_site site.now) code.old.items place (subscripts (map seen_sub subs.now.items))) result code.new.items }
+{
+    let Some((first, others)) = subs.split_first() else {
+        return Ok(());
+    };
+    if !are_none(others) {
+        return Err(Uncoded::At(place));
+    }
+    emit_part(first, code, site, place)?;
+    emit_one(code, place, picks(places_of(first)))
+}
+
+/// Adds the code of the places of a component of the value on the stack, which LEN counts (image document, Code that stands for a set).
+#[cycle(expressions)]
+#[tactic(auto, using(hal_tree::proofs::MadeExpressions::made_every, hal_tree::proofs::MadeExpressions::made_one, hal_tree::proofs::MadeExpressions::made_range, hal_tree::proofs::MadeExpressions::made_portion))]
+pub fn emit_part(
+    sub: &Sub,
+    code: &mut Vec<Instr>,
+    site: &Site<'_>,
+    place: Place,
+) -> Result<(), Uncoded>
+    requires site { IsSite site.now }
+    ensures { Emits (codes.part_code (seen_numbering site.now) (seen_site site.now) code.old.items place (seen_sub sub.now)) result code.new.items }
+{
+    match sub {
+        Sub::Every { place: _ } => emit_two(code, place, Some(Instr::Int(1)), Instr::Len(1)),
+        Sub::One { position } => emit_position(position, code, site, place, Instr::Len(0)),
+        Sub::Range { first, last } => {
+            emit_position(first, code, site, place, Instr::Len(0))?;
+            emit_position(last, code, site, place, Instr::Len(1))
+        }
+        Sub::Portion { count, first } => {
+            emit_expression(count, code, site)?;
+            emit_position(first, code, site, place, Instr::Len(1))
+        }
+    }
+}

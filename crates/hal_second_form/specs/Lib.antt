@@ -1,9 +1,0 @@
-pub mod Values
-pub mod UnitMeaning
-pub mod Course
-pub mod CellTable
-pub mod Adequate
-pub mod Following
-pub mod TreeLoad
-pub mod Small
-pub mod Answering
