@@ -1,1 +1,3 @@
+pub mod Expressions
 pub mod Programs
+pub mod Subscripts

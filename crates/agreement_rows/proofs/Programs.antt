@@ -97,7 +97,7 @@ process1 zero exists = record {
   block = λ unit. None;
   units = λ unit number b one named found block. absurd (cc);
   spot = λ place. 23;
-  code = record { finish = 23; statements = (23, (6, 17, (5, (3, 4, (λ held. (record { number = 0; view = _; cell = refl; row = refl; plain = record { dimensions = refl; target = refl; base = refl } }, (refl, refl))), (refl, refl), (refl, refl)), (refl, refl)), refl, (11, (6, 10, refl, (9, (λ held. (record { number = 0; view = _; cell = refl; row = refl; plain = record { dimensions = refl; target = refl; base = refl } }, (refl, refl))), refl, refl), (refl, refl)), (17, (15, (13, 13, (λ held. (record { number = 0; view = _; cell = refl; row = refl; plain = record { dimensions = refl; target = refl; base = refl } }, (refl, refl))), refl, (14, (refl, refl), refl, refl)), (λ held. (record { number = 0; view = _; cell = refl; row = refl; plain = record { dimensions = refl; target = refl; base = refl } }, (refl, refl)))), refl)), (21, (19, 20, (λ held. (record { number = 0; view = _; cell = refl; row = refl; plain = record { dimensions = refl; target = refl; base = refl } }, (refl, refl))), (refl, refl), (refl, refl)), refl, (refl, refl))), refl); leads_out = λ place none. refl; last = refl };
+  code = record { finish = 23; statements = (23, (6, 17, (5, (3, 4, (λ held. (record { number = 0; view = _; cell = refl; row = refl; plain = record { dimensions = refl; target = refl; base = refl } }, (refl, refl))), (refl, refl), (refl, refl)), (refl, refl)), refl, (11, (6, 10, (λ rec h st same. refl), (9, (λ held. (record { number = 0; view = _; cell = refl; row = refl; plain = record { dimensions = refl; target = refl; base = refl } }, (refl, refl))), refl, refl), (refl, refl)), (17, (15, (13, 13, (λ held. (record { number = 0; view = _; cell = refl; row = refl; plain = record { dimensions = refl; target = refl; base = refl } }, (refl, refl))), refl, (14, (refl, refl), refl, refl)), (λ held. (record { number = 0; view = _; cell = refl; row = refl; plain = record { dimensions = refl; target = refl; base = refl } }, (refl, refl)))), refl)), (21, (19, 20, (λ held. (record { number = 0; view = _; cell = refl; row = refl; plain = record { dimensions = refl; target = refl; base = refl } }, (refl, refl))), (refl, refl), (refl, refl)), refl, (refl, refl))), refl); leads_out = λ place none. refl; last = refl };
 }
 process1 (suc p) exists = absurd (none_more1 p exists)
 
@@ -131,7 +131,7 @@ process2 zero exists = record {
   block = λ unit. None;
   units = λ unit number b one named found block. absurd (cc);
   spot = λ place. 45;
-  code = record { finish = 45; statements = (38, (1, 28, refl, refl, (8, (6, (4, 4, (λ held. (record { number = 0; view = _; cell = refl; row = refl; plain = record { dimensions = refl; target = refl; base = refl } }, (refl, refl))), refl, (5, (refl, refl), refl, refl)), (λ held. (record { number = 0; view = _; cell = refl; row = refl; plain = record { dimensions = refl; target = refl; base = refl } }, (refl, refl)))), (28, (18, 13, 17, (12, (10, 11, (λ held. (record { number = 0; view = _; cell = refl; row = refl; plain = record { dimensions = refl; target = refl; base = refl } }, (refl, refl))), (refl, refl), (refl, refl)), (refl, refl)), (15, (λ held. (record { number = 0; view = _; cell = refl; row = refl; plain = record { dimensions = refl; target = refl; base = refl } }, (refl, refl))), (λ held. (record { number = 1; view = _; cell = refl; row = refl; plain = record { dimensions = refl; target = refl; base = refl } }, (refl, refl)))), (refl, (27, (25, (20, 20, (λ held. (record { number = 1; view = _; cell = refl; row = refl; plain = record { dimensions = refl; target = refl; base = refl } }, (refl, refl))), refl, (24, (22, 22, (λ held. (record { number = 0; view = _; cell = refl; row = refl; plain = record { dimensions = refl; target = refl; base = refl } }, (refl, refl))), refl, (23, (refl, refl), refl, refl)), refl, refl)), (λ held. (record { number = 1; view = _; cell = refl; row = refl; plain = record { dimensions = refl; target = refl; base = refl } }, (refl, refl)))), (28, (28, refl, (refl, refl)), refl)))), refl)), (37, (refl, (32, (30, 31, (λ held. (record { number = 0; view = _; cell = refl; row = refl; plain = record { dimensions = refl; target = refl; base = refl } }, (refl, refl))), (refl, refl), (refl, refl)), (36, (34, 35, (λ held. (record { number = 1; view = _; cell = refl; row = refl; plain = record { dimensions = refl; target = refl; base = refl } }, (refl, refl))), (refl, refl), (refl, refl)), refl, refl))), (refl, refl))), (45, (6, 44, refl, (40, (λ held. (record { number = 0; view = _; cell = refl; row = refl; plain = record { dimensions = refl; target = refl; base = refl } }, (refl, refl))), refl, (43, (λ held. (record { number = 1; view = _; cell = refl; row = refl; plain = record { dimensions = refl; target = refl; base = refl } }, (refl, refl))), refl, refl)), (refl, refl)), refl)); leads_out = λ place none. refl; last = refl };
+  code = record { finish = 45; statements = (38, (1, 28, refl, refl, (8, (6, (4, 4, (λ held. (record { number = 0; view = _; cell = refl; row = refl; plain = record { dimensions = refl; target = refl; base = refl } }, (refl, refl))), refl, (5, (refl, refl), refl, refl)), (λ held. (record { number = 0; view = _; cell = refl; row = refl; plain = record { dimensions = refl; target = refl; base = refl } }, (refl, refl)))), (28, (18, 13, 17, (12, (10, 11, (λ held. (record { number = 0; view = _; cell = refl; row = refl; plain = record { dimensions = refl; target = refl; base = refl } }, (refl, refl))), (refl, refl), (refl, refl)), (refl, refl)), (15, (λ held. (record { number = 0; view = _; cell = refl; row = refl; plain = record { dimensions = refl; target = refl; base = refl } }, (refl, refl))), (λ held. (record { number = 1; view = _; cell = refl; row = refl; plain = record { dimensions = refl; target = refl; base = refl } }, (refl, refl)))), (refl, (27, (25, (20, 20, (λ held. (record { number = 1; view = _; cell = refl; row = refl; plain = record { dimensions = refl; target = refl; base = refl } }, (refl, refl))), refl, (24, (22, 22, (λ held. (record { number = 0; view = _; cell = refl; row = refl; plain = record { dimensions = refl; target = refl; base = refl } }, (refl, refl))), refl, (23, (refl, refl), refl, refl)), refl, refl)), (λ held. (record { number = 1; view = _; cell = refl; row = refl; plain = record { dimensions = refl; target = refl; base = refl } }, (refl, refl)))), (28, (28, refl, (refl, refl)), refl)))), refl)), (37, (32, 32, (30, 31, (λ held. (record { number = 0; view = _; cell = refl; row = refl; plain = record { dimensions = refl; target = refl; base = refl } }, (refl, refl))), (refl, refl), (refl, refl)), refl, (36, 36, (34, 35, (λ held. (record { number = 1; view = _; cell = refl; row = refl; plain = record { dimensions = refl; target = refl; base = refl } }, (refl, refl))), (refl, refl), (refl, refl)), refl, refl, refl)), (refl, refl))), (45, (6, 44, (λ rec h st same. refl), (40, (λ held. (record { number = 0; view = _; cell = refl; row = refl; plain = record { dimensions = refl; target = refl; base = refl } }, (refl, refl))), refl, (43, (λ held. (record { number = 1; view = _; cell = refl; row = refl; plain = record { dimensions = refl; target = refl; base = refl } }, (refl, refl))), refl, refl)), (refl, refl)), refl)); leads_out = λ place none. refl; last = refl };
 }
 process2 (suc p) exists = absurd (none_more2 p exists)
 
@@ -199,7 +199,7 @@ process4 zero exists = record {
   block = λ unit. None;
   units = λ unit number b one named found block. absurd (cc);
   spot = λ place. 19;
-  code = record { finish = 19; statements = (4, (5, refl, (_, 4, (λ held. refl), refl, (λ held. (record { number = 0; view = _; cell = refl; row = refl; plain = record { dimensions = refl; target = refl; base = refl } }, (refl, refl))), refl)), (16, ((λ place. 15), 15, refl, (11, (9, (7, 7, (λ held. (record { number = 1; view = _; cell = refl; row = refl; plain = record { dimensions = refl; target = refl; base = refl } }, (refl, refl))), refl, (8, (refl, refl), refl, refl)), (λ held. (record { number = 1; view = _; cell = refl; row = refl; plain = record { dimensions = refl; target = refl; base = refl } }, (refl, refl)))), (15, (13, (λ held. (record { number = 1; view = _; cell = refl; row = refl; plain = record { dimensions = refl; target = refl; base = refl } }, (refl, refl))), (λ held. (record { number = 0; view = _; cell = refl; row = refl; plain = record { dimensions = refl; target = refl; base = refl } }, (refl, refl)))), refl)), (λ place none. refl), (refl, refl)), (17, (refl, refl), (18, (refl, refl), (19, (refl, refl), refl))))); leads_out = λ place none. refl; last = refl };
+  code = record { finish = 19; statements = (4, (5, (λ rec h st same. refl), (_, 4, (λ held. refl), refl, (λ held. (record { number = 0; view = _; cell = refl; row = refl; plain = record { dimensions = refl; target = refl; base = refl } }, (refl, refl))), refl)), (16, ((λ place. 15), 15, refl, (11, (9, (7, 7, (λ held. (record { number = 1; view = _; cell = refl; row = refl; plain = record { dimensions = refl; target = refl; base = refl } }, (refl, refl))), refl, (8, (refl, refl), refl, refl)), (λ held. (record { number = 1; view = _; cell = refl; row = refl; plain = record { dimensions = refl; target = refl; base = refl } }, (refl, refl)))), (15, (13, (λ held. (record { number = 1; view = _; cell = refl; row = refl; plain = record { dimensions = refl; target = refl; base = refl } }, (refl, refl))), (λ held. (record { number = 0; view = _; cell = refl; row = refl; plain = record { dimensions = refl; target = refl; base = refl } }, (refl, refl)))), refl)), (λ place none. refl), (refl, refl)), (17, (refl, refl), (18, (_, 17, (refl, refl), (refl, refl)), (19, (refl, refl), refl))))); leads_out = λ place none. refl; last = refl };
 }
 process4 (suc p) exists = absurd (none_more4 p exists)
 

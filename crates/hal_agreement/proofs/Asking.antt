@@ -1,8 +1,8 @@
 -- Statements that ask: READ, event statements, CANCEL and TERMINATE, WAIT.
 use Rattle.std.specs.Prelude.{◌≡◌, ℕ, suc, ◌==◌, nat_lt, Bool, true, false, List, [], ◌∷◌, Some, None, if◌then◌else◌}
 use Rattle.std.proofs.Common.{refl, sym, ap, subst, ◌∙◌}
-use Rattle.hal_grammar.specs.Leaves.{Naming, Integer}
-use Rattle.hal_grammar.specs.Expressions.{Expression, Literal, Decimal, Reference, Refers}
+use Rattle.hal_grammar.specs.Leaves.{Naming}
+use Rattle.hal_grammar.specs.Expressions.{Expression, Reference, Refers}
 use Rattle.hal_grammar.specs.Statements.{EventAction, Signal, Set, Reset}
 use Rattle.hal_values.specs.declared.plan.Pause.TheVariants as pause
 use Rattle.hal_values.specs.declared.request.Request.{Request}
@@ -13,14 +13,13 @@ use Rattle.hal_values.specs.Tables.{process_count, event_count}
 use Rattle.hal_states.specs.Spots.{Held}
 use Rattle.hal_meaning.specs.States.{State, state, Evaluated, Gives, Asks, Caught, Restarts, Lost, bind}
 use Rattle.hal_meaning.specs.Access.{Here, raise, event_changed, request_made}
-use Rattle.hal_meaning.specs.RealTime.{time, request_tried, answered_by, each_named, named_or_own, change_of}
+use Rattle.hal_meaning.specs.RealTime.{request_tried, answered_by, each_named, named_or_own, change_of}
 use Rattle.hal_meaning.specs.Statements.{goes_on, kind_meant, kind_named, datum_of, datum_received, all_read, channel_of, waited}
 use Rattle.hal_meaning.specs.Expressions.{expression}
 use Rattle.hal_meaning.specs.Tasks.{Meaning}
 use Rattle.hal_code.specs.declared.instr.Instr.{Instr}
 use Rattle.hal_code.specs.declared.instr.Instr.TheVariants as instr
 use Rattle.hal_code.specs.declared.operand.Delay.TheVariants as delay
-use Rattle.hal_code.specs.declared.operand.Time.TheVariants as times
 use Rattle.hal_code.specs.Cores.{Goes, Then, Tried, Takes, Step, Waits, Moves}
 use Rattle.hal_code.specs.Raising.{made_if}
 use Rattle.hal_code.specs.Asking as machine
@@ -29,7 +28,7 @@ use Rattle.hal_code.specs.Machine.{act, given}
 use Rattle.hal_agreement.specs.Codes.{Code}
 use Rattle.hal_agreement.specs.Sites.{site_of, here_at}
 use Rattle.hal_agreement.specs.PlacedExpressions.{One}
-use Rattle.hal_agreement.specs.PlacedStatements.{Exits, ChannelAt, ReceiverAt, ReadsAt, changes, PauseAt, EventAt, EachAt, NamedOrOwnAt}
+use Rattle.hal_agreement.specs.PlacedStatements.{Exits, ChannelAt, ReceiverAt, ReadsAt, changes, EventAt, EachAt, NamedOrOwnAt}
 use Rattle.hal_agreement.proofs.Knowing.{Out, Sound}
 use Rattle.hal_agreement.proofs.Leading.{stays}
 use Rattle.hal_agreement.proofs.Reaching.{Nest, setting, core_at, Reaches, bind_reaches, asks_reaches, acts}
@@ -118,7 +117,7 @@ module _ (code : Code) (begin : ℕ) (rec : Meaning) (sound : Sound code begin r
   answered_reaches (answered.Block snapshot turns) to st = ready to st
   answered_reaches answered.Killed to st = ready to st
 
-  tried_reaches : (r : Request) (to : ℕ) (st : State) → Ready to (Waits r Tried (core_at to [] [] n st)) st.left (request_tried h r st)
+  pub tried_reaches : (r : Request) (to : ℕ) (st : State) → Ready to (Waits r Tried (core_at to [] [] n st)) st.left (request_tried h r st)
   tried_reaches r to st =
       asks_then code begin h n _ r Tried (core_at to [] [] n st) st.entries st.left (λ a after. Gives a after) (λ answer after. answered_by h answer after) (λ a rest. answered_reaches a to (state st.kept st.entries st.mode rest))
 
@@ -129,7 +128,7 @@ module _ (code : Code) (begin : ℕ) (rec : Meaning) (sound : Sound code begin r
       subst (λ p. Ready (suc at) (made_if (nat_lt p (process_count h.set.tables)) (asks p) Tried (core_at (suc at) [] [] n st)) st.left (request_tried h (asks process) st)) (sym same)
       (subst (λ b. Ready (suc at) (made_if b (asks process) Tried (core_at (suc at) [] [] n st)) st.left (request_tried h (asks process) st)) (sym there) (tried_reaches (asks process) (suc at) st))
 
-  other_named : (number : ℕ) (b : Bool) → b ≡ false → (if b then h.process else number) ≡ number
+  pub other_named : (number : ℕ) (b : Bool) → b ≡ false → (if b then h.process else number) ≡ number
   other_named number true is = absurd (cc)
   other_named number false is = refl
 
@@ -150,15 +149,6 @@ module _ (code : Code) (begin : ℕ) (rec : Meaning) (sound : Sound code begin r
       last (does 255) from to st _ here (subst (λ step. Ready (suc from) step st.left (request_tried h (asks h.process) st)) (sym (same 255 from st)) (named_reaches asks 255 h.process from st refl standing.process))
   named_or_own_reaches asks does same (name ∷ names) from to st here = each_reaches asks does same (name ∷ names) from to st here
 
-  -- WAIT for a time that is written as a decimal
-  pub for_reaches : (tree : Expression) (from to : ℕ) (st : State) → PauseAt code delay.For tree from to → Ready to (Moves (core_at from [] [] n st)) st.left (bind (time rec h tree st) (λ t after. request_made (request.Wait (pause.For t)) after))
-  for_reaches (Decimal place number) from to st one = last (instr.Wait (delay.For (times.Milliseconds number))) from to st _ one (made_reaches _ (suc from) st)
-  for_reaches other from to st one = absurd one
-
-  pub till_reaches : (tree : Expression) (from to : ℕ) (st : State) → PauseAt code delay.Until tree from to → Ready to (Moves (core_at from [] [] n st)) st.left (bind (time rec h tree st) (λ t after. request_made (request.Wait (pause.Till t)) after))
-  till_reaches (Decimal place number) from to st one = last (instr.Wait (delay.Until (times.Milliseconds number))) from to st _ one (made_reaches _ (suc from) st)
-  till_reaches other from to st one = absurd one
-
   pub dependents_reaches : (from to : ℕ) (st : State) → One code from (instr.Wait delay.Dependents) to → Ready to (Moves (core_at from [] [] n st)) st.left (request_made (request.Wait pause.Dependents) st)
   dependents_reaches from to st one = last (instr.Wait delay.Dependents) from to st _ one (made_reaches _ (suc from) st)
 
@@ -170,8 +160,8 @@ module _ (code : Code) (begin : ℕ) (rec : Meaning) (sound : Sound code begin r
       (subst (λ b. Ready (suc from) (machine.waited (if b then Some (pause.Event x, []) else None) (core_at from [] [] n st)) st.left (request_made (request.Wait (pause.Event x)) st)) (sym here.0) (made_reaches _ (suc from) st))
 
   -- READ with its channel
-  pub read_stated : (exits : Exits) (channel : Expression) (receivers : List Reference) (number from to : ℕ) (st : State) → ChannelAt channel number → ReadsAt code (site_of h) number receivers from to
+  pub read_stated : (exits : Exits) (channel : Expression) (receivers : List Reference) (number from to : ℕ) (st : State) → ChannelAt (site_of h) channel number → ReadsAt code (site_of h) number receivers from to
       → FlowsAt code begin rec sound h n standing out exits to (Moves (core_at from [] [] n st)) st.left (bind (expression rec h channel st) (λ c after. goes_on (all_read rec h (channel_of c) receivers after)))
-  read_stated exits (Literal place (Integer written)) receivers number from to st same here =
-      goes_on_reaches code begin rec sound h n standing out exits to _ st.left _ (subst (λ channel. Ready to (Moves (core_at from [] [] n st)) st.left (all_read rec h channel receivers st)) (sym same) (read_reaches number receivers from to st here))
-  read_stated exits other receivers number from to st same here = absurd same
+  read_stated exits channel receivers number from to st known here =
+      subst (λ r. FlowsAt code begin rec sound h n standing out exits to (Moves (core_at from [] [] n st)) st.left (bind r (λ c after. goes_on (all_read rec h (channel_of c) receivers after)))) (sym (known rec h st refl))
+      (goes_on_reaches code begin rec sound h n standing out exits to _ st.left _ (read_reaches number receivers from to st here))

@@ -1,5 +1,5 @@
 -- The code of an expression leaves the value on the stack that the tree gives.
-use Rattle.std.specs.Prelude.{◌≡◌, ℕ, suc, nat_lt, length, Bool, true, false, not, ◌&&◌, ◌||◌, List, [], ◌∷◌, ◌++◌, ℤ, pos, Option, Some, None, slice_get, if◌then◌else◌}
+use Rattle.std.specs.Prelude.{◌≡◌, ℕ, suc, nat_lt, length, Bool, true, false, ◌&&◌, ◌||◌, List, [], ◌∷◌, ◌++◌, ℤ, pos, Option, Some, None, slice_get, if◌then◌else◌}
 use Rattle.std.proofs.Common.{refl, sym, ap, subst, ◌∙◌}
 use Rattle.hal_grammar.specs.Leaves.{Naming, Sign, Plus, Minus}
 use Rattle.hal_grammar.specs.Expressions.{Expression, Or, And, Compare, Cat, Sum, Product, Power, Not, Literal, Decimal, Referred, Called, Convert, Parenthesis, Expressions, NoExpressions, MoreExpressions, Terms, NoTerms, MoreTerms, Reference, Refers, Subscript, Unsubscripted, ByName, ByInteger, ByParts, Subscripts, NoSubscripts, MoreSubscripts, Sub, Every, Range, Portion, One as OnePlace, Position, FromBeginning, FromEnd}
@@ -36,7 +36,7 @@ use Rattle.hal_meaning.specs.Access.{Here, ask, read}
 use Rattle.hal_meaning.specs.Calls.{Passed, Plain, call}
 use Rattle.hal_meaning.specs.Bodies.{meant}
 use Rattle.hal_meaning.specs.Variables.{Meant, MeantData, MeantConstant, MeantEvent, MeantBlock, MeantBuiltin, MeantNothing, meant_by, declaration_meant, builtin_meant, name_meant, kind_of_first, Index, Single, Dimension, dimensions_of, is_arrayed}
-use Rattle.hal_meaning.specs.Expressions.{literal_value, is_condition, are_conditions, becomes_condition, as_operand, apply_one, apply_two, signed, exponent_of, operation_of_relation, operation_of_sign, operation_of_conversion, event_value, alone_value, plain_value, built, size_argument, inputs_at, call_form, subscripted, expression, joined, folded, summed, values, argument, passed, chosen_by, referred, data_chosen, component, Located, located, named_value, sizes_named, copies_of, spoken, array_indexes, indexes, index, position, part_of, parts_of, part_chosen}
+use Rattle.hal_meaning.specs.Expressions.{literal_value, is_condition, are_conditions, becomes_condition, as_condition, as_operand, apply_one, apply_two, signed, exponent_of, operation_of_relation, operation_of_sign, operation_of_conversion, event_value, alone_value, plain_value, built, is_size, size_value, size_argument, inputs_at, call_form, subscripted, expression, joined, folded, summed, values, argument, passed, chosen_by, referred, data_chosen, component, Located, located, named_value, sizes_named, copies_of, spoken, array_indexes, indexes, index, position, part_of, parts_of, part_chosen}
 use Rattle.hal_meaning.specs.Tasks.{Meaning}
 use Rattle.hal_code.specs.declared.choice.Choice.TheVariants as choice
 use Rattle.hal_code.specs.declared.instr.Instr.{Instr}
@@ -50,7 +50,7 @@ use Rattle.hal_code.specs.Computing.{part_taken, part_picked}
 use Rattle.hal_code.specs.Machine.{act}
 use Rattle.hal_agreement.specs.Codes.{Code}
 use Rattle.hal_agreement.specs.Sites.{site_of, here_at}
-use Rattle.hal_agreement.specs.PlacedExpressions.{One, pushes, two, AddressAt, BehindAt, AloneAt, ValueAt, NameAt, EitherAt, PlaceAt, ArrayAt, SubscriptedAt, SignAt, stay, ExpressionAt, FoldedAt, TermsAt, CalledAt, BuiltAt, ArgumentsAt, ReferenceAt, ChosenAt, IndexesAt, PositionAt, ComponentAt, PartsAt, PartAt, picks, places_of}
+use Rattle.hal_agreement.specs.PlacedExpressions.{One, pushes, two, AddressAt, BehindAt, AloneAt, ValueAt, NameAt, EitherAt, PlaceAt, ArrayAt, SubscriptedAt, SignAt, OperandAt, ExpressionAt, JoinedAt, FoldedAt, TermsAt, CalledAt, BuiltAt, ArgumentsAt, ReferenceAt, ChosenAt, IndexesAt, PositionAt, ComponentAt, PartsAt, PartAt, picks, places_of}
 use Rattle.hal_agreement.proofs.Calling.{args_step, inputs_same, call_reaches, function_reaches}
 use Rattle.hal_agreement.proofs.Knowing.{Sound}
 use Rattle.hal_agreement.proofs.Leading.{stays}
@@ -81,17 +81,29 @@ named_same h held name (Some k) = declared_same h held (slice_get h.set.phrases 
 pub name_same : (h : Here) (name : List ℕ) (held : List Held) → name_meant (here_at (site_of h)) name held ≡ name_meant h name held
 name_same h name held = named_same h held name (meant h.set.phrases h.block name)
 
-both_left : (a b : Bool) → (a && b) ≡ true → a ≡ true
-both_left true b is = refl
-both_left false b is = is
+-- SIZE goes by the site alone
+size_same : (h : Here) (arguments : Expressions) (held : List Held) → size_argument (here_at (site_of h)) arguments held ≡ size_argument h arguments held
+size_same h (MoreExpressions (Referred (Refers place name path subscript)) others) held = ap (λ m. size_value m path) (name_same h name held)
+size_same h NoExpressions held = refl
+size_same h (MoreExpressions (Or place first next) others) held = refl
+size_same h (MoreExpressions (And place first next) others) held = refl
+size_same h (MoreExpressions (Compare place left relation right) others) held = refl
+size_same h (MoreExpressions (Cat place first next) others) held = refl
+size_same h (MoreExpressions (Sum place opening first next) others) held = refl
+size_same h (MoreExpressions (Product place first next) others) held = refl
+size_same h (MoreExpressions (Power place base exponent) others) held = refl
+size_same h (MoreExpressions (Not place operand) others) held = refl
+size_same h (MoreExpressions (Literal place literal) others) held = refl
+size_same h (MoreExpressions (Decimal place number) others) held = refl
+size_same h (MoreExpressions (Called place name arguments) others) held = refl
+size_same h (MoreExpressions (Convert place conversion operand) others) held = refl
+size_same h (MoreExpressions (Parenthesis place inner) others) held = refl
 
-both_right : (a b : Bool) → (a && b) ≡ true → b ≡ true
-both_right true b is = is
-both_right false b is = absurd (cc)
-
-as_it_is : (b : Bool) (v : Value) → not b ≡ true → as_operand b v ≡ v
-as_it_is true v is = absurd (cc)
-as_it_is false v is = refl
+-- a comparison with a zero raises no error
+zero_compared : (h : Here) (v : Value) (st : State) → apply_two h op2.NotEqual v (value.Bits 1 0) st ≡ Gives (as_condition v) st
+zero_compared h (value.Int a) st = refl
+zero_compared h (value.Bits len word) st = refl
+zero_compared h (value.Text text) st = refl
 
 -- something is followed by the same
 same_bind : {A B : Type 0} (r : Evaluated A) (go next : A → State → Evaluated B) → ((v : A) (st : State) → go v st ≡ next v st) → bind r go ≡ bind r next
@@ -152,6 +164,23 @@ module _ (code : Code) (begin : ℕ) (rec : Meaning) (sound : Sound code begin r
   two_reaches op at to v w stack line st one =
       last (two op) at to (Val w ∷ Val v ∷ stack) stack line st (apply_two h op v w st) one
       (tested_reaches code begin h n standing (value_of_two op v w) (mended_of_two op v w) at (Val w ∷ Val v ∷ stack) stack line st)
+
+  -- an operand of AND or OR, as it is or compared with a zero
+  operand_reaches : (becomes : Bool) (from to : ℕ) (v : Value) (stack : List Operand) (line : List ℕ) (st : State) → OperandAt code becomes from to
+      → ValuesAt to stack line (From from (Val v ∷ stack) line st) st.left (Gives (as_operand becomes v) st)
+  operand_reaches true from to v stack line st here =
+      acts (setting code begin h) n _ (core_at from (Val v ∷ stack) line n st) st.left (instr.Bits 1 0) _ here.0
+      (subst (λ r. ValuesAt to stack line (From (suc from) (Val (value.Bits 1 0) ∷ Val v ∷ stack) line st) st.left r) (zero_compared h v st) (two_reaches op2.NotEqual (suc from) to v (value.Bits 1 0) stack line st here.1))
+  operand_reaches false from to v stack line st same = subst (λ end. ValuesAt end stack line (From from (Val v ∷ stack) line st) st.left (Gives v st)) same (gives from stack line v st)
+
+  -- the first operand of AND or OR, and those behind it
+  joining_reaches : (op : Op2) (condition : Bool) (first : Expression) (list : Expressions) (from middle to : ℕ) (v : Value) (stack : List Operand) (line : List ℕ) (st : State)
+      → OperandAt code (becomes_condition condition first) from middle
+      → ((w : Value) (after : State) → ValuesAt to stack line (From middle (Val w ∷ stack) line after) after.left (joined rec h op condition w list after))
+      → ValuesAt to stack line (From from (Val v ∷ stack) line st) st.left (joined rec h op condition (as_operand (becomes_condition condition first) v) list st)
+  joining_reaches op condition first list from middle to v stack line st at others =
+      then_reaches middle to stack stack line _ st.left (Gives (as_operand (becomes_condition condition first) v) st) (λ w after. joined rec h op condition w list after)
+      (operand_reaches (becomes_condition condition first) from middle v stack line st at) others
 
   -- the value of data
   data_reaches : (k : Kind) (spot : Spot) (from to : ℕ) (stack : List Operand) (line : List ℕ) (st : State) → AddressAt code st.kept.places k spot from → One code (suc from) instr.Fetch to
@@ -214,7 +243,7 @@ module _ (code : Code) (begin : ℕ) (rec : Meaning) (sound : Sound code begin r
   done from to v stack line st same = subst (λ end. ValuesAt end stack line (From from (Val v ∷ stack) line st) st.left (Gives v st)) same (gives from stack line v st)
 
   -- a name without subscripts
-  named_reaches : (name : List ℕ) (path : List Naming) (from to : ℕ) (stack : List Operand) (line : List ℕ) (st : State) → NameAt code (site_of h) name path from to
+  pub named_reaches : (name : List ℕ) (path : List Naming) (from to : ℕ) (stack : List Operand) (line : List ℕ) (st : State) → NameAt code (site_of h) name path from to
       → ValuesAt to stack line (From from stack line st) st.left (plain_value rec h path (name_meant h name st.kept.places) st)
   named_reaches name path from to stack line st here =
       value_reaches path (name_meant h name st.kept.places) from to stack line st (subst (λ m. ValueAt code (site_of h) path st.kept.places m from to) (name_same h name st.kept.places) (here st.kept.places))
@@ -370,6 +399,12 @@ module _ (code : Code) (begin : ℕ) (rec : Meaning) (sound : Sound code begin r
   powered (value.Bits len word) at to v stack line st one = two_reaches op2.Power (suc at) to v (value.Bits len word) stack line st one
   powered (value.Text text) at to v stack line st one = two_reaches op2.Power (suc at) to v (value.Text text) stack line st one
 
+  -- SIZE, or another function
+  size_or : (is : Bool) (size : Value) (made : ℕ → ℕ → Type 0) (r : Evaluated Value) (from to : ℕ) (stack : List Operand) (line : List ℕ) (st : State) → EitherAt is (λ begins ends. One code begins (pushes size) ends) made from to
+      → (made from to → ValuesAt to stack line (From from stack line st) st.left r) → ValuesAt to stack line (From from stack line st) st.left (if is then Gives size st else r)
+  size_or true size made r from to stack line st here other = constant_reaches size from to stack line st here
+  size_or false size made r from to stack line st here other = other here
+
   -- a name with a list, whose operands are known
   called_reaches : (size : Value) (inputs : ℕ → State → Evaluated (List Passed)) (items : State → Evaluated (List Value)) (multiplied : Value → State → Evaluated Value) (folded : ℕ → ℕ → Type 0) (made : Operation → ℕ → ℕ → Type 0)
       (args : ℕ → ℕ → ℕ → Type 0) (m : Meant) (from to : ℕ) (stack : List Operand) (line : List ℕ) (st : State)
@@ -377,13 +412,13 @@ module _ (code : Code) (begin : ℕ) (rec : Meaning) (sound : Sound code begin r
       → ((op : Operation) → made op from to → ValuesAt to stack line (From from stack line st) st.left (bind (items st) (λ vs after. built h op vs after)))
       → ((unit middle : ℕ) → args unit from middle
       → Reaches (setting code begin h) n (λ ps after. args_step code begin rec sound h n standing (inputs_at h.set unit) ps stack middle line after) (From from stack line st) st.left (inputs unit st))
-      → CalledAt code (site_of h) st.kept.places folded made args m from to → ValuesAt to stack line (From from stack line st) st.left (call_form rec h size inputs items multiplied m st)
+      → CalledAt code (site_of h) st.kept.places size folded made args m from to → ValuesAt to stack line (From from stack line st) st.left (call_form rec h size inputs items multiplied m st)
   called_reaches size inputs items multiplied folded made args (MeantBlock unit) from to stack line st products functions passes here =
       bind_on (setting code begin h) n (λ ps after. args_step code begin rec sound h n standing (inputs_at h.set unit) ps stack here.0 line after) _ _ st.left (inputs unit st) (λ ps after. call rec h unit ps [] after) (passes unit here.0 here.1)
       (λ ps after. subst (λ names. OnStep (args_step code begin rec sound h n standing names ps stack here.0 line after) (λ x. ValuesAt to stack line x after.left (call rec h unit ps [] after)))
       (sym (inputs_same code begin rec sound h n standing unit true here.0 to here.2)) (call_reaches code begin rec sound h n standing unit true ps here.0 to stack line after here.2))
   called_reaches size inputs items multiplied folded made args (MeantBuiltin b) from to stack line st products functions passes here =
-      subst (λ is. ValuesAt to stack line (From from stack line st) st.left (if is then Gives size st else bind (items st) (λ vs after. built h (operation_of b) vs after))) (sym here.0) (functions (operation_of b) here.1)
+      size_or (is_size b) size (λ begins ends. made (operation_of b) begins ends) _ from to stack line st here (λ at. functions (operation_of b) at)
   called_reaches size inputs items multiplied folded made args (MeantData at shape) from to stack line st products functions passes here =
       then_reaches here.0 to stack stack line _ _ _ _ (value_reaches [] (MeantData at shape) from here.0 stack line st here.1) (λ v after. products here.0 v after here.2)
   called_reaches size inputs items multiplied folded made args (MeantConstant v) from to stack line st products functions passes here =
@@ -403,15 +438,13 @@ module _ (code : Code) (begin : ℕ) (rec : Meaning) (sound : Sound code begin r
     pub expression_reaches : (e : Expression) (from to : ℕ) (stack : List Operand) (line : List ℕ) (st : State) → ExpressionAt code (site_of h) e from to
         → ValuesAt to stack line (From from stack line st) st.left (expression rec h e st)
     expression_reaches (Or place first others) from to stack line st here =
-        then_reaches here.1.0 to stack stack line _ _ _ _ (expression_reaches first from here.1.0 stack line st here.1.1)
-        (λ v after. subst (λ w. ValuesAt to stack line (From here.1.0 (Val v ∷ stack) line after) after.left (joined rec h op2.Or (is_condition first || are_conditions others) w others after))
-        (sym (as_it_is (becomes_condition (is_condition first || are_conditions others) first) v (both_left _ _ here.0)))
-        (joined_reaches op2.Or (is_condition first || are_conditions others) others here.1.0 to v stack line after (both_right _ _ here.0) here.1.2))
+        then_reaches here.0 to stack stack line _ _ _ _ (expression_reaches first from here.0 stack line st here.2)
+        (λ v after. joining_reaches op2.Or (is_condition first || are_conditions others) first others here.0 here.1 to v stack line after here.3
+        (λ w later. joined_reaches op2.Or (is_condition first || are_conditions others) others here.1 to w stack line later here.4))
     expression_reaches (And place first others) from to stack line st here =
-        then_reaches here.1.0 to stack stack line _ _ _ _ (expression_reaches first from here.1.0 stack line st here.1.1)
-        (λ v after. subst (λ w. ValuesAt to stack line (From here.1.0 (Val v ∷ stack) line after) after.left (joined rec h op2.And (is_condition first || are_conditions others) w others after))
-        (sym (as_it_is (becomes_condition (is_condition first || are_conditions others) first) v (both_left _ _ here.0)))
-        (joined_reaches op2.And (is_condition first || are_conditions others) others here.1.0 to v stack line after (both_right _ _ here.0) here.1.2))
+        then_reaches here.0 to stack stack line _ _ _ _ (expression_reaches first from here.0 stack line st here.2)
+        (λ v after. joining_reaches op2.And (is_condition first || are_conditions others) first others here.0 here.1 to v stack line after here.3
+        (λ w later. joined_reaches op2.And (is_condition first || are_conditions others) others here.1 to w stack line later here.4))
     expression_reaches (Compare place left relation right) from to stack line st here =
         then_reaches here.0 to stack stack line _ _ _ _ (expression_reaches left from here.0 stack line st here.2)
         (λ v after. then_reaches here.1 to (Val v ∷ stack) stack line _ _ _ _ (expression_reaches right here.0 here.1 (Val v ∷ stack) line after here.3)
@@ -437,22 +470,24 @@ module _ (code : Code) (begin : ℕ) (rec : Meaning) (sound : Sound code begin r
         (λ unit begins end. ArgumentsAt code (site_of h) unit (inputs_at h.set unit) arguments begins end) (name_meant h name st.kept.places) from to stack line st
         (λ middle v after at. folded_reaches op2.Product arguments middle to v stack line after at) (λ op at. built_reaches op arguments from to stack line st at)
         (λ unit middle at. passed_reaches unit (inputs_at h.set unit) arguments from middle stack line st at)
-        (subst (λ m. CalledAt code (site_of h) st.kept.places (λ middle end. FoldedAt code (site_of h) op2.Product arguments middle end) (λ op begins end. BuiltAt code (site_of h) op arguments begins end)
-        (λ unit begins end. ArgumentsAt code (site_of h) unit (inputs_at h.set unit) arguments begins end) m from to) (name_same h name st.kept.places) (here st.kept.places))
+        (subst (λ m. CalledAt code (site_of h) st.kept.places (size_argument h arguments st.kept.places) (λ middle end. FoldedAt code (site_of h) op2.Product arguments middle end)
+        (λ op begins end. BuiltAt code (site_of h) op arguments begins end) (λ unit begins end. ArgumentsAt code (site_of h) unit (inputs_at h.set unit) arguments begins end) m from to) (name_same h name st.kept.places)
+        (subst (λ size. CalledAt code (site_of h) st.kept.places size (λ middle end. FoldedAt code (site_of h) op2.Product arguments middle end) (λ op begins end. BuiltAt code (site_of h) op arguments begins end)
+        (λ unit begins end. ArgumentsAt code (site_of h) unit (inputs_at h.set unit) arguments begins end) (name_meant (here_at (site_of h)) name st.kept.places) from to) (size_same h arguments st.kept.places) (here st.kept.places)))
     expression_reaches (Convert place conversion operand) from to stack line st here =
         then_reaches here.0 to stack stack line _ _ _ _ (expression_reaches operand from here.0 stack line st here.1) (λ v after. one_reaches (operation_of_conversion conversion) here.0 to v stack line after here.2)
     expression_reaches (Parenthesis place inner) from to stack line st here = expression_reaches inner from to stack line st here
 
     -- operands of AND or OR behind a value
-    joined_reaches : (op : Op2) (condition : Bool) (list : Expressions) (from to : ℕ) (v : Value) (stack : List Operand) (line : List ℕ) (st : State) → stay condition list ≡ true → FoldedAt code (site_of h) op list from to
+    joined_reaches : (op : Op2) (condition : Bool) (list : Expressions) (from to : ℕ) (v : Value) (stack : List Operand) (line : List ℕ) (st : State) → JoinedAt code (site_of h) op condition list from to
         → ValuesAt to stack line (From from (Val v ∷ stack) line st) st.left (joined rec h op condition v list st)
-    joined_reaches op condition NoExpressions from to v stack line st stays_so here = done from to v stack line st here
-    joined_reaches op condition (MoreExpressions first others) from to v stack line st stays_so here =
-        then_reaches here.0 to (Val v ∷ stack) stack line _ _ _ _ (expression_reaches first from here.0 (Val v ∷ stack) line st here.1)
-        (λ w after. subst (λ x. ValuesAt to stack line (From here.0 (Val w ∷ Val v ∷ stack) line after) after.left (bind (apply_two h op v x after) (λ y later. joined rec h op condition y others later)))
-        (sym (as_it_is (becomes_condition condition first) w (both_left _ _ stays_so)))
-        (then_reaches (suc here.0) to stack stack line _ _ _ _ (two_reaches op here.0 (suc here.0) v w stack line after (here.2, refl))
-        (λ y later. joined_reaches op condition others (suc here.0) to y stack line later (both_right _ _ stays_so) here.3)))
+    joined_reaches op condition NoExpressions from to v stack line st here = done from to v stack line st here
+    joined_reaches op condition (MoreExpressions first others) from to v stack line st here =
+        then_reaches here.0 to (Val v ∷ stack) stack line _ _ _ _ (expression_reaches first from here.0 (Val v ∷ stack) line st here.2)
+        (λ w after. then_reaches here.1 to (Val v ∷ stack) stack line _ after.left (Gives (as_operand (becomes_condition condition first) w) after) (λ x later. bind (apply_two h op v x later) (λ y last. joined rec h op condition y others last))
+        (operand_reaches (becomes_condition condition first) here.0 here.1 w (Val v ∷ stack) line after here.3)
+        (λ x later. then_reaches (suc here.1) to stack stack line _ _ _ _ (two_reaches op here.1 (suc here.1) v x stack line later (here.4, refl))
+        (λ y last. joined_reaches op condition others (suc here.1) to y stack line last here.5)))
 
     -- operands of an operation behind a value
     folded_reaches : (op : Op2) (list : Expressions) (from to : ℕ) (v : Value) (stack : List Operand) (line : List ℕ) (st : State) → FoldedAt code (site_of h) op list from to

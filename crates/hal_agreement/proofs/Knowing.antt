@@ -1,5 +1,6 @@
 -- Where the machine goes on once a statement is done, and what is known of the tasks that are begun in statements.
 use Rattle.std.specs.Prelude.{◌≡◌, ℕ, suc, List, [], ◌∷◌, Option, Some, None}
+use Rattle.hal_grammar.specs.Expressions.{Expressions}
 use Rattle.hal_grammar.specs.Statements.{Guard}
 use Rattle.hal_values.specs.declared.environment.Entry.{Entry}
 use Rattle.hal_values.specs.declared.value.Value.{Value}
@@ -9,14 +10,14 @@ use Rattle.hal_meaning.specs.Marks.{handling_in}
 use Rattle.hal_meaning.specs.States.{State, with_places, Flow, Normal, Leaves, Repeats, Returned}
 use Rattle.hal_meaning.specs.Access.{Here}
 use Rattle.hal_meaning.specs.Runs.{in_function, ended}
-use Rattle.hal_meaning.specs.Tasks.{Looping, Meaning, Tested, Entering, Resuming}
+use Rattle.hal_meaning.specs.Tasks.{Looping, Meaning, Tested, Stepping, Listing, Entering, Resuming}
 use Rattle.hal_code.specs.declared.instr.Instr.TheVariants as instr
 use Rattle.hal_code.specs.declared.row.Block.{Block}
 use Rattle.hal_code.specs.Cores.{Val, Step, Moves}
 use Rattle.hal_agreement.specs.Codes.{Code}
 use Rattle.hal_agreement.specs.Sites.{site_of}
 use Rattle.hal_agreement.specs.PlacedExpressions.{Has}
-use Rattle.hal_agreement.specs.PlacedStatements.{opened, exit_of, again_of, Leaving, ByResult, Exits, within_group, of_block, TestAt, ReturnAt, GroupAt}
+use Rattle.hal_agreement.specs.PlacedStatements.{opened, exit_of, again_of, Leaving, ByResult, Exits, within_group, of_block, TestAt, SteppingAt, ListingAt, ReturnAt, GroupAt}
 use Rattle.hal_agreement.specs.PlacedBlocks.{UnitAt, leaving_by}
 use Rattle.hal_agreement.proofs.Handling.{HandledAt}
 use Rattle.hal_agreement.proofs.Reaching.{Nest, behind, setting, core_at, Arrives, Reaches, OnStep}
@@ -64,6 +65,14 @@ pub record Sound (code : Code) (begin : ℕ) (rec : Meaning) : Type 0 where
       → GroupAt code (site_of h) (within_group (opened loop.labels to (Some again)) exits) (suc loop.mark) loop.group (suc turn) again
       → TestAt code (site_of h) g again turn to → (st : State)
       → Reaches (setting code begin h) n (flow_to exits out n to) (Moves (core_at again [] [] n st)) st.left (rec (Tested h loop g) st)
+  pub steps : (h : Here) (n : Nest) (exits : Exits) (out : Out) (loop : Looping) (name : List ℕ) (place : ℕ) (g : Option Guard) (turn again to : ℕ) → Standing code h n → Marks n exits → Leads_out code begin h n exits.leaving out
+      → Has code turn (instr.Turn to) → GroupAt code (site_of h) (within_group (opened loop.labels to (Some again)) exits) (suc loop.mark) loop.group (suc turn) again
+      → SteppingAt code (site_of h) name place g again turn to → (st : State)
+      → Reaches (setting code begin h) n (flow_to exits out n to) (Moves (core_at again [] [] n st)) st.left (rec (Stepping h place loop name g) st)
+  pub lists : (h : Here) (n : Nest) (exits : Exits) (out : Out) (loop : Looping) (name : List ℕ) (place : ℕ) (values : Expressions) (g : Option Guard) (turn again to : ℕ) → Standing code h n → Marks n exits
+      → Leads_out code begin h n exits.leaving out → Has code turn (instr.Turn to) → GroupAt code (site_of h) (within_group (opened loop.labels to (Some again)) exits) (suc loop.mark) loop.group (suc turn) again
+      → ListingAt code (site_of h) name place values g again turn to → (st : State)
+      → Reaches (setting code begin h) n (flow_to exits out n to) (Moves (core_at again [] [] n st)) st.left (rec (Listing h place loop name g values) st)
   pub resumes : (h : Here) (n : Nest) (leaving : Leaving) (out : Out) (finish : ℕ) (fine : Flow → State → Option Step) → Standing code h n → Ending code begin h n leaving out finish fine → (place : ℕ) (st : State)
       → Reaches (setting code begin h) (behind n) fine (Moves (core_at (n.spot 0 place) [] [] n st)) st.left (rec (Resuming h place) st)
   pub enters : (h : Here) (entries : List Entry) (b : Body) (n : Nest) (row : Block) (at : UnitAt code h.set h.places b row) (out : Out) (fine : Flow → State → Option Step) → Standing code (entering h entries b) n

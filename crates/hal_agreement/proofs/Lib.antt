@@ -10,8 +10,12 @@ pub mod Calling
 pub mod Expressing
 pub mod Receiving
 pub mod Stating
+pub mod Keeping
+pub mod Listing
+pub mod Stepping
 pub mod Entering
 pub mod Asking
+pub mod Timing
 pub mod Settling
 pub mod Statements
 pub mod Tasking

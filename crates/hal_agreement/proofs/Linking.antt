@@ -1,5 +1,5 @@
 -- All units that are called stand in the code, where one is called.
-use Rattle.std.specs.Prelude.{◌≡◌, ℕ, ◌==◌, Bool, true, false, not, ◌&&◌, List, [], ◌∷◌, Option, Some, None, slice_get, if◌then◌else◌}
+use Rattle.std.specs.Prelude.{◌≡◌, ℕ, ◌==◌, Bool, true, false, not, ◌&&◌, List, [], ◌∷◌, ◌++◌, take, drop, Option, Some, None, slice_get, if◌then◌else◌}
 use Rattle.std.proofs.Common.{refl, sym, ap, subst, ◌∙◌}
 use Rattle.std.proofs.lemmas.Bool.{eqb-true}
 use Rattle.hal_states.specs.Spots.{Held, Holds}
@@ -39,10 +39,6 @@ abbrev pub none_automatic : Set → ℕ → List Place → Bool
 none_automatic s unit [] = true
 none_automatic s unit (place ∷ places) = not (is_automatic_in s unit place) && none_automatic s unit places
 
-kept_first : (b : Bool) (p : Place) (one : Held) (others rest : List Held) → not b ≡ true → rest ≡ others → ((if b then Holds p.initial else one) ∷ rest) ≡ (one ∷ others)
-kept_first true p one others rest is same = absurd (cc)
-kept_first false p one others rest is same = ap (λ xs. one ∷ xs) same
-
 both_first : (a b : Bool) → (a && b) ≡ true → a ≡ true
 both_first true b is = refl
 both_first false b is = is
@@ -51,9 +47,15 @@ both_second : (a b : Bool) → (a && b) ≡ true → b ≡ true
 both_second true b is = is
 both_second false b is = absurd (cc)
 
+-- one place that is none of AUTOMATIC data
+as_it_was : (b : Bool) (p : Place) (held : List Held) → not b ≡ true → held ≡ (if b then Holds p.initial ∷ [] else take 1 held) ++ drop 1 held
+as_it_was true p held is = absurd (cc)
+as_it_was false p [] is = refl
+as_it_was false p (one ∷ others) is = refl
+
 -- a unit without AUTOMATIC data leaves own places as they are
 pub begun_plain : (s : Set) (unit : ℕ) (places : List Place) (held : List Held) → none_automatic s unit places ≡ true → held ≡ begun s unit places held
 begun_plain s unit [] held is = refl
-begun_plain s unit (place ∷ places) [] is = refl
-begun_plain s unit (place ∷ places) (one ∷ others) is =
-    sym (kept_first (is_automatic_in s unit place) place one others (begun s unit places others) (both_first _ _ is) (sym (begun_plain s unit places others (both_second _ _ is))))
+begun_plain s unit (place ∷ places) held is =
+    as_it_was (is_automatic_in s unit place) place held (both_first _ _ is)
+    ∙ ap (λ rest. (if is_automatic_in s unit place then Holds place.initial ∷ [] else take 1 held) ++ rest) (begun_plain s unit places (drop 1 held) (both_second _ _ is))

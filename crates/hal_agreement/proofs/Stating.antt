@@ -2,8 +2,8 @@
 use Rattle.std.specs.Prelude.{◌≡◌, ℕ, suc, nat_lt, length, take, Bool, true, false, not, List, [], ◌∷◌, ◌++◌, Option, Some, None, if◌then◌else◌}
 use Rattle.std.proofs.Common.{refl, sym, ap, subst, ◌∙◌, append_assoc, append-nil}
 use Rattle.hal_base.specs.declared.limits.TheConstants.{LINE_LIMIT}
-use Rattle.hal_grammar.specs.Leaves.{Naming, Integer}
-use Rattle.hal_grammar.specs.Expressions.{Expression, Expressions, NoExpressions, MoreExpressions, Literal, Reference}
+use Rattle.hal_grammar.specs.Leaves.{Naming}
+use Rattle.hal_grammar.specs.Expressions.{Expression, Expressions, NoExpressions, MoreExpressions, Reference}
 use Rattle.hal_grammar.specs.Statements.{Guard, While, Until, Alternative, NoAlternative, Otherwise}
 use Rattle.hal_grammar.specs.Declarations.{IntegerKind, BooleanKind, EventKind, BitKind, CharacterKind, StructureKind}
 use Rattle.hal_grammar.specs.Units.{Head, Program, Compool, Task, Procedure, Function, NoKind, HasKind}
@@ -22,7 +22,7 @@ use Rattle.hal_meaning.specs.Sets.{body_at}
 use Rattle.hal_meaning.specs.Access.{Here, raise, turn, request_made}
 use Rattle.hal_meaning.specs.Variables.{Meant, MeantData, MeantConstant, MeantEvent, MeantBlock, MeantBuiltin, MeantNothing}
 use Rattle.hal_meaning.specs.Expressions.{inputs_at, expression, values, passed}
-use Rattle.hal_meaning.specs.Statements.{goes_on, returned_in, called, all_received, line_fitting, written, is_meant, group_left, NextTurn, Ended, after_turn, goes_round, turn_made, turn_if, guard_holds, first_holds, goes_behind, one_of}
+use Rattle.hal_meaning.specs.Statements.{goes_on, returned_in, called, all_received, line_fitting, channel_of, written, is_meant, group_left, NextTurn, Ended, after_turn, goes_round, turn_made, turn_if, guard_holds, first_holds, goes_behind, one_of}
 use Rattle.hal_meaning.specs.Tasks.{Meaning}
 use Rattle.hal_code.specs.declared.choice.Choice.TheVariants as choice
 use Rattle.hal_code.specs.declared.instr.Instr.{Instr}
@@ -152,13 +152,13 @@ module _ (code : Code) (begin : ℕ) (rec : Meaning) (sound : Sound code begin r
       final (λ end done after. Some (Moves (core_at end [] [] n after))) (instr.Print channel) from to [] line st _ one (printed_by (nat_lt LINE_LIMIT (length line)) channel (suc from) line st)
 
   -- WRITE
-  pub written_reaches : (channel : Expression) (items : Expressions) (number from last to : ℕ) (st : State) → ChannelAt channel number → ItemsAt code (site_of h) items from last → One code last (instr.Print number) to
+  pub written_reaches : (channel : Expression) (items : Expressions) (number from last to : ℕ) (st : State) → ChannelAt (site_of h) channel number → ItemsAt code (site_of h) items from last → One code last (instr.Print number) to
       → DoneAt to [] [] (Begins from st) st.left (written rec h channel items st)
-  written_reaches (Literal place (Integer n0)) items number from last to st same here one =
-      bind_reaches (setting code begin h) n (λ vs after. Moves (core_at last [] (line_of vs) n after)) _ _ st.left (values rec h items st) _ (items_reaches items from last [] st here)
-      (λ vs after. subst (λ channel. DoneAt to [] [] (Moves (core_at last [] (line_of vs) n after)) after.left (bind (line_fitting h (line_of vs) after) (λ fitting later. request_made (request.Print channel fitting) later))) (sym same)
-      (printed_reaches number last to (line_of vs) after one))
-  written_reaches other items number from last to st same here one = absurd same
+  written_reaches channel items number from last to st known here one =
+      subst (λ r. DoneAt to [] [] (Begins from st) st.left
+      (bind r (λ c st1. bind (values rec h items st1) (λ vs st2. bind (line_fitting h (line_of vs) st2) (λ line st3. request_made (request.Print (channel_of c) line) st3))))) (sym (known rec h st refl))
+      (bind_reaches (setting code begin h) n (λ vs after. Moves (core_at last [] (line_of vs) n after)) _ _ st.left (values rec h items st) _ (items_reaches items from last [] st here)
+      (λ vs after. printed_reaches number last to (line_of vs) after one))
 
   -- a condition
   pub condition_reaches : {A : Type 0} (fine : A → State → Option Step) (condition : Expression) (from target to : ℕ) (st : State) (go : Value → State → Evaluated A) → ConditionAt code (site_of h) condition from target to

@@ -14,7 +14,7 @@ use Rattle.hal_meaning.specs.Calls as calls
 use Rattle.hal_meaning.specs.Calls.{entering, is_function}
 use Rattle.hal_values.specs.declared.environment.Entry.{Entry}
 use Rattle.hal_meaning.specs.Statements.{turn_if, goes_behind, grouped, statement, statements}
-use Rattle.hal_meaning.specs.Tasks.{Meaning, Tested, Entering, Cycling}
+use Rattle.hal_meaning.specs.Tasks.{Meaning, Tested, Stepping, Listing, Entering, Cycling}
 use Rattle.hal_meaning.specs.Runs.{held_first, in_function, ended, to_end, handled, restarted, finished, finished_behind, cycle, task, more_tasks, no_tasks, tasks}
 use Rattle.hal_code.specs.declared.instr.Instr.TheVariants as instr
 use Rattle.hal_code.specs.declared.row.Block.{Block}
@@ -31,6 +31,8 @@ use Rattle.hal_agreement.proofs.Leading.{Leads, stays, through, acts_to}
 use Rattle.hal_agreement.proofs.Reaching.{Nest, nest, behind, setting, core_at, Holds, Reaches, OnStep, before, bind_on, acts}
 use Rattle.hal_agreement.proofs.Raising.{Standing, asks_then}
 use Rattle.hal_agreement.proofs.Settling.{end_reaches}
+use Rattle.hal_agreement.proofs.Listing.{listing_reaches}
+use Rattle.hal_agreement.proofs.Stepping.{stepping_reaches}
 use Rattle.hal_agreement.proofs.Stating.{FlowsAt, Begins, still, test_reaches, turn_reaches, passes, behind_reaches}
 use Rattle.hal_agreement.proofs.Statements.{statement_reaches, statements_reaches, grouped_reaches}
 
@@ -148,6 +150,14 @@ module _ (code : Code) (begin : ℕ) (rec : Meaning) (knows : Knows code begin r
           (λ b after. turn_reaches code begin rec knows.sound h n standing out exits loop.labels (λ begun. grouped rec h (suc loop.mark) loop.group begun) (rec (Tested h loop g)) turn again to has
           (λ begun. grouped_reaches code begin rec knows.sound h n standing (within_group (opened loop.labels to (Some again)) exits) out marks leads (suc loop.mark) loop.group (suc turn) again begun body)
           (λ begun. knows.sound.loops h n exits out loop g turn again to standing marks leads has body test begun) b after);
+      steps = λ h n exits out loop name place g turn again to standing marks leads has body next st.
+          stepping_reaches code begin rec knows.sound h n standing out exits loop.labels name place g (λ begun. grouped rec h (suc loop.mark) loop.group begun) (rec (Stepping h place loop name g)) turn again to has next
+          (λ begun. grouped_reaches code begin rec knows.sound h n standing (within_group (opened loop.labels to (Some again)) exits) out marks leads (suc loop.mark) loop.group (suc turn) again begun body)
+          (λ begun. knows.sound.steps h n exits out loop name place g turn again to standing marks leads has body next begun) st;
+      lists = λ h n exits out loop name place values g turn again to standing marks leads has body next st.
+          listing_reaches code begin rec knows.sound h n standing out exits loop.labels name place values g (λ begun. grouped rec h (suc loop.mark) loop.group begun) (rec (Listing h place loop name g values)) turn again to has next
+          (λ begun. grouped_reaches code begin rec knows.sound h n standing (within_group (opened loop.labels to (Some again)) exits) out marks leads (suc loop.mark) loop.group (suc turn) again begun body)
+          (λ begun. knows.sound.lists h n exits out loop name place values g turn again to standing marks leads has body next begun) st;
       resumes = λ h n leaving out finish fine standing ending place st.
           end_reaches code begin rec knows.sound h n standing leaving out finish fine ending _ st.left _ (handled_reaches h n standing leaving out finish ending.returns (handling_in place h.first h.body) (n.spot 0 place) st (ending.each place));
       enters = λ h entries b n row at out fine standing marks ending st. entering_reaches h entries b n row at out fine standing marks ending st;
@@ -160,6 +170,8 @@ none_known : (code : Code) (begin : ℕ) → Knows code begin no_tasks
 none_known code begin = record {
   sound = record {
     loops = λ h n exits out loop g turn again to standing marks leads has body test st. record { holds = tt };
+    steps = λ h n exits out loop name place g turn again to standing marks leads has body next st. record { holds = tt };
+    lists = λ h n exits out loop name place values g turn again to standing marks leads has body next st. record { holds = tt };
     resumes = λ h n leaving out finish fine standing ending place st. record { holds = tt };
     enters = λ h entries b n row at out fine standing marks ending st. record { holds = tt };
   };

@@ -1,6 +1,9 @@
 pub mod Codes
 pub mod Sites
+pub mod Constants
 pub mod PlacedExpressions
+pub mod PlacedTimes
+pub mod PlacedGroups
 pub mod PlacedStatements
 pub mod PlacedBlocks
 pub mod Placed

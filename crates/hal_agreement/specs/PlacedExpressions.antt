@@ -1,5 +1,5 @@
 -- Where the code of expressions stands: from an instruction to the one behind it.
-use Rattle.std.specs.Prelude.{◌≡◌, ℕ, suc, Bool, true, false, not, ◌&&◌, ◌||◌, List, [], ◌∷◌, ◌++◌, map, pos, Option, Some, slice_get}
+use Rattle.std.specs.Prelude.{◌≡◌, ℕ, suc, Bool, true, false, ◌&&◌, ◌||◌, List, [], ◌∷◌, ◌++◌, map, pos, Option, Some, slice_get}
 use Rattle.hal_grammar.specs.Leaves.{Naming, Sign, Minus}
 use Rattle.hal_grammar.specs.Expressions.{Expression, Or, And, Compare, Cat, Sum, Product, Power, Not, Literal, Decimal, Referred, Called, Convert, Parenthesis, Expressions, NoExpressions, MoreExpressions, Terms, NoTerms, MoreTerms, Reference, Refers, Subscript, Unsubscripted, ByName, ByInteger, ByParts, Subscripts, NoSubscripts, MoreSubscripts, Sub, Every, Range, Portion, One as OnePlace, Position, FromBeginning, FromEnd}
 use Rattle.hal_scope.specs.declared.builtin.Builtin.{Builtin}
@@ -22,7 +22,7 @@ use Rattle.hal_meaning.specs.Sets.{body_at}
 use Rattle.hal_meaning.specs.Elements.{Shape, chosen, offset}
 use Rattle.hal_meaning.specs.Variables as tree
 use Rattle.hal_meaning.specs.Variables.{dimensions_of, is_arrayed, Meant, MeantData, MeantConstant, MeantEvent, MeantBlock, MeantBuiltin, MeantNothing, name_meant, kind_of_first, is_whole}
-use Rattle.hal_meaning.specs.Expressions.{literal_value, is_condition, are_conditions, becomes_condition, exponent_of, operation_of_relation, operation_of_sign, operation_of_conversion, is_size, inputs_at, sizes_named, copies_of, spoken}
+use Rattle.hal_meaning.specs.Expressions.{literal_value, is_condition, are_conditions, becomes_condition, exponent_of, operation_of_relation, operation_of_sign, operation_of_conversion, is_size, size_argument, inputs_at, sizes_named, copies_of, spoken}
 use Rattle.hal_code.specs.declared.choice.Choice.TheVariants as choice
 use Rattle.hal_code.specs.declared.instr.Instr.{Instr}
 use Rattle.hal_code.specs.declared.instr.Instr.TheVariants as instr
@@ -172,27 +172,30 @@ abbrev pub SignAt : Code → Option Sign → ℕ → ℕ → Type 0
 SignAt code (Some Minus) from to = One code from (instr.Op1 (choice.Known op1.Minus)) to
 SignAt code other from to = from ≡ to
 
--- whether operands of AND or OR stay as they are; bits that become conditions aren't placed yet
-abbrev pub stay : Bool → Expressions → Bool
-stay condition NoExpressions = true
-stay condition (MoreExpressions first others) = not (becomes_condition condition first) && stay condition others
+-- an operand of AND or OR that becomes a condition is compared with a zero
+abbrev pub OperandAt : Code → Bool → ℕ → ℕ → Type 0
+OperandAt code true from to = Has code from (instr.Bits 1 0) × One code (suc from) (two op2.NotEqual) to
+OperandAt code false from to = from ≡ to
 
 -- a name with a list, of which the code is given as the operands of a product, as those of a built-in function, and as the arguments of a call: it is the product of
--- a value and a parenthesis, or the function, or the call; SIZE isn't placed yet
-abbrev pub CalledAt : Code → Site → List Held → (ℕ → ℕ → Type 0) → (Operation → ℕ → ℕ → Type 0) → (ℕ → ℕ → ℕ → Type 0) → Meant → ℕ → ℕ → Type 0
-CalledAt code site held folded built arguments (MeantBlock unit) from to = (middle : ℕ) × arguments unit from middle × CallAt code site unit true middle to
-CalledAt code site held folded built arguments (MeantBuiltin b) from to = (is_size b ≡ false) × built (operation_of b) from to
-CalledAt code site held folded built arguments (MeantData at shape) from to = (middle : ℕ) × ValueAt code site [] held (MeantData at shape) from middle × folded middle to
-CalledAt code site held folded built arguments (MeantConstant v) from to = (middle : ℕ) × ValueAt code site [] held (MeantConstant v) from middle × folded middle to
-CalledAt code site held folded built arguments other from to = ⊥
+-- a value and a parenthesis, or the function, or the call; SIZE, whose value is given, is in the code
+abbrev pub CalledAt : Code → Site → List Held → Value → (ℕ → ℕ → Type 0) → (Operation → ℕ → ℕ → Type 0) → (ℕ → ℕ → ℕ → Type 0) → Meant → ℕ → ℕ → Type 0
+CalledAt code site held size folded built arguments (MeantBlock unit) from to = (middle : ℕ) × arguments unit from middle × CallAt code site unit true middle to
+CalledAt code site held size folded built arguments (MeantBuiltin b) from to =
+    EitherAt (is_size b) (λ begin end. One code begin (pushes size) end) (λ begin end. built (operation_of b) begin end) from to
+CalledAt code site held size folded built arguments (MeantData at shape) from to = (middle : ℕ) × ValueAt code site [] held (MeantData at shape) from middle × folded middle to
+CalledAt code site held size folded built arguments (MeantConstant v) from to = (middle : ℕ) × ValueAt code site [] held (MeantConstant v) from middle × folded middle to
+CalledAt code site held size folded built arguments other from to = ⊥
 
 abbrev mutual
   -- an expression leaves its value on the stack
   pub ExpressionAt : Code → Site → Expression → ℕ → ℕ → Type 0
   ExpressionAt code site (Or place first others) from to =
-      (stay (is_condition first || are_conditions others) (MoreExpressions first others) ≡ true) × ((middle : ℕ) × ExpressionAt code site first from middle × FoldedAt code site op2.Or others middle to)
+      (middle : ℕ) × (late : ℕ) × ExpressionAt code site first from middle × OperandAt code (becomes_condition (is_condition first || are_conditions others) first) middle late
+      × JoinedAt code site op2.Or (is_condition first || are_conditions others) others late to
   ExpressionAt code site (And place first others) from to =
-      (stay (is_condition first || are_conditions others) (MoreExpressions first others) ≡ true) × ((middle : ℕ) × ExpressionAt code site first from middle × FoldedAt code site op2.And others middle to)
+      (middle : ℕ) × (late : ℕ) × ExpressionAt code site first from middle × OperandAt code (becomes_condition (is_condition first || are_conditions others) first) middle late
+      × JoinedAt code site op2.And (is_condition first || are_conditions others) others late to
   ExpressionAt code site (Compare place left relation right) from to =
       (middle : ℕ) × (last : ℕ) × ExpressionAt code site left from middle × ExpressionAt code site right middle last × One code last (two (operation_of_relation relation)) to
   ExpressionAt code site (Cat place first others) from to = (middle : ℕ) × ExpressionAt code site first from middle × FoldedAt code site op2.Cat others middle to
@@ -207,11 +210,18 @@ abbrev mutual
   ExpressionAt code site (Referred reference) from to = ReferenceAt code site reference from to
   ExpressionAt code site (Called place name arguments) from to =
       (held : List Held)
-      → CalledAt code site held (λ middle end. FoldedAt code site op2.Product arguments middle end) (λ op begin end. BuiltAt code site op arguments begin end)
+      → CalledAt code site held (size_argument (here_at site) arguments held) (λ middle end. FoldedAt code site op2.Product arguments middle end) (λ op begin end. BuiltAt code site op arguments begin end)
       (λ unit begin end. ArgumentsAt code site unit (inputs_at site.set unit) arguments begin end) (name_meant (here_at site) name held) from to
   ExpressionAt code site (Convert place conversion operand) from to =
       (middle : ℕ) × ExpressionAt code site operand from middle × One code middle (instr.Op1 (choice.Known (operation_of_conversion conversion))) to
   ExpressionAt code site (Parenthesis place inner) from to = ExpressionAt code site inner from to
+
+  -- operands of AND or OR behind a value, each with the operation, beside a condition or not
+  pub JoinedAt : Code → Site → Op2 → Bool → Expressions → ℕ → ℕ → Type 0
+  JoinedAt code site op condition NoExpressions from to = from ≡ to
+  JoinedAt code site op condition (MoreExpressions first others) from to =
+      (middle : ℕ) × (late : ℕ) × ExpressionAt code site first from middle × OperandAt code (becomes_condition condition first) middle late × Has code late (two op)
+      × JoinedAt code site op condition others (suc late) to
 
   -- operands of an operation behind a value, each with the operation
   pub FoldedAt : Code → Site → Op2 → Expressions → ℕ → ℕ → Type 0

@@ -1,5 +1,5 @@
 -- Where phrases stand, as far as their code goes by it.
-use Rattle.std.specs.Prelude.{ℕ, List, [], false}
+use Rattle.std.specs.Prelude.{ℕ, Bool, true, false, List, [], Some, None, slice_get}
 use Rattle.hal_grammar.specs.Statements.{NoStatements}
 use Rattle.hal_meaning.specs.Places.{Place}
 use Rattle.hal_meaning.specs.Sets.{Set}
@@ -20,3 +20,12 @@ site_of h = record { set = h.set; places = h.places; unit = h.unit; block = h.bl
 abbrev pub here_at : Site → Here
 here_at site =
     record { set = site.set; process = 0; places = site.places; unit = site.unit; block = site.block; marks = site.marks; body = NoStatements; update = false; first = 0; below = [] }
+
+-- the same within the block with this number
+abbrev pub within_block : ℕ → Site → Site
+within_block block site = record { set = site.set; places = site.places; unit = site.unit; block = block; marks = site.marks }
+
+-- where names are looked up in a DO FOR with this mark: a TEMPORARY is known there alone
+abbrev pub group_site : Site → Bool → ℕ → Site
+group_site site false m = site
+group_site site true m = elim (slice_get site.marks m) [ None ↦ site | Some k ↦ within_block k site ]

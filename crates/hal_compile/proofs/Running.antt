@@ -12,7 +12,7 @@ use Rattle.hal_code.specs.declared.image.ImageParts.{ImageParts}
 use Rattle.hal_code.specs.Right.{IsRight}
 use Rattle.hal_layout.specs.Layouts.{Layout, IsNarrow, layout_of, tables_of}
 use Rattle.hal_link.specs.Linking.{image_of}
-use Rattle.hal_link.specs.Views.{views_of}
+use Rattle.hal_link.specs.CalledViews.{views_of}
 use Rattle.hal_meaning.specs.Sets.{Set, beginning, set_of}
 use Rattle.hal_values.specs.Loads.{turn_limit}
 use Rattle.hal_compile.specs.Compiling.{CanRun, Fits, IsImageOf, linked_in, set_in}

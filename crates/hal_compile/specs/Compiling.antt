@@ -22,7 +22,7 @@ use Rattle.hal_code.specs.declared.image.ImageParts.{ImageParts}
 use Rattle.hal_code.specs.Right.{IsRight}
 use Rattle.hal_right_values.specs.Finding.{HaveCells}
 use Rattle.hal_link.specs.Linking as linking
-use Rattle.hal_link.specs.Views.{views_of}
+use Rattle.hal_link.specs.CalledViews.{views_of}
 
 -- the set of these files, whose UPDATE blocks have as many turns as they may have
 unfoldable pub set_in : List File → Set

@@ -14,7 +14,7 @@ ghost use Rattle.hal_meaning.specs.Bodies as meant;
 ghost use Rattle.hal_meaning.specs.Events as events;
 ghost use Rattle.hal_limits.specs.Limits.{IsWithin};
 ghost use Rattle.hal_link.specs.Linking as links;
-ghost use Rattle.hal_link.specs.Views as views;
+ghost use Rattle.hal_link.specs.CalledViews as views;
 ghost use Rattle.hal_compile.specs.Compiling.{CanRun, Fits, IsImageOf, linked_in};
 
 use crate::fitness::{have_cells, is_narrow};

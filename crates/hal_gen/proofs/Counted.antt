@@ -1,26 +1,17 @@
 -- Sizes, as the program counts them.
-use Rattle.std.specs.Prelude.{ℕ, suc, ◌+◌, ◌-◌, max, false, List, [], ◌∷◌, length, map, drop, Option, None}
-use Rattle.std.proofs.Common.{◌≡◌, ◌≤◌, refl, ap, subst, ◌∙◌, arith}
+use Rattle.std.specs.Prelude.{ℕ, suc, ◌+◌, ◌-◌, max, List, [], ◌∷◌, length, map, drop, IfOk, Result, Ok, Err}
+use Rattle.std.proofs.Common.{◌≡◌, ◌≤◌, refl, sym, ap, subst, ◌∙◌, arith}
 use Rattle.std.proofs.lemmas.List.{drop_all}
 use Rattle.hal_base.specs.declared.refusal.Place.{Place}
 use Rattle.hal_grammar.specs.Leaves.{Naming}
-use Rattle.hal_grammar.specs.Expressions.{Expression, Expressions, Reference}
-use Rattle.hal_grammar.specs.Statements.{Statement}
+use Rattle.hal_grammar.specs.Expressions.{Expression, Reference}
+use Rattle.hal_grammar.specs.Statements.{Statement, Basic, If, Alternative}
 use Rattle.hal_tree.specs.Rows.{expressions, statements}
-use Rattle.hal_code.specs.declared.instr.Instr.{Instr}
-use Rattle.hal_code.specs.declared.row.View.{View}
-use Rattle.hal_meaning.specs.Expressions.{inputs_at}
 use Rattle.hal_agreement.specs.Sites.{Site}
-use Rattle.hal_referents.specs.Referents.{Referent, DataOf, ConstantOf, EventOf, BlockOf, BuiltinOf, Unmeant}
-use Rattle.hal_gen_expr.specs.Emitting.{length_of}
-use Rattle.hal_gen_expr.specs.ExpressionCode.{behind_arguments, arguments_code}
-use Rattle.hal_gen_expr.specs.Numbering.{Numbering, numbering}
-use Rattle.hal_gen_expr.specs.SeenSites.{seen_numbering}
-use Rattle.hal_gen_expr.specs.declared.site.Site as rust-site
-use Rattle.hal_gen_expr.proofs.Uncalled.{call_uncalled}
+use Rattle.hal_gen_expr.specs.Numbering.{Numbering}
 use Rattle.hal_gen.specs.Receiving.{receiver_size}
-use Rattle.hal_gen.specs.Sizes.{expression_size, items_size, receivers_size, reads_size, names_size, call_size, statement_size, statements_size}
-use Rattle.hal_gen.specs.Sums.{with_items, with_statements, with_receivers}
+use Rattle.hal_gen.specs.Sizes.{expression_size, items_size, receivers_size, reads_size, names_size, call_size, value_size, next_values_size, selected_size, jump_size, statement_size, basic_size, alternative_size, statements_size}
+use Rattle.hal_gen.specs.Sums.{with_items, with_statements, with_receivers, with_cases, with_values}
 
 further_on : (a b c : ℕ) → (a + b) + c ≡ a + (b + c)
 further_on a b c = omega arith
@@ -62,6 +53,38 @@ unfolding with_statements
 statements_done {X} f n site size place xs past kept =
     subst (λ (rest : List X). with_statements n site size (map f rest) ≡ with_statements n site 0 (map f xs)) (drop_all place xs past) kept ∙ statements_counted n site (map f xs)
 
+-- statements of DO CASE
+cases_from : (n : Numbering) (site : Site) (size : ℕ) (list : List Statement) → with_cases n site size list ≡ size + selected_size n site (statements list)
+unfolding with_cases statements
+cases_from n site size [] = none_more size
+cases_from n site size (one ∷ others) =
+    cases_from n site (size + (5 + (statement_size n site one + 1))) others ∙ further_on size (5 + (statement_size n site one + 1)) (selected_size n site (statements others))
+
+cases_counted : (n : Numbering) (site : Site) (list : List Statement) → with_cases n site 0 list ≡ selected_size n site (statements list)
+cases_counted n site list = cases_from n site 0 list ∙ from_none (selected_size n site (statements list))
+
+pub cases_done : {X : Type 0} (f : X → Statement) (n : Numbering) (site : Site) (size place : ℕ) (xs : List X) → length xs ≤ place
+    → with_cases n site size (map f (drop place xs)) ≡ with_cases n site 0 (map f xs) → size ≡ selected_size n site (statements (map f xs))
+unfolding with_cases
+cases_done {X} f n site size place xs past kept =
+    subst (λ (rest : List X). with_cases n site size (map f rest) ≡ with_cases n site 0 (map f xs)) (drop_all place xs past) kept ∙ cases_counted n site (map f xs)
+
+-- values of a DO FOR
+values_from : (n : Numbering) (site : Site) (size : ℕ) (list : List Expression) → with_values n site size list + 1 ≡ size + next_values_size n site (expressions list)
+unfolding with_values expressions
+values_from n site size [] = refl
+values_from n site size (tree ∷ others) =
+    values_from n site (size + (5 + (value_size n site tree + 1))) others ∙ further_on size (5 + (value_size n site tree + 1)) (next_values_size n site (expressions others))
+
+values_counted : (n : Numbering) (site : Site) (list : List Expression) → with_values n site 0 list + 1 ≡ next_values_size n site (expressions list)
+values_counted n site list = values_from n site 0 list ∙ from_none (next_values_size n site (expressions list))
+
+pub values_done : {X : Type 0} (f : X → Expression) (n : Numbering) (site : Site) (size place : ℕ) (xs : List X) → length xs ≤ place
+    → with_values n site size (map f (drop place xs)) ≡ with_values n site 0 (map f xs) → size + 1 ≡ next_values_size n site (expressions (map f xs))
+unfolding with_values
+values_done {X} f n site size place xs past kept =
+    ap (λ s. s + 1) (subst (λ (rest : List X). with_values n site size (map f rest) ≡ with_values n site 0 (map f xs)) (drop_all place xs past) kept) ∙ values_counted n site (map f xs)
+
 -- receivers
 receivers_from : (n : Numbering) (site : Site) (size : ℕ) (list : List Reference) → with_receivers n site size list ≡ size + reads_size n site list
 unfolding with_receivers
@@ -99,19 +122,14 @@ pub names_counted : {X : Type 0} (f : X → Naming) (xs : List X) → names_size
 names_counted f [] = refl
 names_counted f (x ∷ xs) = let same = same_length f xs in omega (arith, same)
 
--- no call has code, and so no size
-uncalled_by : (place : Place) (call : Option (List Instr)) (n : Numbering) (site : Site) (arguments : Expressions) (unit : ℕ) → call ≡ None
-    → length_of (behind_arguments place (arguments_code n site [] place unit (inputs_at site.set unit) arguments) call) ≡ 0
-uncalled_by place call n site arguments unit none = rw none refl
-
-call_by : (views : List View) (site : Site) (arguments : Expressions) (place : Place) (r : Referent) → call_size (numbering views) site arguments place r ≡ 0
-call_by views site arguments place (BlockOf unit) = uncalled_by place _ (numbering views) site arguments unit (call_uncalled views site false unit)
-call_by views site arguments place (DataOf k stored shape) = refl
-call_by views site arguments place (ConstantOf v) = refl
-call_by views site arguments place (EventOf e) = refl
-call_by views site arguments place (BuiltinOf b) = refl
-call_by views site arguments place Unmeant = refl
-
-pub call_counted : (s : rust-site.Site) (site : Site) (arguments : Expressions) (place : Place) (r : Referent) → call_size (seen_numbering s) site arguments place r ≡ 0
-unfolding seen_numbering
-call_counted s site arguments place r = call_by s.views.now site arguments place r
+-- IF
+pub branch_counted : {E : Type 0} (n : Numbering) (site : Site) (place : Place) (condition : Expression) (consequence : Statement) (alternative : Alternative) (basic : Basic) (test first jump other : ℕ) (r : Result ℕ E)
+    → basic ≡ If place condition consequence alternative → test ≡ expression_size n site condition → first ≡ statement_size n site consequence → jump ≡ jump_size alternative → other ≡ alternative_size n site alternative
+    → IfOk r (λ size. size ≡ (test + 1) + (first + (jump + other))) → IfOk r (λ size. size ≡ basic_size n site basic)
+branch_counted n site place condition consequence alternative basic test first jump other (Ok size) is t f j o there =
+    there
+    ∙ (ap (λ k. (k + 1) + (first + (jump + other))) t
+    ∙ (ap (λ k. (expression_size n site condition + 1) + (k + (jump + other))) f
+    ∙ (ap (λ k. (expression_size n site condition + 1) + (statement_size n site consequence + (k + other))) j
+    ∙ (ap (λ k. (expression_size n site condition + 1) + (statement_size n site consequence + (jump_size alternative + k))) o ∙ ap (basic_size n site) (sym is)))))
+branch_counted n site place condition consequence alternative basic test first jump other (Err e) is t f j o there = tt

@@ -1,43 +1,54 @@
 -- The code of statements goes on: each jump leads forward, or back to the TURN of a loop that is left behind the jump.
 use Rattle.std.specs.Prelude.{◌≡◌, ◌≤◌, ◌<◌, ℕ, suc, ◌+◌, Bool, true, false, List, [], ◌∷◌, ◌++◌, length, Option, Some, None, Ok, Err, if◌then◌else◌}
 use Rattle.std.specs.Option.{option_map}
-use Rattle.std.proofs.Common.{refl, sym, inl, inr, arith}
+use Rattle.std.proofs.Common.{refl, sym, subst, inl, inr, arith}
 use Rattle.hal_base.specs.declared.refusal.Place.{Place}
 use Rattle.hal_grammar.specs.Leaves.{Naming}
 use Rattle.hal_grammar.specs.Declarations.{IntegerKind, BooleanKind, EventKind, BitKind, CharacterKind, StructureKind}
 use Rattle.hal_grammar.specs.Expressions.{Expression, Decimal, Expressions, NoExpressions, MoreExpressions, Reference, Refers, Subscript, Unsubscripted, ByName, ByInteger, ByParts, Subscripts, NoSubscripts, MoreSubscripts}
-use Rattle.hal_grammar.specs.Statements.{Guard, While, Until, EventAction, Signal, Set, Reset, Statement, Labelled, Basic, Null, Assignment, If, Do, DoCase, DoLoop, DoFor, Exit, Repeat, Return, Call, Read, Write, Cancel, Terminate, Wait, WaitUntil, WaitForDependent, WaitFor, Event, Scheduled, UpdatePriority, Update, OnErrorStatement, OnErrorResponse, OffError, SendError, Alternative, NoAlternative, Otherwise, Group, Groups, Statements, NoStatements, MoreStatements}
+use Rattle.hal_grammar.specs.Statements.{Guard, While, Until, Span, Stepped, Listed, Start, StartAt, StartIn, StartOn, Cycle, Cyclic, CyclicEvery, CyclicAfter, Schedule, EventAction, Signal, Set, Reset, Statement, Labelled, Basic, Null, Assignment, If, Do, DoCase, DoLoop, DoFor, Exit, Repeat, Return, Call, Read, Write, Cancel, Terminate, Wait, WaitUntil, WaitForDependent, WaitFor, Event, Scheduled, UpdatePriority, Update, OnErrorStatement, OnErrorResponse, OffError, SendError, Alternative, NoAlternative, Otherwise, Group, Groups, Statements, NoStatements, MoreStatements}
 use Rattle.hal_grammar.specs.Units.{Head, Program, Task, Compool, Procedure, Function, HasKind, NoKind}
+use Rattle.hal_scope.specs.Uses.{holds_event}
 use Rattle.hal_meaning.specs.Bodies.{Body}
 use Rattle.hal_meaning.specs.Events.{event_named}
 use Rattle.hal_meaning.specs.Expressions.{inputs_at, sizes_named}
-use Rattle.hal_meaning.specs.Marks.{after_statement}
+use Rattle.hal_meaning.specs.Marks.{after_statement, after_alternative}
 use Rattle.hal_meaning.specs.RealTime.{stated_at_mark}
 use Rattle.hal_meaning.specs.Sets.{body_at}
-use Rattle.hal_meaning.specs.Statements.{components_in, is_meant, label_name, update_groups}
+use Rattle.hal_meaning.specs.Statements.{components_in, is_meant, loop_place, label_name, update_groups}
 use Rattle.hal_meaning.specs.Variables.{Meant, MeantData, MeantConstant, MeantEvent, MeantBlock, MeantBuiltin, MeantNothing, name_meant, is_arrayed}
 use Rattle.hal_code.specs.declared.instr.Instr.{Instr}
 use Rattle.hal_code.specs.declared.instr.Instr.TheVariants as instr
 use Rattle.hal_code.specs.declared.operand.Delay.{Delay}
 use Rattle.hal_code.specs.declared.operand.Delay.TheVariants as delay
+use Rattle.hal_code.specs.declared.choice.Choice.{Choice}
+use Rattle.hal_code.specs.declared.operand.Limit as limits
+use Rattle.hal_code.specs.declared.operand.Round as rounds
+use Rattle.hal_code.specs.declared.operand.Start as starts
 use Rattle.hal_code.specs.declared.operand.Time.{Time}
 use Rattle.hal_code.specs.Forward.{GoesOn}
 use Rattle.hal_agreement.specs.Codes.{Code}
 use Rattle.hal_agreement.specs.PlacedExpressions.{Has, One, ChosenAt}
-use Rattle.hal_agreement.specs.PlacedStatements.{Leaving, ToFinish, ByReturn, ByResult, NoReturn, Exits, exit_of, again_of, opened, within_group, of_block, KeptAt, StoredAt, ReceivedAt, AddressedAt, ReceiverAt, ReceiversAt, ItemsAt, FirstTestAt, TestAt, ReturnAt, ResultBy, ResultAt, CalledAt, ReadsAt, changes, PauseAt, EventAt, EachAt, NamedOrOwnAt, BasicAt}
+use Rattle.hal_agreement.specs.PlacedStatements.{FirstSpanAt, Leaving, ToFinish, ByReturn, ByResult, NoReturn, Exits, exit_of, again_of, opened, within_group, of_block, KeptAt, StoredAt, ReceivedAt, AddressedAt, ReceiverAt, ReceiversAt, ItemsAt, FirstTestAt, TestAt, ReturnAt, ResultBy, ResultAt, CalledAt, ReadsAt, changes, EventAt, EachAt, NamedOrOwnAt, BasicAt}
+use Rattle.hal_agreement.specs.PlacedTimes.{TimeAt, PauseAt, StartsAt, PriorityAt, RoundAt, UntilAt, LimitAt, ScheduledAt, PrioritizedAt}
 use Rattle.hal_agreement.specs.Sites.{Site, here_at}
 use Rattle.hal_gen_expr.specs.Emitting.{Emitted, onwards, emit}
 use Rattle.hal_gen_expr.specs.ExpressionCode.{emit_one, expression_code}
 use Rattle.hal_gen_expr.specs.Numbering.{Numbering, below}
 use Rattle.hal_gen_expr.specs.Standing.{Begins, IsNumbered, Placed}
 use Rattle.hal_gen_expr.proofs.Expressed.{ok_is, expression_at}
-use Rattle.hal_gen_expr.proofs.Forwarding.{Goes, none_goes, one_goes, joined_goes, first_goes, call_goes, expression_goes, arguments_go, chosen_goes as address_goes}
+use Rattle.hal_gen_expr.proofs.Forwarding.{Goes, none_goes, one_goes, joined_goes, first_goes, call_goes, expression_goes, arguments_go, name_goes, chosen_goes as address_goes, part_goes}
 use Rattle.hal_gen_expr.proofs.Growing.{length_of_one_more, weaker, has_there, one_placed, none_placed, first_placed}
-use Rattle.hal_gen.specs.Sizes.{jump_size, statement_size, basic_size, group_size, statements_size}
-use Rattle.hal_gen.specs.StatementCode.{first_test_code, test_code, statement_code, basic_code, alternative_code, group_code, statements_code}
-use Rattle.hal_gen.proofs.Measured.{first_test_longer, test_longer, basic_longer, alternative_longer, group_longer, statements_longer}
+use Rattle.hal_gen.specs.declared.kept.Cells.{Cells}
+use Rattle.hal_gen.specs.KeptCode.{cell_of, keeping, case_code, cells_of}
+use Rattle.hal_gen.specs.SpanCode.{begin_code, again_code}
+use Rattle.hal_gen.specs.Sizes.{begin_size, again_size, first_span_size, later_span_size, selected_size, jump_size, statement_size, basic_size, group_size, statements_size}
+use Rattle.hal_gen.specs.StatementCode.{first_span_code, later_span_code, first_test_code, test_code, statement_code, basic_code, alternative_code, uncased_code, cases_code, selected_code, group_code, statements_code}
+use Rattle.hal_gen.proofs.Keeping.{IsCell, keeping_at, case_at, cell_is, keeps_go, case_goes, AreCells, cells_are}
+use Rattle.hal_gen.proofs.Spanned.{first_span_at, BeginAt, AgainAt, begin_at, again_at, begun_goes, value_goes, stepping_goes, listing_goes}
+use Rattle.hal_gen.proofs.Measured.{unnested, later, begin_longer, again_longer, first_span_longer, later_span_longer, both_longer, uncased_longer, selected_longer, first_test_longer, test_longer, basic_longer, alternative_longer, group_longer, statements_longer}
 use Rattle.hal_gen.proofs.Simple.{first_test_at, test_at}
-use Rattle.hal_gen.proofs.Stated.{opens_at, basic_at}
+use Rattle.hal_gen.proofs.Stated.{number_given, cells_given, opens_at, basic_at}
 
 -- EXIT, REPEAT and RETURN lead on from before this address
 pub record Ahead (exits : Exits) (to : ℕ) : Type 0 where
@@ -87,21 +98,26 @@ module _ (code : Code) (n : Numbering) (site : Site) (numbered : IsNumbered code
   kept_goes path (MeantBuiltin b) from to there = absurd there
   kept_goes path MeantNothing from to there = absurd there
 
-  stored_goes : (list : Subscripts) (from to : ℕ) → StoredAt code list from to → Goes code from to
+  stored_goes : (list : Subscripts) (from to : ℕ) → StoredAt code site list from to → Goes code from to
   stored_goes NoSubscripts from to at = one_goes code from to _ at tt
-  stored_goes (MoreSubscripts first others) from to at = absurd at
+  stored_goes (MoreSubscripts first others) from to at =
+      first_goes code from to _ at.1 tt
+      (joined_goes code (suc from) at.0 to (part_goes code site first (suc from) at.0 at.2) (first_goes code at.0 to _ at.3 tt (one_goes code (suc at.0) to _ at.4 tt)))
 
-  received_goes : (subscript : Subscript) (arrayed : Bool) (from to : ℕ) → ReceivedAt code arrayed subscript from to → Goes code from to
+  received_goes : (subscript : Subscript) (arrayed : Bool) (from to : ℕ) → ReceivedAt code site arrayed subscript from to → Goes code from to
   received_goes Unsubscripted true from to at = stored_goes NoSubscripts from to at
   received_goes Unsubscripted false from to at = stored_goes NoSubscripts from to at
   received_goes (ByName there name) true from to at = stored_goes NoSubscripts from to at
-  received_goes (ByName there name) false from to at = absurd at
+  received_goes (ByName there name) false from to at =
+      first_goes code from to _ at.1 tt
+      (joined_goes code (suc from) at.0 to (name_goes code site name.name [] (suc from) at.0 at.2) (first_goes code at.0 to _ at.3 tt (one_goes code (suc at.0) to _ at.4 tt)))
   received_goes (ByInteger there mark number) true from to at = stored_goes NoSubscripts from to at
-  received_goes (ByInteger there mark number) false from to at = absurd at
+  received_goes (ByInteger there mark number) false from to at =
+      first_goes code from to _ at.0 tt (first_goes code (suc from) to _ at.1 tt (first_goes code (suc (suc from)) to _ at.2 tt (one_goes code (suc (suc (suc from))) to _ at.3 tt)))
   received_goes (ByParts there copies arrays components) true from to at = stored_goes (components_in true (ByParts there copies arrays components)) from to at
   received_goes (ByParts there copies arrays components) false from to at = stored_goes components from to at
 
-  addressed_goes : (path : List Naming) (subscript : Subscript) (m : Meant) (from to : ℕ) → AddressedAt code path subscript (λ spot shape a e. ChosenAt code site [] path subscript spot shape a e) m from to → Goes code from to
+  addressed_goes : (path : List Naming) (subscript : Subscript) (m : Meant) (from to : ℕ) → AddressedAt code site path subscript (λ spot shape a e. ChosenAt code site [] path subscript spot shape a e) m from to → Goes code from to
   addressed_goes path subscript (MeantData spot shape) from to there =
       joined_goes code from there.0 to (address_goes code site subscript path spot shape from there.0 there.1) (received_goes subscript (is_arrayed (sizes_named path shape)) there.0 to there.2)
   addressed_goes path subscript (MeantConstant v) from to there = absurd there
@@ -183,9 +199,47 @@ module _ (code : Code) (n : Numbering) (site : Site) (numbered : IsNumbered code
   change_goes Set e from to at = one_goes code from to _ at tt
   change_goes Reset e from to at = one_goes code from to _ at tt
 
-  pause_goes : (delays : Time → Delay) (tree : Expression) (from to : ℕ) → PauseAt code delays tree from to → Goes code from to
-  pause_goes delays (Decimal place number) from to at = one_goes code from to _ at tt
-  pause_goes delays other from to at = absurd at
+  time_goes : (tree : Expression) (t : Time) (from to : ℕ) → TimeAt code site tree t from to → Goes code from to
+  time_goes (Decimal place number) t from to at = none_goes code from to at.1
+  time_goes tree t from to at = expression_goes code site tree from to at.1
+
+  pause_goes : (delays : Time → Delay) (tree : Expression) (from to : ℕ) → PauseAt code site delays tree from to → Goes code from to
+  pause_goes delays tree from to at = joined_goes code from at.1 to (time_goes tree at.0 from at.1 at.2) (one_goes code at.1 to _ at.3 tt)
+
+  start_goes : (xs : List ℕ) (s : Option Start) (operand : starts.Start) (from to : ℕ) → StartsAt code site xs s operand from to → Goes code from to
+  start_goes xs None operand from to at = none_goes code from to at.1
+  start_goes xs (Some (StartAt place tree)) operand from to at = time_goes tree at.0 from to at.2
+  start_goes xs (Some (StartIn place tree)) operand from to at = time_goes tree at.0 from to at.2
+  start_goes xs (Some (StartOn place tree)) operand from to at = none_goes code from to at.1
+
+  given_goes : (tree : Option Expression) (given : Choice Bool) (from to : ℕ) → PriorityAt code site tree given from to → Goes code from to
+  given_goes None given from to at = none_goes code from to at.1
+  given_goes (Some tree) given from to at = expression_goes code site tree from to at.1
+
+  round_goes : (c : Option Cycle) (operand : rounds.Round) (from to : ℕ) → RoundAt code site c operand from to → Goes code from to
+  round_goes None operand from to at = none_goes code from to at.1
+  round_goes (Some (Cyclic place)) operand from to at = none_goes code from to at.1
+  round_goes (Some (CyclicEvery place tree)) operand from to at = time_goes tree at.0 from to at.2
+  round_goes (Some (CyclicAfter place tree)) operand from to at = time_goes tree at.0 from to at.2
+
+  until_goes : (xs : List ℕ) (b : Bool) (tree : Expression) (operand : limits.Limit) (from to : ℕ) → UntilAt code site xs b tree operand from to → Goes code from to
+  until_goes xs true tree operand from to at = none_goes code from to at.1
+  until_goes xs false tree operand from to at = time_goes tree at.0 from to at.2
+
+  limit_goes : (xs : List ℕ) (g : Option Guard) (operand : limits.Limit) (from to : ℕ) → LimitAt code site xs g operand from to → Goes code from to
+  limit_goes xs None operand from to at = none_goes code from to at.1
+  limit_goes xs (Some (While place tree)) operand from to at = none_goes code from to at.1
+  limit_goes xs (Some (Until place tree)) operand from to at = until_goes xs (holds_event site.set.phrases site.block tree) tree operand from to at
+
+  schedule_goes : (m : ℕ) (s : Schedule) (from to : ℕ) → ScheduledAt code site m s from to → Goes code from to
+  schedule_goes m s from to at =
+      joined_goes code from at.second to (start_goes (stated_at_mark (here_at site) m) s.start at.begins from at.second at.first_is)
+      (joined_goes code at.second at.third to (given_goes s.priority at.given at.second at.third at.second_is)
+      (joined_goes code at.third at.fourth to (round_goes s.cycle at.again at.third at.fourth at.third_is)
+      (joined_goes code at.fourth at.last to (limit_goes (stated_at_mark (here_at site) m) s.guard at.until at.fourth at.last at.fourth_is) (one_goes code at.last to _ at.asks tt))))
+
+  update_priority_goes : (name : Option Naming) (tree : Expression) (from to : ℕ) → PrioritizedAt code site name tree from to → Goes code from to
+  update_priority_goes name tree from to at = joined_goes code from at.1 to (expression_goes code site tree from at.1 at.3) (one_goes code at.1 to _ at.4 tt)
 
   event_pause_goes : (xs : List ℕ) (from to : ℕ) → EventAt code site xs from to → Goes code from to
   event_pause_goes [] from to at = absurd at
@@ -266,6 +320,43 @@ module _ (code : Code) (n : Numbering) (site : Site) (numbered : IsNumbered code
   ListGoes list = (exits : Exits) (m : ℕ) (before after : List Instr) → statements_code n site before exits m list ≡ Ok after → Ahead exits (length after) → Begins after code.image.code
       → Placed code before after (λ from to. Goes code from to)
 
+  abbrev CasesGo : Statements → Type 0
+  CasesGo list = (exits : Exits) (place : Place) (cell own target m k : ℕ) (before after : List Instr) → IsCell code cell own → selected_code n site before exits place cell target m k list ≡ Ok after → length after ≤ target
+      → Ahead exits (length after) → Begins after code.image.code → Placed code before after (λ from to. Goes code from to)
+
+  -- a statement of DO CASE behind its test, and those that follow
+  selected_first_goes : (first : Statement) (others : Statements) (exits : Exits) (place : Place) (cell own target m k : ℕ) (tested after : List Instr) → IsCell code cell own → StatementGoes first → CasesGo others
+      → onwards (statement_code n site tested exits m first) (λ middle. selected_code n site (middle ++ (instr.Jump target ∷ [])) exits place cell target (after_statement m first) (suc k) others) ≡ Ok after → length after ≤ target
+      → Ahead exits (length after) → Begins after code.image.code → Placed code tested after (λ from to. Goes code from to)
+  selected_first_goes first others exits place cell own target m k tested after is one more e far ahead begins =
+      both_go (statement_code n site tested exits m first) _ tested after e
+      (λ middle there rest begun. one exits m tested middle there (earlier exits (length middle) (length after) (let longer = behind middle rest in omega (arith, longer)) ahead) begun)
+      (λ middle there rest. let longer = behind middle rest in
+      behind_one middle after (instr.Jump target) (inl (omega (arith, longer, far))) (more exits place cell own target (after_statement m first) (suc k) (middle ++ (instr.Jump target ∷ [])) after is rest far ahead begins))
+    where
+      behind : (middle : List Instr) → selected_code n site (middle ++ (instr.Jump target ∷ [])) exits place cell target (after_statement m first) (suc k) others ≡ Ok after → suc (length middle) ≤ length after
+      behind middle rest =
+          let longer = later middle after (instr.Jump target) (selected_size n site others) (selected_longer n site others exits place cell target (after_statement m first) (suc k) (middle ++ (instr.Jump target ∷ [])) after rest) in omega (arith, longer)
+
+  abbrev UncasedGoes : Alternative → Type 0
+  UncasedGoes alternative = (exits : Exits) (place : Place) (m : ℕ) (before after : List Instr) → uncased_code n site before exits place m alternative ≡ Ok after → Ahead exits (length after)
+      → Begins after code.image.code → Placed code before after (λ from to. Goes code from to)
+
+  abbrev SelectionGoes : Group → Type 0
+  SelectionGoes group = (exits : Exits) (place : Place) (cell own target m : ℕ) (before after : List Instr) → IsCell code cell own → cases_code n site before exits place cell target m group ≡ Ok after → length after ≤ target
+      → Ahead exits (length after) → Begins after code.image.code → Placed code before after (λ from to. Goes code from to)
+
+  selecting_goes : (alternative : Alternative) (group : Group) (exits : Exits) (place : Place) (cell own exit m : ℕ) (valued after : List Instr) → IsCell code cell own → SelectionGoes group → UncasedGoes alternative
+      → onwards (cases_code n site (keeping valued cell) exits place cell exit (after_alternative (suc m) alternative) group) (λ middle. uncased_code n site middle exits place (suc m) alternative) ≡ Ok after
+      → exit ≡ length after → Ahead exits (length after) → Begins after code.image.code → Placed code valued after (λ from to. Goes code from to)
+  selecting_goes alternative group exits place cell own exit m valued after is cases none e ends ahead begins =
+      both_go (Ok (keeping valued cell)) (λ kept. onwards (cases_code n site kept exits place cell exit (after_alternative (suc m) alternative) group) (λ middle. uncased_code n site middle exits place (suc m) alternative)) valued after e
+      (λ kept got rest begun. weaker code valued kept (λ from to at. keeps_go code own from to at) (keeping_at code cell own is valued kept (ok_is _ kept got) begun))
+      (λ kept got rest. both_go (cases_code n site kept exits place cell exit (after_alternative (suc m) alternative) group) _ kept after rest
+      (λ middle there more begun. let longer = uncased_longer n site alternative exits place (suc m) middle after more in
+      cases exits place cell own exit (after_alternative (suc m) alternative) kept middle is there (omega (arith, longer, ends)) (earlier exits (length middle) (length after) (omega (arith, longer)) ahead) begun)
+      (λ middle there more. none exits place (suc m) middle after more ahead begins))
+
   -- a consequence behind its test, and what stands after ELSE
   chosen_goes : (consequence : Statement) (alternative : Alternative) (exits : Exits) (m : ℕ) (tested after : List Instr) → StatementGoes consequence → ElseGoes alternative
       → onwards (statement_code n site (tested ++ (instr.JumpNot (suc (length tested) + (statement_size n site consequence + jump_size alternative)) ∷ [])) exits m consequence)
@@ -308,6 +399,51 @@ module _ (code : Code) (n : Numbering) (site : Site) (numbered : IsNumbered code
       let body = whole inner (suc m) start middle there (loop_ahead g group labels exits m exit tested middle after there rest ends ahead) at.begins in
       record { at = test_goes g (length tested) exit (length middle) (length after) at.at (has_there code tested (instr.Turn exit) body.begins) ends; begins = at.begins }))
 
+  -- a DO FOR
+  first_span_goes : (g : Option Guard) (exit from to : ℕ) → FirstSpanAt code site g from exit to → to ≤ exit → Goes code from to
+  first_span_goes None exit from to at far = none_goes code from to at
+  first_span_goes (Some g) exit from to at far = first_test_goes g exit from to at far
+
+  begin_goes : (c : Cells) (own : ℕ) (are : AreCells code c own) (place : Place) (name : List ℕ) (span : Span) (exit from to : ℕ) → BeginAt code n site numbered c own are place name span from exit to → to ≤ exit → Goes code from to
+  begin_goes c own are place name (Stepped first last step) exit from to at far = begun_goes code site name own first last step from exit to at far
+  begin_goes c own are place name (Listed NoExpressions) exit from to at far = absurd at
+  begin_goes c own are place name (Listed (MoreExpressions first others)) exit from to at far = value_goes code site name own 1 first from to at
+
+  again_goes : (c : Cells) (own : ℕ) (are : AreCells code c own) (place : Place) (name : List ℕ) (span : Span) (g : Option Guard) (turn from to : ℕ) → AgainAt code n site numbered c own are place name span g from turn to → Has code turn (instr.Turn to)
+      → Goes code from to
+  again_goes c own are place name (Stepped first last step) g turn from to at has = stepping_goes code site name own g from turn to (λ begin one test. test_goes one turn to begin to test has refl) at has
+  again_goes c own are place name (Listed NoExpressions) g turn from to at has = absurd at
+  again_goes c own are place name (Listed (MoreExpressions first others)) g turn from to at has = listing_goes code site name own others g from turn to (λ begin one test. test_goes one turn to begin to test has refl) at has
+
+  -- its turns
+  span_turns_go : (c : Cells) (own : ℕ) (are : AreCells code c own) (place : Place) (name : List ℕ) (span : Span) (g : Option Guard) (group : Group) (labels : List Naming) (exits : Exits) (m exit : ℕ) (tested after : List Instr) → GroupGoes group
+      → onwards (group_code n site (tested ++ (instr.Turn exit ∷ [])) (within_group (opened labels exit (Some (suc (length tested) + group_size n site group))) exits) (suc m) group)
+      (λ middle. onwards (again_code n site middle place name c exit span) (λ counted. later_span_code n site counted place g (length tested) exit)) ≡ Ok after → exit ≡ length after → length tested < exit → Ahead exits (length after)
+      → Begins after code.image.code → Placed code tested after (λ from to. Goes code from to)
+  span_turns_go c own are place name span g group labels exits m exit tested after whole e ends far ahead begins =
+      let again = suc (length tested) + group_size n site group in
+      let start = tested ++ (instr.Turn exit ∷ []) in
+      let inner = within_group (opened labels exit (Some again)) exits in
+      behind_one tested after (instr.Turn exit) far
+      (both_go (group_code n site start inner (suc m) group) (λ middle. onwards (again_code n site middle place name c exit span) (λ counted. later_span_code n site counted place g (length tested) exit)) start after e
+      (λ middle there rest begun. whole inner (suc m) start middle there (ahead_there middle there rest) begun)
+      (λ middle there rest. let at = again_at code n site numbered c own are place name span g (length tested) exit middle after rest ends begins in
+      let body = whole inner (suc m) start middle there (ahead_there middle there rest) at.begins in
+      record {
+        at = again_goes c own are place name span g (length tested) (length middle) (length after) at.at (subst (λ to. Has code (length tested) (instr.Turn to)) ends (has_there code tested (instr.Turn exit) body.begins));
+        begins = at.begins;
+      }))
+    where
+      ahead_there : (middle : List Instr) → group_code n site (tested ++ (instr.Turn exit ∷ [])) (within_group (opened labels exit (Some (suc (length tested) + group_size n site group))) exits) (suc m) group ≡ Ok middle
+          → onwards (again_code n site middle place name c exit span) (λ counted. later_span_code n site counted place g (length tested) exit) ≡ Ok after
+          → Ahead (within_group (opened labels exit (Some (suc (length tested) + group_size n site group))) exits) (length middle)
+      ahead_there middle there rest =
+          let longer = both_longer (again_code n site middle place name c exit span) _ middle after (again_size n site span) (later_span_size n site g) rest
+          (λ counted one. again_longer n site place name c exit span middle counted one) (λ counted one. later_span_longer n site place g (length tested) exit counted after one) in
+          let size = group_longer n site group (within_group (opened labels exit (Some (suc (length tested) + group_size n site group))) exits) (suc m) (tested ++ (instr.Turn exit ∷ [])) middle there in
+          let one = length_of_one_more tested (instr.Turn exit) in
+          in_loop labels exits exit (suc (length tested) + group_size n site group) (length middle) (omega (arith, ends, longer)) (omega (arith, size, one)) (earlier exits (length middle) (length after) (omega (arith, longer)) ahead)
+
   mutual
     pub statement_goes : (tree : Statement) → StatementGoes tree
     statement_goes (Labelled labels basic) exits m before after e ahead begins = basic_goes basic labels exits m before after e ahead begins
@@ -322,6 +458,16 @@ module _ (code : Code) (n : Numbering) (site : Site) (numbered : IsNumbered code
         let exit = length before + group_size n site group in
         let size = group_longer n site group (within_group (opened labels exit None) exits) (suc m) before after e in
         group_goes group (within_group (opened labels exit None) exits) (suc m) before after e (in_group labels exits exit (length after) (omega (arith, size)) ahead) begins
+    basic_goes (DoCase place number alternative group) labels exits m before after e ahead begins =
+        let exit = length before + basic_size n site (DoCase place number alternative group) in
+        let own = loop_place (here_at site) m in
+        let inner = within_group (opened labels exit None) exits in
+        let ends : exit ≡ length after = sym (basic_longer n site (DoCase place number alternative group) labels exits m before after e) in
+        let given = number_given place (cell_of n site m 0) _ after e in
+        both_go (expression_code n site before number) _ before after given.2
+        (λ valued there rest begun. weaker code before valued (λ from to at. expression_goes code site number from to at) (expression_at code n site numbered number before valued there begun))
+        (λ valued there rest. selecting_goes alternative group inner place given.0 (own + 0) exit m valued after (cell_is code n site numbered m 0 given.0 given.1) (cases_go group) (uncased_goes alternative) rest ends
+        (in_group labels exits exit (length after) (omega (arith, ends)) ahead) begins)
     basic_goes (DoLoop place g group) labels exits m before after e ahead begins =
         let exit = length before + basic_size n site (DoLoop place g group) in
         let ends : exit ≡ length after = sym (basic_longer n site (DoLoop place g group) labels exits m before after e) in
@@ -331,6 +477,26 @@ module _ (code : Code) (n : Numbering) (site : Site) (numbered : IsNumbered code
         record { at = first_test_goes g exit (length before) (length tested) at.at (omega (arith, size)); begins = at.begins })
         (λ tested first rest. let size = first_test_longer n site g exit before tested first in
         turns_go g group labels exits m exit tested after (group_goes group) rest ends (omega (arith, size)) ahead begins)
+    basic_goes (DoFor place false variable span g group) labels exits m before after e ahead begins =
+        let exit = length before + basic_size n site (DoFor place false variable span g group) in
+        let own = loop_place (here_at site) m in
+        let ends : exit ≡ length after = sym (basic_longer n site (DoFor place false variable span g group) labels exits m before after e) in
+        let given = cells_given place (cells_of n site false m) _ after e in
+        let c = given.0 in
+        let are = cells_are code n site numbered m given.0 given.1 in
+        both_go (begin_code n site before place variable.name c exit span) _ before after
+        (unnested (begin_code n site before place variable.name c exit span) (λ begun. first_span_code n site begun g exit) _ after given.2)
+        (λ begun there rest starts. let size = begin_longer n site place variable.name c exit span before begun there in
+        weaker code before begun (λ from to at. at)
+        (let at = begin_at code n site numbered c own are place variable.name span exit before begun there starts in
+        record { at = begin_goes c own are place variable.name span exit (length before) (length begun) at.at (omega (arith, size)); begins = at.begins }))
+        (λ begun there rest. let begins_longer = begin_longer n site place variable.name c exit span before begun there in
+        both_go (first_span_code n site begun g exit) _ begun after rest
+        (λ tested got more starts. let size = first_span_longer n site g exit begun tested got in
+        let at = first_span_at code n site numbered g exit begun tested got starts in
+        record { at = first_span_goes g exit (length begun) (length tested) at.at (omega (arith, begins_longer, size)); begins = at.begins })
+        (λ tested got more. let size = first_span_longer n site g exit begun tested got in
+        span_turns_go c own are place variable.name span g group labels exits m exit tested after (group_goes group) more ends (omega (arith, begins_longer, size)) ahead begins))
     basic_goes (Update place body close) labels exits m before after e ahead begins =
         both_go (emit before place (option_map (λ groups. instr.Open groups ∷ []) (below 65536 (update_groups (here_at site) m)))) _ before after e
         (λ begun there rest starts. weaker code before begun (λ from to at. one_goes code from to _ at tt) (opens_at code n site numbered (update_groups (here_at site) m) place before begun there starts))
@@ -368,10 +534,11 @@ module _ (code : Code) (n : Numbering) (site : Site) (numbered : IsNumbered code
     basic_goes (OffError place s) labels exits m before after e ahead begins =
         simply (OffError place s) labels exits m before after (λ ls ex k from to far at. one_goes code from to _ at.3 tt) e ahead begins
     basic_goes (Call place name arguments (receiver ∷ receivers)) labels exits m before after e ahead begins = absurd (cc)
-    basic_goes (DoCase place selector _ group) labels exits m before after e ahead begins = absurd (cc)
-    basic_goes (DoFor place temporary variable span guard group) labels exits m before after e ahead begins = absurd (cc)
-    basic_goes (Scheduled place schedule) labels exits m before after e ahead begins = absurd (cc)
-    basic_goes (UpdatePriority place name priority) labels exits m before after e ahead begins = absurd (cc)
+    basic_goes (DoFor place true variable span g group) labels exits m before after e ahead begins = absurd (cc)
+    basic_goes (Scheduled place s) labels exits m before after e ahead begins =
+        simply (Scheduled place s) labels exits m before after (λ ls ex k from to far at. schedule_goes k s from to at) e ahead begins
+    basic_goes (UpdatePriority place name tree) labels exits m before after e ahead begins =
+        simply (UpdatePriority place name tree) labels exits m before after (λ ls ex k from to far at. update_priority_goes name tree from to at) e ahead begins
     basic_goes (OnErrorStatement place selector handler) labels exits m before after e ahead begins = absurd (cc)
 
     else_goes : (alternative : Alternative) → ElseGoes alternative
@@ -379,6 +546,21 @@ module _ (code : Code) (n : Numbering) (site : Site) (numbered : IsNumbered code
     else_goes (Otherwise one) exits m before after e ahead begins =
         let jump = suc (length before) + statement_size n site one in
         behind_one before after (instr.Jump jump) (inl (omega arith)) (statement_goes one exits m (before ++ (instr.Jump jump ∷ [])) after e ahead begins)
+
+    uncased_goes : (alternative : Alternative) → UncasedGoes alternative
+    uncased_goes NoAlternative exits place m before after e ahead begins = weaker code before after (λ from to at. one_goes code from to _ at tt) (one_placed code before after (instr.Raise 1 6) (ok_is _ after e) begins)
+    uncased_goes (Otherwise one) exits place m before after e ahead begins = statement_goes one exits m before after e ahead begins
+
+    cases_go : (group : Group) → SelectionGoes group
+    cases_go (Groups list close) exits place cell own target m before after is e far ahead begins = selected_go list exits place cell own target m 1 before after is e far ahead begins
+
+    selected_go : (list : Statements) → CasesGo list
+    selected_go NoStatements exits place cell own target m k before after is e far ahead begins = weaker code before after (λ from to at. none_goes code from to at) (none_placed code before after (ok_is before after e) begins)
+    selected_go (MoreStatements first others) exits place cell own target m k before after is e far ahead begins =
+        both_go (case_code before place cell k (statement_size n site first)) _ before after e
+        (λ tested there rest begun. weaker code before tested (λ from to at. case_goes code own k from (to + (statement_size n site first + 1)) to at (omega arith))
+        (case_at code cell own is k (statement_size n site first) place before tested there begun))
+        (λ tested there rest. selected_first_goes first others exits place cell own target m k tested after is (statement_goes first) (selected_go others) rest far ahead begins)
 
     group_goes : (group : Group) → GroupGoes group
     group_goes (Groups list close) exits m before after e ahead begins = list_goes list exits m before after e ahead begins

@@ -1,10 +1,7 @@
--- Pauses until event expressions are TRUE, as the program finds the expressions.
+-- The event expressions of statements, as the program finds them.
 use Rattle.std.specs.Prelude.{ℕ, suc, ◌+◌, ◌==◌, nat_lt, Bool, true, false, List, [], ◌∷◌, length, map, slice_get, Option, Some, None, if◌then◌else◌}
 use Rattle.std.specs.Option.{option_map, option_and_then}
 use Rattle.std.proofs.Common.{◌≡◌, ◌<◌, refl, ap, ap₂, ◌∙◌, arith, lt-ltb}
-use Rattle.hal_code.specs.declared.instr.Instr.{Instr}
-use Rattle.hal_code.specs.declared.instr.Instr.TheVariants as instr
-use Rattle.hal_code.specs.declared.operand.Delay.TheVariants as delay
 use Rattle.hal_layout.specs.Layouts.{items_of}
 use Rattle.hal_meaning.specs.Events.{Stated}
 use Rattle.hal_meaning.specs.RealTime.{stated_from, stated_at_mark}
@@ -12,13 +9,8 @@ use Rattle.hal_agreement.specs.Sites.{Site, here_at}
 use Rattle.hal_gen_expr.specs.Numbering.{below}
 use Rattle.hal_gen_expr.specs.SeenSites.{seen_site}
 use Rattle.hal_gen_expr.specs.declared.site.Site as rust-site
-use Rattle.hal_gen.specs.Leaves.{event_pause_of}
-use Rattle.hal_gen.specs.Pausing.{first_stated, event_pause, pause_at_mark}
-
--- the first of the numbers of a statement's event expressions
-abbrev head_of : List ℕ → Option ℕ
-head_of [] = None
-head_of (x ∷ xs) = Some x
+use Rattle.hal_gen.specs.Leaves.{stated_number, head_of, last_of, first_event, last_event}
+use Rattle.hal_gen.specs.Pausing.{first_stated, last_stated, first_at_mark, last_at_mark}
 
 one_more : (n : ℕ) → suc n ≡ n + 1
 one_more n = omega arith
@@ -32,6 +24,18 @@ unfolding first_stated
 first_is n k [] = refl
 first_is n k (one ∷ list) =
     step (one.statement == k) n (stated_from (suc n) k list) (first_stated (n + 1) k list) (first_is (suc n) k list ∙ ap (λ m. first_stated m k list) (one_more n))
+
+last_by : (b : Bool) (n : ℕ) (found : Option ℕ) (later : List ℕ) → last_of found (if b then n ∷ later else later) ≡ last_of (if b then Some n else found) later
+last_by true n found later = refl
+last_by false n found later = refl
+
+last_is : (n k : ℕ) (found : Option ℕ) (list : List Stated) → last_of found (stated_from n k list) ≡ last_stated n k found list
+unfolding last_stated
+last_is n k found [] = refl
+last_is n k found (one ∷ list) =
+    last_by (one.statement == k) n found (stated_from (suc n) k list)
+    ∙ last_is (suc n) k (if one.statement == k then Some n else found) list
+    ∙ ap (λ m. last_stated m k (if one.statement == k then Some n else found) list) (one_more n)
 
 -- it is below their number
 abbrev Below : ℕ → Option ℕ → Type 0
@@ -48,22 +52,16 @@ first_below n k len [] same = tt
 first_below n k len (one ∷ list) same =
     below_by (one.statement == k) n len (first_stated (n + 1) k list) (omega (arith, same)) (first_below (n + 1) k len list (omega (arith, same)))
 
--- the pause on it
-abbrev pause_by : ℕ → Option ℕ → Option (List Instr)
-pause_by len None = None
-pause_by len (Some x) = if nat_lt x len then option_map (λ number. instr.Wait (delay.Event number) ∷ []) (below 4294967296 x) else None
+last_below : (n k len : ℕ) (found : Option ℕ) (list : List Stated) → n + length list ≡ len → Below len found → Below len (last_stated n k found list)
+unfolding last_stated
+last_below n k len found [] same low = low
+last_below n k len found (one ∷ list) same low =
+    last_below (n + 1) k len (if one.statement == k then Some n else found) list (omega (arith, same)) (below_by (one.statement == k) n len found (omega (arith, same)) low)
 
-by_head : (site : Site) (xs : List ℕ) → event_pause_of site xs ≡ pause_by (length site.set.tables.expressions) (head_of xs)
-by_head site [] = refl
-by_head site (x ∷ xs) = refl
-
-one_pause : (number : Option ℕ) → option_map (λ n. instr.Wait (delay.Event n) ∷ []) number ≡ option_map (λ i. i ∷ []) (option_map (λ n. instr.Wait (delay.Event n)) number)
-one_pause None = refl
-one_pause (Some n) = refl
-
-found : (len : ℕ) (number : Option ℕ) → Below len number → pause_by len number ≡ option_map (λ i. i ∷ []) (option_and_then event_pause number)
-found len None less = refl
-found len (Some x) less = rw (lt-ltb x len less) (one_pause (below 4294967296 x))
+-- so it is told
+told : (site : Site) (len : ℕ) (number : Option ℕ) → length site.set.tables.expressions ≡ len → Below len number → option_and_then (stated_number site) number ≡ option_and_then (below 4294967296) number
+told site len None same less = refl
+told site len (Some x) same less = ap (λ l. if nat_lt x l then below 4294967296 x else None) same ∙ ap (λ b. if b then below 4294967296 x else None) (lt-ltb x len less)
 
 same_length : {X Y : Type 0} (f : X → Y) (xs : List X) → length (map f xs) ≡ length xs
 same_length f [] = refl
@@ -73,18 +71,35 @@ none_before : (n : ℕ) → 0 + n ≡ n
 none_before n = omega arith
 
 module _ (site : Site) (tabled : site.set.tables.expressions ≡ items_of site.set.stated) where
-  pause_of_first : (k : ℕ) → event_pause_of site (stated_from 0 k site.set.stated) ≡ option_map (λ i. i ∷ []) (option_and_then event_pause (first_stated 0 k site.set.stated))
-  pause_of_first k =
-      by_head site (stated_from 0 k site.set.stated)
-      ∙ ap₂ pause_by (ap length tabled ∙ same_length (λ (one : Stated). one.items) site.set.stated) (first_is 0 k site.set.stated)
-      ∙ found (length site.set.stated) (first_stated 0 k site.set.stated) (first_below 0 k (length site.set.stated) site.set.stated (none_before (length site.set.stated)))
+  as_many : length site.set.tables.expressions ≡ length site.set.stated
+  as_many = ap length tabled ∙ same_length (λ (one : Stated). one.items) site.set.stated
 
-  pause_by_mark : (mark : Option ℕ)
-      → event_pause_of site (elim mark [ None ↦ [] | Some k ↦ stated_from 0 k site.set.stated ])
-      ≡ option_map (λ i. i ∷ []) (elim mark [ None ↦ None | Some k ↦ option_and_then event_pause (first_stated 0 k site.set.stated) ])
-  pause_by_mark None = refl
-  pause_by_mark (Some k) = pause_of_first k
+  first_of_statement : (k : ℕ) → first_event site (stated_from 0 k site.set.stated) ≡ option_and_then (below 4294967296) (first_stated 0 k site.set.stated)
+  first_of_statement k =
+      ap (λ found. option_and_then (stated_number site) found) (first_is 0 k site.set.stated)
+      ∙ told site (length site.set.stated) (first_stated 0 k site.set.stated) as_many (first_below 0 k (length site.set.stated) site.set.stated (none_before (length site.set.stated)))
 
-pub pause_stated : (s : rust-site.Site) (m : ℕ) → event_pause_of (seen_site s) (stated_at_mark (here_at (seen_site s)) m) ≡ option_map (λ i. i ∷ []) (pause_at_mark (seen_site s) m)
+  last_of_statement : (k : ℕ) → last_event site (stated_from 0 k site.set.stated) ≡ option_and_then (below 4294967296) (last_stated 0 k None site.set.stated)
+  last_of_statement k =
+      ap (λ found. option_and_then (stated_number site) found) (last_is 0 k None site.set.stated)
+      ∙ told site (length site.set.stated) (last_stated 0 k None site.set.stated) as_many (last_below 0 k (length site.set.stated) None site.set.stated (none_before (length site.set.stated)) tt)
+
+  first_by_mark : (mark : Option ℕ)
+      → first_event site (elim mark [ None ↦ [] | Some k ↦ stated_from 0 k site.set.stated ])
+      ≡ elim mark [ None ↦ None | Some k ↦ option_and_then (below 4294967296) (first_stated 0 k site.set.stated) ]
+  first_by_mark None = refl
+  first_by_mark (Some k) = first_of_statement k
+
+  last_by_mark : (mark : Option ℕ)
+      → last_event site (elim mark [ None ↦ [] | Some k ↦ stated_from 0 k site.set.stated ])
+      ≡ elim mark [ None ↦ None | Some k ↦ option_and_then (below 4294967296) (last_stated 0 k None site.set.stated) ]
+  last_by_mark None = refl
+  last_by_mark (Some k) = last_of_statement k
+
+pub first_given : (s : rust-site.Site) (m : ℕ) → first_event (seen_site s) (stated_at_mark (here_at (seen_site s)) m) ≡ first_at_mark (seen_site s) m
 unfolding seen_site
-pause_stated s m = pause_by_mark (seen_site s) refl (slice_get s.marks.now m)
+first_given s m = first_by_mark (seen_site s) refl (slice_get s.marks.now m)
+
+pub last_given : (s : rust-site.Site) (m : ℕ) → last_event (seen_site s) (stated_at_mark (here_at (seen_site s)) m) ≡ last_at_mark (seen_site s) m
+unfolding seen_site
+last_given s m = last_by_mark (seen_site s) refl (slice_get s.marks.now m)

@@ -1,12 +1,12 @@
 -- The code of statements without statements in them stands where it was put.
-use Rattle.std.specs.Prelude.{◌≡◌, ℕ, zero, suc, ◌+◌, ◌==◌, nat_lt, Bool, true, false, List, [], ◌∷◌, ◌++◌, length, Option, Some, None, Ok, if◌then◌else◌}
+use Rattle.std.specs.Prelude.{◌≡◌, ℕ, zero, suc, ◌+◌, ◌==◌, nat_lt, Bool, true, false, List, [], ◌∷◌, ◌++◌, length, pos, Option, Some, None, Ok, if◌then◌else◌}
 use Rattle.std.specs.Option.{option_map, option_and_then}
 use Rattle.std.proofs.Common.{refl, sym, ap, subst, ◌∙◌, arith, ne_eqb, append-nil}
 use Rattle.std.proofs.lemmas.Bool.{ltb-true}
 use Rattle.hal_base.specs.declared.refusal.Place.{Place}
-use Rattle.hal_grammar.specs.Leaves.{Naming, Integer}
+use Rattle.hal_grammar.specs.Leaves.{Naming}
 use Rattle.hal_grammar.specs.Declarations.{IntegerKind, BooleanKind, EventKind, BitKind, CharacterKind, StructureKind}
-use Rattle.hal_grammar.specs.Expressions.{Expression, Literal, Decimal, Expressions, NoExpressions, MoreExpressions, Reference, Refers}
+use Rattle.hal_grammar.specs.Expressions.{Expression, Expressions, NoExpressions, MoreExpressions, Reference, Refers}
 use Rattle.hal_grammar.specs.Statements.{Guard, While, Until, Selector, EveryError, GroupErrors, OneError, Eventful, EventAction, Signal, Set, Reset, Response}
 use Rattle.hal_grammar.specs.Units.{Head, Program, Task, Compool, Procedure, Function, HasKind, NoKind}
 use Rattle.hal_operations.specs.declared.operation.Op1.TheVariants as op1
@@ -30,11 +30,10 @@ use Rattle.hal_code.specs.declared.operand.Delay.TheVariants as delay
 use Rattle.hal_code.specs.Controlling as machine
 use Rattle.hal_code.specs.declared.operand.EventChange.{EventChange}
 use Rattle.hal_code.specs.declared.operand.EventChange.TheVariants as change
-use Rattle.hal_code.specs.declared.operand.Time.{Time}
-use Rattle.hal_code.specs.declared.operand.Time.TheVariants as time
 use Rattle.hal_agreement.specs.Codes.{Code}
 use Rattle.hal_agreement.specs.PlacedExpressions.{Has, One, ExpressionAt}
-use Rattle.hal_agreement.specs.PlacedStatements.{Leaving, ToFinish, ByReturn, ByResult, NoReturn, Exits, ChannelAt, ItemsAt, ConditionAt, FirstTestAt, TestAt, ReturnAt, ResultBy, ResultAt, CalledAt, ReadsAt, PauseAt, EventAt, NamedAt, EachAt, NamedOrOwnAt, Selects, sets, response_of, changes}
+use Rattle.hal_agreement.specs.PlacedStatements.{Leaving, ToFinish, ByReturn, ByResult, NoReturn, Exits, ChannelAt, ItemsAt, ConditionAt, FirstTestAt, TestAt, ReturnAt, ResultBy, ResultAt, CalledAt, ReadsAt, EventAt, EachAt, NamedOrOwnAt, Selects, sets, response_of, changes}
+use Rattle.hal_agreement.specs.PlacedTimes.{There, NamedAt}
 use Rattle.hal_agreement.specs.Sites.{Site, here_at}
 use Rattle.hal_gen_expr.specs.Emitting.{emit}
 use Rattle.hal_gen_expr.specs.ExpressionCode.{emit_one, expression_code, arguments_code}
@@ -48,9 +47,11 @@ use Rattle.hal_gen_expr.proofs.Growing.{append_append, weaker, one_placed, none_
 use Rattle.hal_gen_expr.proofs.Named.{two_placed, call_placed, given_is}
 use Rattle.hal_gen_expr.proofs.Numbered.{below_is, mapped_is, then_is}
 use Rattle.hal_gen_expr.proofs.Referring.{meaning_of, name_means}
-use Rattle.hal_gen.specs.Leaves.{kind_referred, kind_of_receiver, channel_of, return_of, gives_text, text_result, as_result, result_of, pause_of, event_pause_of, named_process, and_asked, each_of, named_or_own_of, event_change_of, from_one, numbers_of, change_of, side_numbers, response_code, off_of, raise_of}
+use Rattle.hal_gen.specs.Constants.{integer_of, channel_of}
+use Rattle.hal_gen.specs.Leaves.{kind_referred, kind_of_receiver, return_of, gives_text, text_result, as_result, result_of, stated_number, first_event, event_pause_of, named_process, and_asked, each_of, named_or_own_of, event_change_of, from_one, numbers_of, change_of, side_numbers, response_code, off_of, raise_of}
 use Rattle.hal_gen.specs.Receiving.{receiver_code, receiver_size}
 use Rattle.hal_gen.specs.StatementCode.{items_code, reads_code, condition_code, first_test_code, test_code, procedure_code, returning_code}
+use Rattle.hal_gen.proofs.Constancy.{number_given, constant_at}
 use Rattle.hal_gen.proofs.Measured.{later, receiver_longer}
 use Rattle.hal_gen.proofs.Received.{receiver_at}
 
@@ -72,9 +73,8 @@ module _ (code : Code) (n : Numbering) (site : Site) (numbered : IsNumbered code
       let one = mapped_is (λ x. f x ∷ []) source given.0 given.1 in
       (one.0, one.1, one_placed code before after (f one.0) (ap (λ l. before ++ l) one.2 ∙ given.2) begins)
 
-  pub channel_at : (tree : Expression) (number : ℕ) → channel_of tree ≡ Some number → ChannelAt tree number
-  channel_at (Literal place (Integer written)) number is = below_is 256 written number is
-  channel_at other number is = absurd (cc)
+  pub channel_at : (tree : Expression) (number : ℕ) → channel_of site tree ≡ Some number → ChannelAt site tree number
+  channel_at tree number is = constant_at site tree (pos number) (number_given (integer_of site tree) number is)
 
   pub items_at : (items : Expressions) (before after : List Instr) → items_code n site before items ≡ Ok after → Begins after code.image.code
       → Placed code before after (λ from to. ItemsAt code site items from to)
@@ -216,26 +216,22 @@ module _ (code : Code) (n : Numbering) (site : Site) (numbered : IsNumbered code
       weaker code before after (λ from to at. λ held. subst (λ m. CalledAt code site arguments m from to) (sym (name_means site held name)) (at held))
       (procedure_by arguments (referent site name) place before after e begins)
 
-  pub pause_at : (delays : Time → Delay) (tree : Expression) (place : Place) (before after : List Instr) → emit before place (pause_of delays tree) ≡ Ok after → Begins after code.image.code
-      → Placed code before after (λ from to. PauseAt code delays tree from to)
-  pause_at delays (Decimal at number) place before after e begins = one_placed code before after (instr.Wait (delays (time.Milliseconds number))) (ok_is _ after e) begins
-  pause_at delays other place before after e begins = absurd (cc)
+  pub stated_is : (x number : ℕ) → stated_number site x ≡ Some number → (x ≡ number) × There site x
+  stated_is x number is =
+      let there = given_is (nat_lt x (length site.set.tables.expressions)) (below 4294967296 x) number is in (below_is 4294967296 x number there.1, there.0)
 
-  event_pause_by : (x : ℕ) (xs : List ℕ) (place : Place) (before after : List Instr) → emit before place (event_pause_of site (x ∷ xs)) ≡ Ok after → Begins after code.image.code
-      → Placed code before after (λ from to. EventAt code site (x ∷ xs) from to)
-  event_pause_by x xs place before after e begins =
-      let given = emitted before place (event_pause_of site (x ∷ xs)) after e in
-      let there = given_is (nat_lt x (length site.set.tables.expressions)) (option_map (λ number. instr.Wait (delay.Event number) ∷ []) (below 4294967296 x)) given.0 given.1 in
-      let one = mapped_is (λ number. instr.Wait (delay.Event number) ∷ []) (below 4294967296 x) given.0 there.1 in
-      let placed = one_placed code before after (instr.Wait (delay.Event x)) (ap (λ l. before ++ l) (ap (λ number. instr.Wait (delay.Event number) ∷ []) (below_is 4294967296 x one.0 one.1) ∙ one.2) ∙ given.2) begins in
-      record { at = (there.0, placed.at); begins = placed.begins }
+  event_at : (xs : List ℕ) (number from to : ℕ) → first_event site xs ≡ Some number → One code from (instr.Wait (delay.Event number)) to → EventAt code site xs from to
+  event_at [] number from to is one = absurd (cc)
+  event_at (x ∷ xs) number from to is one =
+      let there = stated_is x number is in (there.1, subst (λ k. One code from (instr.Wait (delay.Event k)) to) (sym there.0) one)
 
   pub event_pause_at : (xs : List ℕ) (place : Place) (before after : List Instr) → emit before place (event_pause_of site xs) ≡ Ok after → Begins after code.image.code
       → Placed code before after (λ from to. EventAt code site xs from to)
-  event_pause_at [] place before after e begins = absurd (cc)
-  event_pause_at (x ∷ xs) place before after e begins = event_pause_by x xs place before after e begins
+  event_pause_at xs place before after e begins =
+      let given = single_placed (λ number. instr.Wait (delay.Event number)) (first_event site xs) place before after e begins in
+      weaker code before after (λ from to at. event_at xs given.0 from to given.1 at) given.2
 
-  named_is : (name : Naming) (number : ℕ) → named_process site name ≡ Some number → NamedAt site name number
+  pub named_is : (name : Naming) (number : ℕ) → named_process site name ≡ Some number → NamedAt site name number
   named_is name number is =
       let there = given_is (nat_lt (process_named (here_at site) name) (process_count site.set.tables)) (below 255 (process_named (here_at site) name)) number is in
       let same = below_is 255 (process_named (here_at site) name) number there.1 in

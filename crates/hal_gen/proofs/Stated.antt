@@ -1,19 +1,21 @@
 -- The code of statements stands where it was put.
-use Rattle.std.specs.Prelude.{◌≡◌, ℕ, suc, ◌+◌, List, [], ◌∷◌, ◌++◌, length, Option, Some, None, Ok}
+use Rattle.std.specs.Prelude.{◌≡◌, ℕ, suc, ◌+◌, true, false, List, [], ◌∷◌, ◌++◌, length, Option, Some, None, Ok}
 use Rattle.std.specs.Option.{option_map}
 use Rattle.std.proofs.Common.{refl, sym, ap, subst, arith}
 use Rattle.hal_base.specs.declared.refusal.Place.{Place}
 use Rattle.hal_grammar.specs.Leaves.{Naming}
-use Rattle.hal_grammar.specs.Statements.{Guard, Statement, Labelled, Basic, Null, Assignment, If, Do, DoCase, DoLoop, DoFor, Exit, Repeat, Return, Call, Read, Write, Cancel, Terminate, Wait, WaitUntil, WaitForDependent, WaitFor, Event, Scheduled, UpdatePriority, Update, OnErrorStatement, OnErrorResponse, OffError, SendError, Alternative, NoAlternative, Otherwise, Group, Groups, Statements, NoStatements, MoreStatements}
-use Rattle.hal_meaning.specs.Marks.{after_statement}
+use Rattle.hal_grammar.specs.Expressions.{Expression, NoExpressions, MoreExpressions}
+use Rattle.hal_grammar.specs.Statements.{Guard, Span, Stepped, Listed, Statement, Labelled, Basic, Null, Assignment, If, Do, DoCase, DoLoop, DoFor, Exit, Repeat, Return, Call, Read, Write, Cancel, Terminate, Wait, WaitUntil, WaitForDependent, WaitFor, Event, Scheduled, UpdatePriority, Update, OnErrorStatement, OnErrorResponse, OffError, SendError, Alternative, NoAlternative, Otherwise, Group, Groups, Statements, NoStatements, MoreStatements}
+use Rattle.hal_meaning.specs.Marks.{after_statement, after_alternative}
 use Rattle.hal_meaning.specs.RealTime.{stated_at_mark}
-use Rattle.hal_meaning.specs.Statements.{label_name, update_groups}
+use Rattle.hal_meaning.specs.Statements.{label_name, loop_place, update_groups}
 use Rattle.hal_code.specs.declared.instr.Instr.{Instr}
 use Rattle.hal_code.specs.declared.instr.Instr.TheVariants as instr
 use Rattle.hal_code.specs.declared.operand.Delay.TheVariants as delay
 use Rattle.hal_agreement.specs.Codes.{Code}
-use Rattle.hal_agreement.specs.PlacedExpressions.{Has, One}
-use Rattle.hal_agreement.specs.PlacedStatements.{NoReturn, Exits, exit_of, again_of, opened, within_group, of_block, LeadsOut, FirstTestAt, TestAt, StatementAt, BasicAt, AlternativeAt, GroupAt, StatementsAt}
+use Rattle.hal_agreement.specs.PlacedExpressions.{Has, One, ExpressionAt}
+use Rattle.hal_agreement.specs.PlacedGroups.{KeepsAt, CaseAt}
+use Rattle.hal_agreement.specs.PlacedStatements.{NoReturn, Exits, exit_of, again_of, opened, within_group, of_block, LeadsOut, FirstTestAt, TestAt, StatementAt, BasicAt, AlternativeAt, UncasedAt, CasesAt, SelectedAt, SpannedAt, FirstSpanAt, GroupAt, StatementsAt}
 use Rattle.hal_agreement.specs.Sites.{Site, here_at}
 use Rattle.hal_gen_expr.specs.Emitting.{Emitted, onwards, emit}
 use Rattle.hal_gen_expr.specs.ExpressionCode.{emit_one, expression_code}
@@ -22,16 +24,26 @@ use Rattle.hal_gen_expr.specs.Standing.{Begins, IsNumbered, Placed}
 use Rattle.hal_gen_expr.proofs.Expressed.{ok_is, expression_at}
 use Rattle.hal_gen_expr.proofs.Growing.{length_of_one_more, weaker, one_placed, none_placed, first_placed, both_there, both_placed}
 use Rattle.hal_gen_expr.proofs.Numbered.{below_is}
-use Rattle.hal_gen.specs.Leaves.{channel_of}
+use Rattle.hal_gen.specs.Constants.{channel_of}
+use Rattle.hal_gen.specs.declared.kept.Cells.{Cells}
+use Rattle.hal_gen.specs.KeptCode.{cell_of, keeping, case_code, cells_of}
+use Rattle.hal_gen.specs.SpanCode.{begin_code, again_code}
 use Rattle.hal_gen.specs.Sizes.{jump_size, statement_size, basic_size, group_size, statements_size}
-use Rattle.hal_gen.specs.StatementCode.{receivers_code, items_code, with_channel, first_test_code, test_code, statement_code, basic_code, alternative_code, group_code, statements_code}
-use Rattle.hal_gen.proofs.Measured.{later, statement_longer, basic_longer, group_longer, statements_longer}
+use Rattle.hal_gen.specs.StatementCode.{first_span_code, later_span_code, with_cells, receivers_code, items_code, with_number, first_test_code, test_code, statement_code, basic_code, alternative_code, uncased_code, cases_code, selected_code, group_code, statements_code}
+use Rattle.hal_gen.proofs.Keeping.{IsCell, keeping_at, case_at, cell_is, AreCells, cells_are}
+use Rattle.hal_gen.proofs.Measured.{unnested, later, statement_longer, basic_longer, group_longer, statements_longer}
 use Rattle.hal_gen.proofs.Received.{receivers_at}
-use Rattle.hal_gen.proofs.Simple.{single_placed, channel_at, items_at, first_test_at, test_at, reads_at, plain_return_at, value_return_at, procedure_at, pause_at, event_pause_at, named_or_own_at, raise_at, response_at, off_at, event_change_at}
+use Rattle.hal_gen.proofs.Timed.{pause_at, schedule_at, update_priority_at}
+use Rattle.hal_gen.proofs.Simple.{single_placed, channel_at, items_at, first_test_at, test_at, reads_at, plain_return_at, value_return_at, procedure_at, event_pause_at, named_or_own_at, raise_at, response_at, off_at, event_change_at}
+use Rattle.hal_gen.proofs.Spanned.{first_span_at, BeginAt, AgainAt, begin_at, again_at}
 
-channel_given : (place : Place) (o : Option ℕ) (go : ℕ → Emitted) (after : List Instr) → with_channel place o go ≡ Ok after → (number : ℕ) × (o ≡ Some number) × (go number ≡ Ok after)
-channel_given place None go after e = absurd (cc)
-channel_given place (Some number) go after e = (number, refl, e)
+pub number_given : (place : Place) (o : Option ℕ) (go : ℕ → Emitted) (after : List Instr) → with_number place o go ≡ Ok after → (number : ℕ) × (o ≡ Some number) × (go number ≡ Ok after)
+number_given place None go after e = absurd (cc)
+number_given place (Some number) go after e = (number, refl, e)
+
+pub cells_given : (place : Place) (o : Option Cells) (go : Cells → Emitted) (after : List Instr) → with_cells place o go ≡ Ok after → (c : Cells) × (o ≡ Some c) × (go c ≡ Ok after)
+cells_given place None go after e = absurd (cc)
+cells_given place (Some c) go after e = (c, refl, e)
 
 module _ (code : Code) (n : Numbering) (site : Site) (numbered : IsNumbered code n) where
   pub opens_at : (groups : ℕ) (place : Place) (before after : List Instr) → emit before place (option_map (λ g. instr.Open g ∷ []) (below 65536 groups)) ≡ Ok after → Begins after code.image.code
@@ -56,6 +68,52 @@ module _ (code : Code) (n : Numbering) (site : Site) (numbered : IsNumbered code
   abbrev ListStands : Statements → Type 0
   ListStands list = (exits : Exits) (m : ℕ) (before after : List Instr) → statements_code n site before exits m list ≡ Ok after → Begins after code.image.code
       → Placed code before after (λ from to. StatementsAt code site exits m list from to)
+
+  abbrev CasesStand : Statements → Type 0
+  CasesStand list = (exits : Exits) (place : Place) (cell own target m k : ℕ) (before after : List Instr) → IsCell code cell own → selected_code n site before exits place cell target m k list ≡ Ok after
+      → Begins after code.image.code → Placed code before after (λ from to. SelectedAt code site exits own m k list from to target)
+
+  -- a statement of DO CASE behind its test, a jump behind it, and those that follow
+  selected_first : (first : Statement) (others : Statements) (exits : Exits) (place : Place) (cell own target m k : ℕ) (tested after : List Instr) → IsCell code cell own → StatementStands first → CasesStand others
+      → onwards (statement_code n site tested exits m first) (λ middle. selected_code n site (middle ++ (instr.Jump target ∷ [])) exits place cell target (after_statement m first) (suc k) others) ≡ Ok after
+      → Begins after code.image.code
+      → Placed code tested after (λ from to. (end : ℕ) × StatementAt code site exits m first from end × (end ≡ from + statement_size n site first) × Has code end (instr.Jump target)
+      × SelectedAt code site exits own (after_statement m first) (suc k) others (suc end) to target)
+  selected_first first others exits place cell own target m k tested after is one rest e begins =
+      let there = both_there code {A = λ from to. StatementAt code site exits m first from to}
+      {B = λ end to. (end ≡ length tested + statement_size n site first) × Has code end (instr.Jump target) × SelectedAt code site exits own (after_statement m first) (suc k) others (suc end) to target}
+      (statement_code n site tested exits m first) _ tested after e
+      (λ middle there begun. one exits m tested middle there begun)
+      (λ middle there late. let behind = first_placed code {B = λ from to. SelectedAt code site exits own (after_statement m first) (suc k) others from to target} middle after (instr.Jump target)
+      (rest exits place cell own target (after_statement m first) (suc k) (middle ++ (instr.Jump target ∷ [])) after is late begins) in
+      record { at = (statement_longer n site first exits m tested middle there, behind.at.0, behind.at.1); begins = behind.begins })
+      in record { at = (there.at.0, there.at.1, there.at.2.0, there.at.2.1, there.at.2.2); begins = there.begins }
+
+  abbrev UncasedStands : Alternative → Type 0
+  UncasedStands alternative = (exits : Exits) (place : Place) (m : ℕ) (before after : List Instr) → uncased_code n site before exits place m alternative ≡ Ok after → Begins after code.image.code
+      → Placed code before after (λ from to. UncasedAt code site exits m alternative from to)
+
+  abbrev SelectionStands : Group → Type 0
+  SelectionStands group = (exits : Exits) (place : Place) (cell own target m : ℕ) (before after : List Instr) → IsCell code cell own → cases_code n site before exits place cell target m group ≡ Ok after
+      → Begins after code.image.code → Placed code before after (λ from to. CasesAt code site exits own m group from to target)
+
+  -- the number of a DO CASE is kept, and its statements follow
+  selecting_at : (alternative : Alternative) (group : Group) (exits : Exits) (place : Place) (cell own exit m : ℕ) (valued after : List Instr) → IsCell code cell own → SelectionStands group → UncasedStands alternative
+      → onwards (cases_code n site (keeping valued cell) exits place cell exit (after_alternative (suc m) alternative) group) (λ middle. uncased_code n site middle exits place (suc m) alternative) ≡ Ok after
+      → Begins after code.image.code
+      → Placed code valued after (λ from to. (begin : ℕ) × KeepsAt code own from begin × (none : ℕ) × CasesAt code site exits own (after_alternative (suc m) alternative) group begin none exit
+      × UncasedAt code site exits (suc m) alternative none to)
+  selecting_at alternative group exits place cell own exit m valued after is cases none e begins =
+      weaker code valued after (λ from to at. (at.0, at.1, at.2.0, at.2.1, at.2.2))
+      (both_placed code {A = λ from to. KeepsAt code own from to}
+      {B = λ from to. (none : ℕ) × CasesAt code site exits own (after_alternative (suc m) alternative) group from none exit × UncasedAt code site exits (suc m) alternative none to}
+      (Ok (keeping valued cell)) (λ kept. onwards (cases_code n site kept exits place cell exit (after_alternative (suc m) alternative) group) (λ middle. uncased_code n site middle exits place (suc m) alternative)) valued after e
+      (λ kept got begun. keeping_at code cell own is valued kept (ok_is _ kept got) begun)
+      (λ kept got. both_placed code {A = λ from to. CasesAt code site exits own (after_alternative (suc m) alternative) group from to exit}
+      {B = λ from to. UncasedAt code site exits (suc m) alternative from to}
+      (cases_code n site kept exits place cell exit (after_alternative (suc m) alternative) group) _ kept after got
+      (λ middle there begun. cases exits place cell own exit (after_alternative (suc m) alternative) kept middle is there begun)
+      (λ middle there. none exits place (suc m) middle after there begins)))
 
   -- a consequence behind its test, and what stands after ELSE
   chosen_at : (consequence : Statement) (alternative : Alternative) (exits : Exits) (m : ℕ) (tested after : List Instr)
@@ -97,6 +155,48 @@ module _ (code : Code) (n : Numbering) (site : Site) (numbered : IsNumbered code
       (λ middle got. test_at code n site numbered g (length tested) exit middle after got ends begins))
       in record { at = (there.at.1.0, there.at.0, there.at.1.1, there.at.1.2); begins = there.begins }
 
+  -- the same of a DO FOR
+  span_turns_at : (c : Cells) (own : ℕ) (are : AreCells code c own) (place : Place) (name : List ℕ) (span : Span) (g : Option Guard) (group : Group) (labels : List Naming) (exits : Exits) (m exit : ℕ) (tested after : List Instr) → GroupStands group
+      → onwards (group_code n site (tested ++ (instr.Turn exit ∷ [])) (within_group (opened labels exit (Some (suc (length tested) + group_size n site group))) exits) (suc m) group)
+      (λ middle. onwards (again_code n site middle place name c exit span) (λ counted. later_span_code n site counted place g (length tested) exit)) ≡ Ok after → exit ≡ length after → Begins after code.image.code
+      → Placed code tested after (λ from to. (again : ℕ) × Has code from (instr.Turn exit) × GroupAt code site (within_group (opened labels exit (Some again)) exits) (suc m) group (suc from) again
+      × AgainAt code n site numbered c own are place name span g again from to)
+  span_turns_at c own are place name span g group labels exits m exit tested after whole e ends begins =
+      let again = suc (length tested) + group_size n site group in
+      let start = tested ++ (instr.Turn exit ∷ []) in
+      let there = first_placed code tested after (instr.Turn exit)
+      (both_placed code {A = λ from to. GroupAt code site (within_group (opened labels exit (Some to)) exits) (suc m) group from to} {B = λ from to. AgainAt code n site numbered c own are place name span g from (length tested) to}
+      (group_code n site start (within_group (opened labels exit (Some again)) exits) (suc m) group) (λ middle. onwards (again_code n site middle place name c exit span) (λ counted. later_span_code n site counted place g (length tested) exit)) start after e
+      (λ middle got begun. repeated_at group labels exits m exit again start middle whole got
+      (let longer = group_longer n site group (within_group (opened labels exit (Some again)) exits) (suc m) start middle got in let one = length_of_one_more tested (instr.Turn exit) in omega (arith, longer, one)) begun)
+      (λ middle got. again_at code n site numbered c own are place name span g (length tested) exit middle after got ends begins))
+      in record { at = (there.at.1.0, there.at.0, there.at.1.1, there.at.1.2); begins = there.begins }
+
+  -- all of it
+  spanned_at : (c : Cells) (own : ℕ) (are : AreCells code c own) (place : Place) (name : List ℕ) (span : Span) (g : Option Guard) (group : Group) (labels : List Naming) (exits : Exits) (m exit : ℕ) (before after : List Instr) → GroupStands group
+      → onwards (begin_code n site before place name c exit span) (λ begun. onwards (first_span_code n site begun g exit)
+      (λ tested. onwards (group_code n site (tested ++ (instr.Turn exit ∷ [])) (within_group (opened labels exit (Some (suc (length tested) + group_size n site group))) exits) (suc m) group)
+      (λ middle. onwards (again_code n site middle place name c exit span) (λ counted. later_span_code n site counted place g (length tested) exit)))) ≡ Ok after → exit ≡ length after → Begins after code.image.code
+      → Placed code before after (λ from to. (test : ℕ) × (turn : ℕ) × (again : ℕ) × BeginAt code n site numbered c own are place name span from exit test × FirstSpanAt code site g test exit turn × Has code turn (instr.Turn exit)
+      × GroupAt code site (within_group (opened labels exit (Some again)) exits) (suc m) group (suc turn) again × AgainAt code n site numbered c own are place name span g again turn to)
+  spanned_at c own are place name span g group labels exits m exit before after whole e ends begins =
+      weaker code before after (λ from to at. (at.0, at.2.0, at.2.2.0, at.1, at.2.1, at.2.2.1, at.2.2.2, at.2.2.3))
+      (both_placed code {A = λ from to. BeginAt code n site numbered c own are place name span from exit to}
+      {B = λ from to. (turn : ℕ) × FirstSpanAt code site g from exit turn × ((again : ℕ) × Has code turn (instr.Turn exit) × GroupAt code site (within_group (opened labels exit (Some again)) exits) (suc m) group (suc turn) again
+      × AgainAt code n site numbered c own are place name span g again turn to)}
+      (begin_code n site before place name c exit span) _ before after e (λ begun there starts. begin_at code n site numbered c own are place name span exit before begun there starts)
+      (λ begun there. both_placed code {A = λ from to. FirstSpanAt code site g from exit to}
+      {B = λ from to. (again : ℕ) × Has code from (instr.Turn exit) × GroupAt code site (within_group (opened labels exit (Some again)) exits) (suc m) group (suc from) again × AgainAt code n site numbered c own are place name span g again from to}
+      (first_span_code n site begun g exit) _ begun after there (λ tested got starts. first_span_at code n site numbered g exit begun tested got starts)
+      (λ tested got. span_turns_at c own are place name span g group labels exits m exit tested after whole got ends begins)))
+
+  -- as the statement has it
+  span_there : (c : Cells) (own : ℕ) (are : AreCells code c own) (place : Place) (name : List ℕ) (span : Span) (g : Option Guard) (body : ℕ → ℕ → Type 0) (from test turn again to : ℕ) → BeginAt code n site numbered c own are place name span from to test
+      → FirstSpanAt code site g test to turn → Has code turn (instr.Turn to) → body (suc turn) again → AgainAt code n site numbered c own are place name span g again turn to → SpannedAt code site name own g body span from again to
+  span_there c own are place name (Stepped first last step) g body from test turn again to begin guard has inner next = (test, turn, begin, guard, has, inner, next)
+  span_there c own are place name (Listed NoExpressions) g body from test turn again to begin guard has inner next = absurd begin
+  span_there c own are place name (Listed (MoreExpressions first others)) g body from test turn again to begin guard has inner next = (test, turn, begin, guard, has, inner, next)
+
   -- the statements of an UPDATE block, and CLOSE
   updated_at : (body : Statements) (m : ℕ) (begun after : List Instr) (place : Place)
       → ListStands body → onwards (statements_code n site begun (of_block NoReturn (λ mark. length begun + statements_size n site body)) (suc m) body) (λ middle. emit_one middle place instr.Close) ≡ Ok after → Begins after code.image.code
@@ -128,6 +228,25 @@ module _ (code : Code) (n : Numbering) (site : Site) (numbered : IsNumbered code
         let there = group_at group (within_group (opened labels exit None) exits) (suc m) before after e begins in
         let ends = sym (group_longer n site group (within_group (opened labels exit None) exits) (suc m) before after e) in
         record { at = subst (λ to. GroupAt code site (within_group (opened labels to None) exits) (suc m) group (length before) (length after)) ends there.at; begins = there.begins }
+    basic_at (DoCase place number alternative group) labels exits m before after e begins =
+        let exit = length before + basic_size n site (DoCase place number alternative group) in
+        let own = loop_place (here_at site) m in
+        let ends : exit ≡ length after = sym (basic_longer n site (DoCase place number alternative group) labels exits m before after e) in
+        let given = number_given place (cell_of n site m 0) _ after e in
+        let is : IsCell code given.0 own = subst (λ p. IsCell code given.0 p) (let same : own + 0 ≡ own = omega arith in same) (cell_is code n site numbered m 0 given.0 given.1) in
+        let there = both_placed code {A = λ from to. ExpressionAt code site number from to}
+        {B = λ from to. (begin : ℕ) × KeepsAt code own from begin × (none : ℕ) × CasesAt code site (within_group (opened labels exit None) exits) own (after_alternative (suc m) alternative) group begin none exit
+        × UncasedAt code site (within_group (opened labels exit None) exits) (suc m) alternative none to}
+        (expression_code n site before number) _ before after given.2
+        (λ valued got begun. expression_at code n site numbered number before valued got begun)
+        (λ valued got. selecting_at alternative group (within_group (opened labels exit None) exits) place given.0 own exit m valued after is (cases_at group) (uncased_at alternative) got begins)
+        in record {
+          at = subst (λ to. (middle : ℕ) × (begin : ℕ) × (none : ℕ) × ExpressionAt code site number (length before) middle × KeepsAt code own middle begin
+              × CasesAt code site (within_group (opened labels to None) exits) own (after_alternative (suc m) alternative) group begin none to
+              × UncasedAt code site (within_group (opened labels to None) exits) (suc m) alternative none (length after)) ends
+              (there.at.0, there.at.2.0, there.at.2.2, there.at.1, there.at.2.1, there.at.2.3, there.at.2.4);
+          begins = there.begins;
+        }
     basic_at (DoLoop place g group) labels exits m before after e begins =
         let exit = length before + basic_size n site (DoLoop place g group) in
         let ends : exit ≡ length after = sym (basic_longer n site (DoLoop place g group) labels exits m before after e) in
@@ -139,6 +258,24 @@ module _ (code : Code) (n : Numbering) (site : Site) (numbered : IsNumbered code
               (there.at.0, there.at.2.0, there.at.1, there.at.2.1, there.at.2.2, there.at.2.3);
           begins = there.begins;
         }
+    basic_at (DoFor place false variable span g group) labels exits m before after e begins =
+        let exit = length before + basic_size n site (DoFor place false variable span g group) in
+        let own = loop_place (here_at site) m in
+        let ends : exit ≡ length after = sym (basic_longer n site (DoFor place false variable span g group) labels exits m before after e) in
+        let given = cells_given place (cells_of n site false m) _ after e in
+        let are = cells_are code n site numbered m given.0 given.1 in
+        let there = spanned_at given.0 own are place variable.name span g group labels exits m exit before after (group_at group)
+        (unnested (begin_code n site before place variable.name given.0 exit span) (λ begun. first_span_code n site begun g exit) _ after given.2) ends begins in
+        record {
+          at = subst (λ to. (again : ℕ) × SpannedAt code site variable.name own g (λ begin end. GroupAt code site (within_group (opened labels to (Some again)) exits) (suc m) group begin end) span (length before) again (length after)) ends (
+            there.at.2,
+            subst (λ to. SpannedAt code site variable.name own g (λ begin end. GroupAt code site (within_group (opened labels exit (Some there.at.2)) exits) (suc m) group begin end) span (length before) there.at.2 to) ends
+                (span_there given.0 own are place variable.name span g (λ begin end. GroupAt code site (within_group (opened labels exit (Some there.at.2)) exits) (suc m) group begin end) (length before) there.at.0 there.at.1 there.at.2 exit
+                there.at.3 there.at.4 there.at.5 there.at.6
+                (subst (λ to. AgainAt code n site numbered given.0 own are place variable.name span g there.at.2 there.at.1 to) (sym ends) there.at.7)),
+          );
+          begins = there.begins;
+        }
     basic_at (Exit place label) labels exits m before after e begins =
         let given = single_placed code n site numbered instr.Jump (exit_of exits.groups (label_name label)) place before after e begins in weaker code before after (λ from to at. (given.0, given.1, at)) given.2
     basic_at (Repeat place label) labels exits m before after e begins =
@@ -148,16 +285,18 @@ module _ (code : Code) (n : Numbering) (site : Site) (numbered : IsNumbered code
     basic_at (Call place name arguments []) labels exits m before after e begins = procedure_at code n site numbered name.name arguments place before after e begins
     basic_at (Call place name arguments (receiver ∷ receivers)) labels exits m before after e begins = absurd (cc)
     basic_at (Read place channel receivers) labels exits m before after e begins =
-        let given = channel_given place (channel_of channel) _ after e in
+        let given = number_given place (channel_of site channel) _ after e in
         weaker code before after (λ from to at. (given.0, channel_at code n site numbered channel given.0 given.1, at)) (reads_at code n site numbered given.0 receivers before after given.2 begins)
     basic_at (Write place channel items) labels exits m before after e begins =
-        let given = channel_given place (channel_of channel) _ after e in
+        let given = number_given place (channel_of site channel) _ after e in
         weaker code before after (λ from to at. (given.0, at.0, channel_at code n site numbered channel given.0 given.1, at.1, at.2))
         (both_placed code (items_code n site before items) (λ middle. emit_one middle place (instr.Print given.0)) before after given.2 (λ middle there begun. items_at code n site numbered items before middle there begun)
         (λ middle there. one_placed code middle after (instr.Print given.0) (ok_is _ after there) begins))
     basic_at (Event one) labels exits m before after e begins = event_change_at code n site numbered one before after e begins
     basic_at (Cancel place names) labels exits m before after e begins = named_or_own_at code n site numbered instr.Cancel names place before after e begins
     basic_at (Terminate place names) labels exits m before after e begins = named_or_own_at code n site numbered instr.Terminate names place before after e begins
+    basic_at (Scheduled place s) labels exits m before after e begins = schedule_at code n site numbered place m s before after e begins
+    basic_at (UpdatePriority place name tree) labels exits m before after e begins = update_priority_at code n site numbered place name tree before after e begins
     basic_at (Wait place tree) labels exits m before after e begins = pause_at code n site numbered delay.For tree place before after e begins
     basic_at (WaitUntil place tree) labels exits m before after e begins = pause_at code n site numbered delay.Until tree place before after e begins
     basic_at (WaitForDependent place) labels exits m before after e begins = one_placed code before after (instr.Wait delay.Dependents) (ok_is _ after e) begins
@@ -169,10 +308,7 @@ module _ (code : Code) (n : Numbering) (site : Site) (numbered : IsNumbered code
     basic_at (SendError place at group its number) labels exits m before after e begins = raise_at code n site numbered group number place before after e begins
     basic_at (OnErrorResponse place s r one) labels exits m before after e begins = response_at code n site numbered s r one place before after e begins
     basic_at (OffError place s) labels exits m before after e begins = off_at code n site numbered s place before after e begins
-    basic_at (DoCase place selector _ group) labels exits m before after e begins = absurd (cc)
-    basic_at (DoFor place temporary variable span guard group) labels exits m before after e begins = absurd (cc)
-    basic_at (Scheduled place schedule) labels exits m before after e begins = absurd (cc)
-    basic_at (UpdatePriority place name priority) labels exits m before after e begins = absurd (cc)
+    basic_at (DoFor place true variable span g group) labels exits m before after e begins = absurd (cc)
     basic_at (OnErrorStatement place selector handler) labels exits m before after e begins = absurd (cc)
 
     -- what stands after ELSE, to which the condition leads at this address
@@ -191,6 +327,26 @@ module _ (code : Code) (n : Numbering) (site : Site) (numbered : IsNumbered code
           at = (subst (λ to. Has code (length before) (instr.Jump to)) ends there.at.0, subst (λ from. StatementAt code site exits m one from (length after)) begin there.at.1);
           begins = there.begins;
         }
+
+    -- what DO CASE does where its number selects no statement
+    uncased_at : (alternative : Alternative) → UncasedStands alternative
+    uncased_at NoAlternative exits place m before after e begins = one_placed code before after (instr.Raise 1 6) (ok_is _ after e) begins
+    uncased_at (Otherwise one) exits place m before after e begins = statement_at one exits m before after e begins
+
+    cases_at : (group : Group) → SelectionStands group
+    cases_at (Groups list close) exits place cell own target m before after is e begins = selected_at list exits place cell own target m 1 before after is e begins
+
+    selected_at : (list : Statements) → CasesStand list
+    selected_at NoStatements exits place cell own target m k before after is e begins = none_placed code before after (ok_is before after e) begins
+    selected_at (MoreStatements first others) exits place cell own target m k before after is e begins =
+        weaker code before after
+        (λ from to at. (at.0, at.2.0, subst (λ far. CaseAt code own k from far at.0) (let far : at.0 + (statement_size n site first + 1) ≡ suc at.2.0 = omega (arith, at.2.2) in far) at.1, at.2.1, at.2.3, at.2.4))
+        (both_placed code {A = λ from to. CaseAt code own k from (to + (statement_size n site first + 1)) to}
+        {B = λ from to. (end : ℕ) × StatementAt code site exits m first from end × (end ≡ from + statement_size n site first) × Has code end (instr.Jump target)
+        × SelectedAt code site exits own (after_statement m first) (suc k) others (suc end) to target}
+        (case_code before place cell k (statement_size n site first)) _ before after e
+        (λ tested there begun. case_at code cell own is k (statement_size n site first) place before tested there begun)
+        (λ tested there. selected_first first others exits place cell own target m k tested after is (statement_at first) (selected_at others) there begins))
 
     group_at : (group : Group) → GroupStands group
     group_at (Groups list close) exits m before after e begins = statements_at list exits m before after e begins

@@ -1,10 +1,10 @@
 -- The code of statements without parts, and of the parts of statements that are no expressions: None where there is none yet.
 use Rattle.std.specs.Prelude.{ℕ, zero, suc, nat_lt, length, Bool, true, false, List, [], ◌∷◌, ◌++◌, Option, Some, None, if◌then◌else◌}
 use Rattle.std.specs.Option.{option_map, option_and_then}
-use Rattle.hal_grammar.specs.Leaves.{Naming, LiteralValue, Integer}
+use Rattle.hal_grammar.specs.Leaves.{Naming}
 use Rattle.hal_grammar.specs.Declarations as declarations
 use Rattle.hal_grammar.specs.Declarations.{CharacterKind}
-use Rattle.hal_grammar.specs.Expressions.{Expression, Literal, Decimal, Reference, Refers}
+use Rattle.hal_grammar.specs.Expressions.{Expression, Decimal, Reference, Refers}
 use Rattle.hal_grammar.specs.Statements.{Selector, EveryError, GroupErrors, OneError, Eventful, EventAction, Signal, Set, Reset, Response}
 use Rattle.hal_grammar.specs.Units.{Head, Function, Returns, NoKind, HasKind}
 use Rattle.hal_operations.specs.declared.operation.Op1.TheVariants as op1
@@ -19,12 +19,9 @@ use Rattle.hal_meaning.specs.Variables.{kind_of_first}
 use Rattle.hal_code.specs.declared.choice.Choice.TheVariants as choice
 use Rattle.hal_code.specs.declared.instr.Instr.{Instr}
 use Rattle.hal_code.specs.declared.instr.Instr.TheVariants as instr
-use Rattle.hal_code.specs.declared.operand.Delay.{Delay}
 use Rattle.hal_code.specs.declared.operand.Delay.TheVariants as delay
 use Rattle.hal_code.specs.declared.operand.EventChange.{EventChange}
 use Rattle.hal_code.specs.declared.operand.EventChange.TheVariants as change
-use Rattle.hal_code.specs.declared.operand.Time.{Time}
-use Rattle.hal_code.specs.declared.operand.Time.TheVariants as time
 use Rattle.hal_agreement.specs.PlacedStatements.{Leaving, ToFinish, ByReturn, ByResult, changes, sets, response_of}
 use Rattle.hal_agreement.specs.Sites.{Site, here_at}
 use Rattle.hal_gen_expr.specs.Numbering.{below}
@@ -38,15 +35,6 @@ kind_referred path other = kind.Double
 
 abbrev pub kind_of_receiver : Site → Reference → Kind
 kind_of_receiver site (Refers place name path subscript) = kind_referred path (referent site name)
-
--- a channel that is written as an integer
-abbrev pub channel_in : LiteralValue → Option ℕ
-channel_in (Integer number) = below 256 number
-channel_in other = None
-
-abbrev pub channel_of : Expression → Option ℕ
-channel_of (Literal place literal) = channel_in literal
-channel_of other = None
 
 -- RETURN without a value
 abbrev pub return_of : Leaving → Option (List Instr)
@@ -83,18 +71,33 @@ result_of other body = None
 abbrev pub event_change_of : Site → Eventful → Option (List Instr)
 event_change_of site e = option_map (λ number. changes e.action number ∷ []) (below 65536 (event_named site.set.phrases site.block e.name.name))
 
--- a pause whose time is written as a decimal
+-- a time that is written as a decimal
 abbrev pub decimal_of : Expression → Option ℕ
 decimal_of (Decimal place number) = Some number
 decimal_of other = None
 
-abbrev pub pause_of : (Time → Delay) → Expression → Option (List Instr)
-pause_of delays tree = option_map (λ number. instr.Wait (delays (time.Milliseconds number)) ∷ []) (decimal_of tree)
+-- the number of an event expression of the set, where an instruction has room for it
+abbrev pub stated_number : Site → ℕ → Option ℕ
+stated_number site x = if nat_lt x (length site.set.tables.expressions) then below 4294967296 x else None
 
--- a pause until an event expression of the set is TRUE
+-- the first and the last of a statement's event expressions
+abbrev pub head_of : List ℕ → Option ℕ
+head_of [] = None
+head_of (x ∷ xs) = Some x
+
+abbrev pub last_of : Option ℕ → List ℕ → Option ℕ
+last_of found [] = found
+last_of found (x ∷ xs) = last_of (Some x) xs
+
+abbrev pub first_event : Site → List ℕ → Option ℕ
+first_event site xs = option_and_then (stated_number site) (head_of xs)
+
+abbrev pub last_event : Site → List ℕ → Option ℕ
+last_event site xs = option_and_then (stated_number site) (last_of None xs)
+
+-- a pause until the first one is TRUE
 abbrev pub event_pause_of : Site → List ℕ → Option (List Instr)
-event_pause_of site [] = None
-event_pause_of site (x ∷ xs) = if nat_lt x (length site.set.tables.expressions) then option_map (λ number. instr.Wait (delay.Event number) ∷ []) (below 4294967296 x) else None
+event_pause_of site xs = option_map (λ number. instr.Wait (delay.Event number) ∷ []) (first_event site xs)
 
 -- the number of a process that is named
 abbrev pub named_process : Site → Naming → Option ℕ

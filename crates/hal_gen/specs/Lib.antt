@@ -1,6 +1,10 @@
+pub mod Constants
 pub mod Leaves
+pub mod Timing
 pub mod Receiving
+pub mod KeptCode
 pub mod Sizes
+pub mod SpanCode
 pub mod StatementCode
 pub mod Leading
 pub mod SeenExits
@@ -11,3 +15,4 @@ pub mod Storing
 pub mod Channels
 pub mod Pausing
 pub mod Asking
+pub mod Procedures

@@ -3,7 +3,7 @@ use Rattle.std.specs.Prelude.{ℕ, ◌+◌, false, List, [], ◌∷◌, length, 
 use Rattle.hal_base.specs.declared.refusal.Place.{Place}
 use Rattle.hal_grammar.specs.Leaves.{Naming}
 use Rattle.hal_grammar.specs.Expressions.{Expression, Expressions, NoExpressions, MoreExpressions, Reference}
-use Rattle.hal_grammar.specs.Statements.{Guard, While, Until, Statement, Labelled, Basic, Assignment, If, Do, DoLoop, Exit, Repeat, Return, Call, Read, Write, Cancel, Terminate, Wait, WaitUntil, WaitForDependent, WaitFor, Event, Update, OnErrorResponse, OffError, SendError, Alternative, NoAlternative, Otherwise, Group, Groups, Statements, NoStatements, MoreStatements}
+use Rattle.hal_grammar.specs.Statements.{Guard, While, Until, Span, Stepped, Listed, Statement, Labelled, Basic, Assignment, If, Do, DoCase, DoLoop, DoFor, Exit, Repeat, Return, Call, Read, Write, Scheduled, UpdatePriority, Cancel, Terminate, Wait, WaitUntil, WaitForDependent, WaitFor, Event, Update, OnErrorResponse, OffError, SendError, Alternative, NoAlternative, Otherwise, Group, Groups, Statements, NoStatements, MoreStatements}
 use Rattle.hal_meaning.specs.Expressions.{inputs_at}
 use Rattle.hal_meaning.specs.Sets.{body_at}
 use Rattle.hal_agreement.specs.Sites.{Site}
@@ -15,6 +15,7 @@ use Rattle.hal_referents.specs.Referents.{Referent, BlockOf}
 use Rattle.hal_gen_expr.specs.Referents.{referent}
 use Rattle.hal_gen.specs.Leaves.{as_result}
 use Rattle.hal_gen.specs.Receiving.{receiver_size}
+use Rattle.hal_gen.specs.Timing.{time_size, schedule_size}
 
 abbrev pub expression_size : Numbering → Site → Expression → ℕ
 expression_size n site tree = length_of (expression_code n site [] tree)
@@ -43,6 +44,39 @@ first_test_size n site (Until place condition) = 0
 abbrev pub test_size : Numbering → Site → Guard → ℕ
 test_size n site (While place condition) = expression_size n site condition + 2
 test_size n site (Until place condition) = expression_size n site condition + 1
+
+-- the test of a DO FOR before its first turn, and before the others
+abbrev pub first_span_size : Numbering → Site → Option Guard → ℕ
+first_span_size n site None = 0
+first_span_size n site (Some g) = first_test_size n site g
+
+abbrev pub later_span_size : Numbering → Site → Option Guard → ℕ
+later_span_size n site None = 1
+later_span_size n site (Some g) = test_size n site g
+
+-- a value of its list, which is stored and counted
+abbrev pub value_size : Numbering → Site → Expression → ℕ
+value_size n site tree = expression_size n site tree + 5
+
+-- the values behind the first one, each with a test before it and a jump behind it, and a jump behind them
+abbrev pub next_values_size : Numbering → Site → Expressions → ℕ
+next_values_size n site NoExpressions = 1
+next_values_size n site (MoreExpressions tree others) = (5 + (value_size n site tree + 1)) + next_values_size n site others
+
+abbrev pub step_size : Numbering → Site → Option Expression → ℕ
+step_size n site None = 1
+step_size n site (Some tree) = expression_size n site tree
+
+-- what stands before its first test, and behind a turn
+abbrev pub begin_size : Numbering → Site → Span → ℕ
+begin_size n site (Stepped first last step) = expression_size n site first + (expression_size n site last + (step_size n site step + 29))
+begin_size n site (Listed NoExpressions) = 0
+begin_size n site (Listed (MoreExpressions first others)) = value_size n site first
+
+abbrev pub again_size : Numbering → Site → Span → ℕ
+again_size n site (Stepped first last step) = 21
+again_size n site (Listed NoExpressions) = 0
+again_size n site (Listed (MoreExpressions first others)) = next_values_size n site others
 
 -- a jump over what stands after ELSE
 abbrev pub jump_size : Alternative → ℕ
@@ -76,7 +110,10 @@ abbrev mutual
   basic_size n site (If place condition consequence alternative) =
       (expression_size n site condition + 1) + (statement_size n site consequence + (jump_size alternative + alternative_size n site alternative))
   basic_size n site (Do place group) = group_size n site group
+  basic_size n site (DoCase place number alternative group) = (expression_size n site number + 2) + (cases_size n site group + uncased_size n site alternative)
   basic_size n site (DoLoop place g group) = (first_test_size n site g + 1) + (group_size n site group + test_size n site g)
+  basic_size n site (DoFor place temporary variable span g group) =
+      ((begin_size n site span + first_span_size n site g) + 1) + (group_size n site group + (again_size n site span + later_span_size n site g))
   basic_size n site (Exit place label) = 1
   basic_size n site (Repeat place label) = 1
   basic_size n site (Return place value) = return_size n site value
@@ -85,8 +122,10 @@ abbrev mutual
   basic_size n site (Write place channel items) = items_size n site items + 1
   basic_size n site (Cancel place names) = names_size names
   basic_size n site (Terminate place names) = names_size names
-  basic_size n site (Wait place tree) = 1
-  basic_size n site (WaitUntil place tree) = 1
+  basic_size n site (Scheduled place s) = schedule_size n site s
+  basic_size n site (UpdatePriority place name tree) = expression_size n site tree + 1
+  basic_size n site (Wait place tree) = time_size n site tree + 1
+  basic_size n site (WaitUntil place tree) = time_size n site tree + 1
   basic_size n site (WaitForDependent place) = 1
   basic_size n site (WaitFor place tree) = 1
   basic_size n site (Event e) = 1
@@ -99,6 +138,19 @@ abbrev mutual
   pub alternative_size : Numbering → Site → Alternative → ℕ
   alternative_size n site NoAlternative = 0
   alternative_size n site (Otherwise one) = statement_size n site one
+
+  -- what DO CASE does where its number selects no statement
+  pub uncased_size : Numbering → Site → Alternative → ℕ
+  uncased_size n site NoAlternative = 1
+  uncased_size n site (Otherwise one) = statement_size n site one
+
+  -- the statements of DO CASE, each with a test before it and a jump behind it
+  pub cases_size : Numbering → Site → Group → ℕ
+  cases_size n site (Groups list close) = selected_size n site list
+
+  pub selected_size : Numbering → Site → Statements → ℕ
+  selected_size n site NoStatements = 0
+  selected_size n site (MoreStatements first others) = (5 + (statement_size n site first + 1)) + selected_size n site others
 
   pub group_size : Numbering → Site → Group → ℕ
   group_size n site (Groups list close) = statements_size n site list

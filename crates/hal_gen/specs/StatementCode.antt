@@ -4,9 +4,9 @@ use Rattle.std.specs.Option.{option_map}
 use Rattle.hal_base.specs.declared.refusal.Place.{Place}
 use Rattle.hal_grammar.specs.Leaves.{Naming}
 use Rattle.hal_grammar.specs.Expressions.{Expression, Expressions, NoExpressions, MoreExpressions, Reference}
-use Rattle.hal_grammar.specs.Statements.{Guard, While, Until, Statement, Labelled, Basic, Null, Assignment, If, Do, DoCase, DoLoop, DoFor, Exit, Repeat, Return, Call, Read, Write, Cancel, Terminate, Wait, WaitUntil, WaitForDependent, WaitFor, Event, Scheduled, UpdatePriority, Update, OnErrorStatement, OnErrorResponse, OffError, SendError, Alternative, NoAlternative, Otherwise, Group, Groups, Statements, NoStatements, MoreStatements}
+use Rattle.hal_grammar.specs.Statements.{Guard, While, Until, Span, Statement, Labelled, Basic, Null, Assignment, If, Do, DoCase, DoLoop, DoFor, Exit, Repeat, Return, Call, Read, Write, Cancel, Terminate, Wait, WaitUntil, WaitForDependent, WaitFor, Event, Scheduled, UpdatePriority, Update, OnErrorStatement, OnErrorResponse, OffError, SendError, Alternative, NoAlternative, Otherwise, Group, Groups, Statements, NoStatements, MoreStatements}
 use Rattle.hal_meaning.specs.Expressions.{inputs_at}
-use Rattle.hal_meaning.specs.Marks.{after_statement}
+use Rattle.hal_meaning.specs.Marks.{after_statement, after_alternative}
 use Rattle.hal_meaning.specs.RealTime.{stated_at_mark}
 use Rattle.hal_meaning.specs.Sets.{body_at}
 use Rattle.hal_meaning.specs.Statements.{label_name, update_groups}
@@ -21,8 +21,13 @@ use Rattle.hal_gen_expr.specs.Leaves.{call_of}
 use Rattle.hal_gen_expr.specs.Numbering.{Numbering, below}
 use Rattle.hal_referents.specs.Referents.{Referent, BlockOf}
 use Rattle.hal_gen_expr.specs.Referents.{referent}
-use Rattle.hal_gen.specs.Leaves.{kind_of_receiver, channel_of, return_of, result_of, event_change_of, pause_of, event_pause_of, named_or_own_of, response_code, off_of, raise_of}
+use Rattle.hal_gen.specs.Constants.{channel_of}
+use Rattle.hal_gen.specs.Leaves.{kind_of_receiver, return_of, result_of, event_change_of, event_pause_of, named_or_own_of, response_code, off_of, raise_of}
+use Rattle.hal_gen.specs.KeptCode.{cell_of, keeping, case_code, cells_of}
 use Rattle.hal_gen.specs.Receiving.{receiver_code, receiver_size}
+use Rattle.hal_gen.specs.SpanCode.{begin_code, again_code}
+use Rattle.hal_gen.specs.Timing.{pause_code, schedule_code, update_priority_code}
+use Rattle.hal_gen.specs.declared.kept.Cells.{Cells}
 use Rattle.hal_gen.specs.Sizes.{statement_size, group_size, statements_size, jump_size, basic_size}
 
 -- receivers get the value on the stack from left to right, each but the last one from a copy
@@ -37,10 +42,10 @@ abbrev pub items_code : Numbering → Site → List Instr → Expressions → Em
 items_code n site before NoExpressions = Ok before
 items_code n site before (MoreExpressions first others) = onwards (expression_code n site before first) (λ middle. items_code n site (middle ++ (instr.Item ∷ [])) others)
 
--- something is done with a channel
-abbrev pub with_channel : Place → Option ℕ → (ℕ → Emitted) → Emitted
-with_channel place None go = Err place
-with_channel place (Some channel) go = go channel
+-- something is done with a number
+abbrev pub with_number : Place → Option ℕ → (ℕ → Emitted) → Emitted
+with_number place None go = Err place
+with_number place (Some number) go = go number
 
 -- receivers of READ: for each INPUT of its kind, behind which control goes to the next one where there is no datum, and its store
 abbrev pub reads_code : Numbering → Site → List Instr → ℕ → List Reference → Emitted
@@ -62,6 +67,27 @@ abbrev pub test_code : Numbering → Site → List Instr → Guard → ℕ → �
 test_code n site before (While place condition) turn exit =
     onwards (expression_code n site before condition) (λ middle. emit middle place (Some (instr.JumpNot exit ∷ instr.Jump turn ∷ [])))
 test_code n site before (Until place condition) turn exit = condition_code n site before place condition turn
+
+-- the test of a DO FOR before its first turn, and before the others
+abbrev pub first_span_code : Numbering → Site → List Instr → Option Guard → ℕ → Emitted
+first_span_code n site before None exit = Ok before
+first_span_code n site before (Some g) exit = first_test_code n site before g exit
+
+abbrev pub later_span_code : Numbering → Site → List Instr → Place → Option Guard → ℕ → ℕ → Emitted
+later_span_code n site before place None turn exit = emit_one before place (instr.Jump turn)
+later_span_code n site before place (Some g) turn exit = test_code n site before g turn exit
+
+-- what stands before its first turn, and behind each
+abbrev pub span_start_code : Numbering → Site → List Instr → Place → List ℕ → Cells → ℕ → Span → Option Guard → Emitted
+span_start_code n site before place name c exit span g = onwards (begin_code n site before place name c exit span) (λ begun. first_span_code n site begun g exit)
+
+abbrev pub span_end_code : Numbering → Site → List Instr → Place → List ℕ → Cells → ℕ → Span → Option Guard → ℕ → Emitted
+span_end_code n site before place name c exit span g turn = onwards (again_code n site before place name c exit span) (λ counted. later_span_code n site counted place g turn exit)
+
+-- something is done with the own places of a DO FOR
+abbrev pub with_cells : Place → Option Cells → (Cells → Emitted) → Emitted
+with_cells place None go = Err place
+with_cells place (Some c) go = go c
 
 -- a jump
 abbrev pub jump_to : Option ℕ → Option (List Instr)
@@ -91,23 +117,37 @@ abbrev mutual
       (λ tested. onwards (statement_code n site (tested ++ (instr.JumpNot (suc (length tested) + (statement_size n site consequence + jump_size alternative)) ∷ [])) exits m consequence)
       (λ middle. alternative_code n site middle exits (after_statement m consequence) alternative))
   basic_code n site before exits m labels (Do place group) = group_code n site before (within_group (opened labels (length before + group_size n site group) None) exits) (suc m) group
+  basic_code n site before exits m labels (DoCase place number alternative group) =
+      with_number place (cell_of n site m 0)
+      (λ cell. onwards (expression_code n site before number)
+      (λ valued. onwards (cases_code n site (keeping valued cell) (within_group (opened labels (length before + basic_size n site (DoCase place number alternative group)) None) exits) place cell
+      (length before + basic_size n site (DoCase place number alternative group)) (after_alternative (suc m) alternative) group)
+      (λ middle. uncased_code n site middle (within_group (opened labels (length before + basic_size n site (DoCase place number alternative group)) None) exits) place (suc m) alternative)))
   basic_code n site before exits m labels (DoLoop place g group) =
       onwards (first_test_code n site before g (length before + basic_size n site (DoLoop place g group)))
       (λ tested. onwards (group_code n site (tested ++ (instr.Turn (length before + basic_size n site (DoLoop place g group)) ∷ []))
       (within_group (opened labels (length before + basic_size n site (DoLoop place g group)) (Some (suc (length tested) + group_size n site group))) exits) (suc m) group)
       (λ middle. test_code n site middle g (length tested) (length before + basic_size n site (DoLoop place g group))))
+  basic_code n site before exits m labels (DoFor place temporary variable span g group) =
+      with_cells place (cells_of n site temporary m)
+      (λ c. onwards (span_start_code n site before place variable.name c (length before + basic_size n site (DoFor place temporary variable span g group)) span g)
+      (λ tested. onwards (group_code n site (tested ++ (instr.Turn (length before + basic_size n site (DoFor place temporary variable span g group)) ∷ []))
+      (within_group (opened labels (length before + basic_size n site (DoFor place temporary variable span g group)) (Some (suc (length tested) + group_size n site group))) exits) (suc m) group)
+      (λ middle. span_end_code n site middle place variable.name c (length before + basic_size n site (DoFor place temporary variable span g group)) span g (length tested))))
   basic_code n site before exits m labels (Exit place label) = emit before place (jump_to (exit_of exits.groups (label_name label)))
   basic_code n site before exits m labels (Repeat place label) = emit before place (jump_to (again_of exits.groups (label_name label)))
   basic_code n site before exits m labels (Return place value) = returning_code n site before exits place value
   basic_code n site before exits m labels (Call place name arguments []) = procedure_code n site before place arguments (referent site name.name)
-  basic_code n site before exits m labels (Read place channel receivers) = with_channel place (channel_of channel) (λ number. reads_code n site before number receivers)
+  basic_code n site before exits m labels (Read place channel receivers) = with_number place (channel_of site channel) (λ number. reads_code n site before number receivers)
   basic_code n site before exits m labels (Write place channel items) =
-      with_channel place (channel_of channel) (λ number. onwards (items_code n site before items) (λ middle. emit_one middle place (instr.Print number)))
+      with_number place (channel_of site channel) (λ number. onwards (items_code n site before items) (λ middle. emit_one middle place (instr.Print number)))
   basic_code n site before exits m labels (Event e) = emit before e.place (event_change_of site e)
   basic_code n site before exits m labels (Cancel place names) = emit before place (named_or_own_of site instr.Cancel names)
   basic_code n site before exits m labels (Terminate place names) = emit before place (named_or_own_of site instr.Terminate names)
-  basic_code n site before exits m labels (Wait place tree) = emit before place (pause_of delay.For tree)
-  basic_code n site before exits m labels (WaitUntil place tree) = emit before place (pause_of delay.Until tree)
+  basic_code n site before exits m labels (Scheduled place s) = schedule_code n site before place (stated_at_mark (here_at site) m) s
+  basic_code n site before exits m labels (UpdatePriority place name tree) = update_priority_code n site before place name tree
+  basic_code n site before exits m labels (Wait place tree) = pause_code n site before place delay.For tree
+  basic_code n site before exits m labels (WaitUntil place tree) = pause_code n site before place delay.Until tree
   basic_code n site before exits m labels (WaitForDependent place) = emit_one before place (instr.Wait delay.Dependents)
   basic_code n site before exits m labels (WaitFor place tree) = emit before place (event_pause_of site (stated_at_mark (here_at site) m))
   basic_code n site before exits m labels (Update place body close) =
@@ -117,10 +157,6 @@ abbrev mutual
   basic_code n site before exits m labels (OnErrorResponse place s r e) = emit before place (response_code site s r e)
   basic_code n site before exits m labels (OffError place s) = emit before place (off_of s)
   basic_code n site before exits m labels (Call place name arguments (receiver ∷ receivers)) = Err place
-  basic_code n site before exits m labels (DoCase place selector _ group) = Err place
-  basic_code n site before exits m labels (DoFor place temporary variable span guard group) = Err place
-  basic_code n site before exits m labels (Scheduled place schedule) = Err place
-  basic_code n site before exits m labels (UpdatePriority place name priority) = Err place
   basic_code n site before exits m labels (OnErrorStatement place selector handler) = Err place
 
   -- what stands after ELSE, with a jump over it behind the consequence
@@ -128,6 +164,23 @@ abbrev mutual
   alternative_code n site before exits m NoAlternative = Ok before
   alternative_code n site before exits m (Otherwise one) =
       statement_code n site (before ++ (instr.Jump (suc (length before) + statement_size n site one) ∷ [])) exits m one
+
+  -- what DO CASE at this place does where its number selects no statement
+  pub uncased_code : Numbering → Site → List Instr → Exits → Place → ℕ → Alternative → Emitted
+  uncased_code n site before exits place m NoAlternative = emit_one before place (instr.Raise 1 6)
+  uncased_code n site before exits place m (Otherwise one) = statement_code n site before exits m one
+
+  -- the statements of DO CASE, whose number this cell holds, and from which control goes on at a target
+  pub cases_code : Numbering → Site → List Instr → Exits → Place → ℕ → ℕ → ℕ → Group → Emitted
+  cases_code n site before exits place cell target m (Groups list close) = selected_code n site before exits place cell target m 1 list
+
+  -- statements of which the first one has this number
+  pub selected_code : Numbering → Site → List Instr → Exits → Place → ℕ → ℕ → ℕ → ℕ → Statements → Emitted
+  selected_code n site before exits place cell target m k NoStatements = Ok before
+  selected_code n site before exits place cell target m k (MoreStatements first others) =
+      onwards (case_code before place cell k (statement_size n site first))
+      (λ tested. onwards (statement_code n site tested exits m first)
+      (λ middle. selected_code n site (middle ++ (instr.Jump target ∷ [])) exits place cell target (after_statement m first) (suc k) others))
 
   pub group_code : Numbering → Site → List Instr → Exits → ℕ → Group → Emitted
   group_code n site before exits m (Groups list close) = statements_code n site before exits m list

@@ -5,7 +5,7 @@ use Rattle.hal_grammar.specs.Statements.{Statement}
 use Rattle.hal_agreement.specs.Sites.{Site}
 use Rattle.hal_gen_expr.specs.Numbering.{Numbering}
 use Rattle.hal_gen.specs.Receiving.{receiver_size}
-use Rattle.hal_gen.specs.Sizes.{expression_size, statement_size}
+use Rattle.hal_gen.specs.Sizes.{expression_size, value_size, statement_size}
 
 -- a size with those of the items of WRITE
 unfoldable pub with_items : Numbering → Site → ℕ → List Expression → ℕ
@@ -21,3 +21,13 @@ with_statements n site size (one ∷ others) = with_statements n site (size + st
 unfoldable pub with_receivers : Numbering → Site → ℕ → List Reference → ℕ
 with_receivers n site size [] = size
 with_receivers n site size (one ∷ others) = with_receivers n site (size + (1 + receiver_size n site one)) others
+
+-- a size with those of the statements of DO CASE
+unfoldable pub with_cases : Numbering → Site → ℕ → List Statement → ℕ
+with_cases n site size [] = size
+with_cases n site size (one ∷ others) = with_cases n site (size + (5 + (statement_size n site one + 1))) others
+
+-- a size with those of the values of a DO FOR behind the first one
+unfoldable pub with_values : Numbering → Site → ℕ → List Expression → ℕ
+with_values n site size [] = size
+with_values n site size (tree ∷ others) = with_values n site (size + (5 + (value_size n site tree + 1))) others

@@ -3,59 +3,37 @@
 ghost use Rattle.std.specs.Prelude.{◌≡◌, map};
 ghost use Rattle.hal_tree.specs.Rows.{expressions};
 ghost use Rattle.hal_tree.specs.SeenExpressions.{seen_expression, seen_reference};
-ghost use Rattle.hal_tree.specs.SeenLeaves.{seen_literal};
 ghost use Rattle.hal_code.specs.declared.instr.Instr.TheVariants as instr;
 ghost use Rattle.hal_gen_expr.specs.Emits.{Emits};
 ghost use Rattle.hal_gen_expr.specs.Emitting.{onwards};
 ghost use Rattle.hal_gen_expr.specs.ExpressionCode as expressing;
 ghost use Rattle.hal_gen_expr.specs.SeenSites.{seen_site, seen_numbering, IsSite};
 ghost use Rattle.hal_gen.specs.Channels as channels;
-ghost use Rattle.hal_gen.specs.Leaves as leaves;
+ghost use Rattle.hal_gen.specs.Constants as constants;
 ghost use Rattle.hal_gen.specs.StatementCode as codes;
 
+use crate::constants::integer_of;
 use crate::receivers::{emit_receiver, kind_of_receiver, receiver_size};
 use crate::sizes::sum;
 use hal_base::Place;
 use hal_code::Instr;
 use hal_gen_expr::{Site, Uncoded, emit_expression, emit_one, push};
-use hal_tree::{Expr, LiteralValue, Reference};
+use hal_tree::{Expr, Reference};
 
-/// The channel that a literal is: an integer below 256.
-fn channel_in(literal: LiteralValue) -> Option<u8>
-    ensures { result ≡ leaves.channel_in (seen_literal literal) }
+/// The channel that an integer is: one below 256.
+fn channel_in(number: i32) -> Option<u8>
+    ensures { result ≡ constants.channel_in number }
 {
-    match literal {
-        LiteralValue::Integer(number) => u8::try_from(number).ok(),
-        LiteralValue::Text(_) => None,
-        LiteralValue::Bits { .. } => None,
-        LiteralValue::True => None,
-        LiteralValue::False => None,
-        LiteralValue::On => None,
-        LiteralValue::Off => None,
-    }
+    u8::try_from(number).ok()
 }
 
-/// The channel that an expression is, where it is written as an integer.
-#[tactic(auto, using(hal_tree::proofs::MadeExpressions::made_or, hal_tree::proofs::MadeExpressions::made_and, hal_tree::proofs::MadeExpressions::made_compare, hal_tree::proofs::MadeExpressions::made_cat, hal_tree::proofs::MadeExpressions::made_sum, hal_tree::proofs::MadeExpressions::made_product, hal_tree::proofs::MadeExpressions::made_power, hal_tree::proofs::MadeExpressions::made_not, hal_tree::proofs::MadeExpressions::made_literal, hal_tree::proofs::MadeExpressions::made_decimal, hal_tree::proofs::MadeExpressions::made_referred, hal_tree::proofs::MadeExpressions::made_call, hal_tree::proofs::MadeExpressions::made_convert, hal_tree::proofs::MadeExpressions::made_parenthesis))]
-fn channel_of(tree: &Expr) -> Option<u8>
-    ensures { result ≡ leaves.channel_of (seen_expression tree.now) }
+/// The channel that a constant expression is (language document, Statements).
+fn channel_of(tree: &Expr, site: &Site<'_>) -> Option<u8>
+    requires site { IsSite site.now }
+    ensures { result ≡ constants.channel_of (seen_site site.now) (seen_expression tree.now) }
 {
-    match tree {
-        Expr::Literal { place: _, literal } => channel_in(*literal),
-        Expr::Or { .. } => None,
-        Expr::And { .. } => None,
-        Expr::Compare { .. } => None,
-        Expr::Cat { .. } => None,
-        Expr::Sum { .. } => None,
-        Expr::Product { .. } => None,
-        Expr::Power { .. } => None,
-        Expr::Not { .. } => None,
-        Expr::Decimal { .. } => None,
-        Expr::Reference(_) => None,
-        Expr::Call { .. } => None,
-        Expr::Convert { .. } => None,
-        Expr::Parenthesis { .. } => None,
-    }
+    let number = integer_of(tree, site)?;
+    channel_in(number)
 }
 
 /// Adds INPUT of a receiver, behind which control goes to the next one where there is no datum, and its store.
@@ -107,9 +85,9 @@ pub(crate) fn emit_input(
     place: Place,
 ) -> Result<(), Uncoded>
     requires site { IsSite site.now }
-    ensures { Emits (codes.with_channel place (leaves.channel_of (seen_expression channel.now)) (λ number. codes.reads_code (seen_numbering site.now) (seen_site site.now) code.old.items number (map seen_reference receivers.now))) result code.new.items }
+    ensures { Emits (codes.with_number place (constants.channel_of (seen_site site.now) (seen_expression channel.now)) (λ number. codes.reads_code (seen_numbering site.now) (seen_site site.now) code.old.items number (map seen_reference receivers.now))) result code.new.items }
 {
-    let Some(channel) = channel_of(channel) else {
+    let Some(channel) = channel_of(channel, site) else {
         return Err(Uncoded::At(place));
     };
     emit_reads(receivers, code, site, channel)
@@ -137,9 +115,9 @@ pub(crate) fn emit_output(
     place: Place,
 ) -> Result<(), Uncoded>
     requires site { IsSite site.now }
-    ensures { Emits (codes.with_channel place (leaves.channel_of (seen_expression channel.now)) (λ number. onwards (codes.items_code (seen_numbering site.now) (seen_site site.now) code.old.items (expressions (map seen_expression items.now))) (λ middle. expressing.emit_one middle place (instr.Print number)))) result code.new.items }
+    ensures { Emits (codes.with_number place (constants.channel_of (seen_site site.now) (seen_expression channel.now)) (λ number. onwards (codes.items_code (seen_numbering site.now) (seen_site site.now) code.old.items (expressions (map seen_expression items.now))) (λ middle. expressing.emit_one middle place (instr.Print number)))) result code.new.items }
 {
-    let Some(channel) = channel_of(channel) else {
+    let Some(channel) = channel_of(channel, site) else {
         return Err(Uncoded::At(place));
     };
     emit_items(items, code, site)?;

@@ -1,6 +1,6 @@
 //! SIGNAL, SET and RESET, and WAIT FOR of an event expression.
 
-ghost use Rattle.std.specs.Prelude.{◌≡◌, map};
+ghost use Rattle.std.specs.Prelude.{◌≡◌, map, None};
 ghost use Rattle.hal_tree.specs.SeenStatements.{seen_action, seen_event};
 ghost use Rattle.hal_event_expressions.specs.SeenStated.{seen_stated};
 ghost use Rattle.hal_meaning.specs.Events as events;
@@ -9,6 +9,7 @@ ghost use Rattle.hal_agreement.specs.PlacedStatements as placed;
 ghost use Rattle.hal_agreement.specs.Sites.{here_at};
 ghost use Rattle.hal_gen_expr.specs.Emits.{Emits};
 ghost use Rattle.hal_gen_expr.specs.Emitting as emitting;
+ghost use Rattle.hal_gen_expr.specs.Numbering.{below};
 ghost use Rattle.hal_gen_expr.specs.SeenSites.{seen_site, IsSite};
 ghost use Rattle.hal_gen.specs.Leaves as leaves;
 ghost use Rattle.hal_gen.specs.Pausing as pausing;
@@ -72,28 +73,67 @@ fn first_stated(expressions: &[Stated], statement: usize) -> Option<usize>
     None
 }
 
-/// The pause until the event expression with this number is TRUE.
-fn event_pause(number: usize) -> Option<Instr>
-    ensures { result ≡ pausing.event_pause number }
+/// The number of the last one.
+#[tactic(auto, unfolding(crate::specs::Pausing::last_stated))]
+fn last_stated(expressions: &[Stated], statement: usize) -> Option<usize>
+    ensures { result ≡ pausing.last_stated 0 statement None (map seen_stated expressions.now) }
+{
+    let mut found = None;
+    for (number, one) in expressions.iter().enumerate() {
+        if one.statement == statement {
+            found = Some(number);
+        }
+    }
+    found
+}
+
+/// A number, where an instruction has room for it.
+fn narrow(number: usize) -> Option<u32>
+    ensures { result ≡ below 4294967296 number }
 {
     match u32::try_from(number) {
-        Ok(number) => Some(Instr::Wait(Delay::Event(number))),
+        Ok(number) => Some(number),
         Err(_) => None,
     }
 }
 
-/// The pause of the WAIT FOR that is the mark with this number.
+/// The number of the first event expression of the statement that is the mark with this number, as it is found.
 #[tactic(auto, unfolding(hal_gen_expr::specs::SeenSites::seen_site))]
-fn pause_at(site: &Site<'_>, mark: usize) -> Option<Instr>
-    ensures { result ≡ pausing.pause_at_mark (seen_site site.now) mark }
+fn first_at(site: &Site<'_>, mark: usize) -> Option<u32>
+    ensures { result ≡ pausing.first_at_mark (seen_site site.now) mark }
 {
     let statement = site.marks.get(mark)?;
     let number = first_stated(&site.set.layout.expressions, *statement)?;
-    event_pause(number)
+    narrow(number)
+}
+
+/// And of the last one.
+#[tactic(auto, unfolding(hal_gen_expr::specs::SeenSites::seen_site))]
+fn last_at(site: &Site<'_>, mark: usize) -> Option<u32>
+    ensures { result ≡ pausing.last_at_mark (seen_site site.now) mark }
+{
+    let statement = site.marks.get(mark)?;
+    let number = last_stated(&site.set.layout.expressions, *statement)?;
+    narrow(number)
+}
+
+/// The number of the first event expression of the statement that is the mark with this number (language document, Events).
+#[tactic(auto, using(crate::proofs::Paused::first_given))]
+pub(crate) fn first_event(site: &Site<'_>, mark: usize) -> Option<u32>
+    ensures { result ≡ leaves.first_event (seen_site site.now) (stated_at_mark (here_at (seen_site site.now)) mark) }
+{
+    first_at(site, mark)
+}
+
+/// And of its last one.
+#[tactic(auto, using(crate::proofs::Paused::last_given))]
+pub(crate) fn last_event(site: &Site<'_>, mark: usize) -> Option<u32>
+    ensures { result ≡ leaves.last_event (seen_site site.now) (stated_at_mark (here_at (seen_site site.now)) mark) }
+{
+    last_at(site, mark)
 }
 
 /// Adds WAIT FOR of the event expression of the mark with this number (language document, Statements).
-#[tactic(auto, using(crate::proofs::Paused::pause_stated))]
 pub(crate) fn emit_event_pause(
     code: &mut Vec<Instr>,
     site: &Site<'_>,
@@ -102,8 +142,8 @@ pub(crate) fn emit_event_pause(
 ) -> Result<(), Uncoded>
     ensures { Emits (emitting.emit code.old.items place (leaves.event_pause_of (seen_site site.now) (stated_at_mark (here_at (seen_site site.now)) mark))) result code.new.items }
 {
-    match pause_at(site, mark) {
+    match first_event(site, mark) {
         None => Err(Uncoded::At(place)),
-        Some(instr) => emit_one(code, place, instr),
+        Some(number) => emit_one(code, place, Instr::Wait(Delay::Event(number))),
     }
 }

@@ -142,6 +142,25 @@ pub(crate) fn in_group<'a>(
     )
 }
 
+/// Where control goes from inside a DO CASE whose end stands there.
+pub(crate) fn in_cases<'a>(
+    exits: &Exits<'a>,
+    labels: &'a [Identifier],
+    site: &Site<'_>,
+    exit: usize,
+) -> Result<Exits<'a>, AllocError>
+    ensures { IfOk result (λ inner. seen_exits inner ≡ placed.within_group (placed.opened (map seen_name labels.now) exit None) (seen_exits exits.now)) }
+{
+    exits.within(
+        site.alloc,
+        Opened {
+            labels,
+            exit,
+            again: None,
+        },
+    )
+}
+
 /// Where control goes from inside a loop whose TURN stands there, and whose end there.
 pub(crate) fn in_loop<'a>(
     exits: &Exits<'a>,

@@ -51,7 +51,10 @@ fn after_group(tree: &Group, mark: usize) -> Result<usize, AllocError>
 
 /// The same of what stands after ELSE.
 #[cycle(marks)]
-fn after_alternative(tree: &Option<Box<Statement>>, mark: usize) -> Result<usize, AllocError>
+pub(crate) fn after_alternative(
+    tree: &Option<Box<Statement>>,
+    mark: usize,
+) -> Result<usize, AllocError>
     ensures { IfOk result (λ following. following ≡ marks.after_alternative mark (seen_alternative tree.now)) }
 {
     match tree {

@@ -1,9 +1,7 @@
-//! WAIT, CANCEL and TERMINATE.
+//! CANCEL and TERMINATE.
 
 ghost use Rattle.std.specs.Prelude.{◌≡◌, map};
-ghost use Rattle.hal_tree.specs.SeenExpressions.{seen_expression};
 ghost use Rattle.hal_tree.specs.SeenLeaves.{seen_name};
-ghost use Rattle.hal_code.specs.declared.operand.Delay.TheVariants as delay;
 ghost use Rattle.hal_values.specs.Tables as tables;
 ghost use Rattle.hal_meaning.specs.RealTime as meaning;
 ghost use Rattle.hal_agreement.specs.Sites.{here_at};
@@ -16,67 +14,9 @@ ghost use Rattle.hal_gen.specs.Pausing as pausing;
 
 use crate::events::event_number;
 use hal_base::Place;
-use hal_code::{Delay, Instr, Time};
+use hal_code::Instr;
 use hal_gen_expr::{Site, Uncoded, emit_one};
-use hal_tree::{Expr, Identifier};
-
-/// A time that is written as a decimal, in milliseconds.
-#[tactic(auto, using(hal_tree::proofs::MadeExpressions::made_or, hal_tree::proofs::MadeExpressions::made_and, hal_tree::proofs::MadeExpressions::made_compare, hal_tree::proofs::MadeExpressions::made_cat, hal_tree::proofs::MadeExpressions::made_sum, hal_tree::proofs::MadeExpressions::made_product, hal_tree::proofs::MadeExpressions::made_power, hal_tree::proofs::MadeExpressions::made_not, hal_tree::proofs::MadeExpressions::made_literal, hal_tree::proofs::MadeExpressions::made_decimal, hal_tree::proofs::MadeExpressions::made_referred, hal_tree::proofs::MadeExpressions::made_call, hal_tree::proofs::MadeExpressions::made_convert, hal_tree::proofs::MadeExpressions::made_parenthesis))]
-fn decimal_of(tree: &Expr) -> Option<u64>
-    ensures { result ≡ leaves.decimal_of (seen_expression tree.now) }
-{
-    match tree {
-        Expr::Decimal {
-            place: _,
-            thousandths,
-        } => Some(*thousandths),
-        Expr::Or { .. } => None,
-        Expr::And { .. } => None,
-        Expr::Compare { .. } => None,
-        Expr::Cat { .. } => None,
-        Expr::Sum { .. } => None,
-        Expr::Product { .. } => None,
-        Expr::Power { .. } => None,
-        Expr::Not { .. } => None,
-        Expr::Literal { .. } => None,
-        Expr::Reference(_) => None,
-        Expr::Call { .. } => None,
-        Expr::Convert { .. } => None,
-        Expr::Parenthesis { .. } => None,
-    }
-}
-
-/// Adds WAIT of a time that is written as a decimal; others have no code yet (language document, Statements).
-pub(crate) fn emit_wait(time: &Expr, code: &mut Vec<Instr>, place: Place) -> Result<(), Uncoded>
-    ensures { Emits (emitting.emit code.old.items place (leaves.pause_of delay.For (seen_expression time.now))) result code.new.items }
-{
-    match decimal_of(time) {
-        None => Err(Uncoded::At(place)),
-        Some(number) => emit_one(
-            code,
-            place,
-            Instr::Wait(Delay::For(Time::Milliseconds(number))),
-        ),
-    }
-}
-
-/// Adds WAIT UNTIL of one.
-pub(crate) fn emit_wait_until(
-    time: &Expr,
-    code: &mut Vec<Instr>,
-    place: Place,
-) -> Result<(), Uncoded>
-    ensures { Emits (emitting.emit code.old.items place (leaves.pause_of delay.Until (seen_expression time.now))) result code.new.items }
-{
-    match decimal_of(time) {
-        None => Err(Uncoded::At(place)),
-        Some(number) => emit_one(
-            code,
-            place,
-            Instr::Wait(Delay::Until(Time::Milliseconds(number))),
-        ),
-    }
-}
+use hal_tree::Identifier;
 
 /// What is asked of processes that are named.
 #[derive(Clone, Copy)]
@@ -117,7 +57,7 @@ fn process_named(site: &Site<'_>, name: &Identifier) -> u16
 }
 
 /// The number of a process that is named, where an instruction has room for it.
-fn named_process(site: &Site<'_>, name: &Identifier) -> Option<u8>
+pub(crate) fn named_process(site: &Site<'_>, name: &Identifier) -> Option<u8>
     requires site { IsSite site.now }
     ensures { result ≡ leaves.named_process (seen_site site.now) (seen_name name.now) }
 {

@@ -8,7 +8,11 @@ ghost use Rattle.hal_elements.specs.SeenComponents.{seen_component};
 ghost use Rattle.hal_referents.specs.SeenReferents.{seen_meant, seen_referent};
 ghost use Rattle.hal_meaning.specs.Elements as elements;
 ghost use Rattle.hal_meaning.specs.Variables as variables;
+ghost use Rattle.hal_code.specs.declared.operand.Places.TheVariants as places;
+ghost use Rattle.hal_agreement.specs.PlacedExpressions as placing;
+ghost use Rattle.hal_agreement.specs.PlacedStatements as placed;
 ghost use Rattle.hal_gen_expr.specs.Emits.{Emits};
+ghost use Rattle.hal_gen_expr.specs.ExpressionCode as expressing;
 ghost use Rattle.hal_gen_expr.specs.SeenSites.{seen_site, seen_numbering, IsSite};
 ghost use Rattle.hal_gen.specs.Leaves as leaves;
 ghost use Rattle.hal_gen.specs.Receiving as receiving;
@@ -16,18 +20,72 @@ ghost use Rattle.hal_gen.specs.StatementCode as codes;
 ghost use Rattle.hal_gen.specs.Storing as storing;
 
 use hal_base::Place;
-use hal_code::Instr;
+use hal_code::{Choice, Instr, Places};
 use hal_elements::Component;
 use hal_gen_expr::{
-    Site, Uncoded, are_none, emit_chosen, emit_one, is_arrayed, leads, led_by, push, referent,
-    sizes_led,
+    Site, Uncoded, are_none, emit_chosen, emit_integer, emit_name, emit_one, emit_part, is_arrayed,
+    leads, led_by, places_of, push, referent, sizes_led,
 };
 use hal_referents::{Meant, Referent};
 use hal_tree::{Identifier, Reference, Sub, Subscript};
 use hal_values::Kind;
 use std::alloc::AllocError;
 
-/// Adds the store of the value below an address, behind the subscripts of a component; a receiver that has some has no code yet.
+/// PATCH of such places.
+fn patches(chosen: Places) -> Instr
+    ensures { result ≡ placed.patches chosen }
+{
+    Instr::Patch(Choice::Known(chosen))
+}
+
+/// Adds PATCH of such places of the old value, and the store of it.
+fn emit_patch(code: &mut Vec<Instr>, place: Place, chosen: Places) -> Result<(), Uncoded>
+    ensures { Emits (receiving.patch_code code.old.items place chosen) result code.new.items }
+{
+    emit_one(code, place, patches(chosen))?;
+    emit_one(code, place, Instr::Keep)
+}
+
+/// Adds the store of the value below an address in the place of the component there that a name chooses.
+fn emit_by_name(
+    name: &Identifier,
+    code: &mut Vec<Instr>,
+    site: &Site<'_>,
+    place: Place,
+) -> Result<(), Uncoded>
+    requires site { IsSite site.now }
+    ensures { Emits (receiving.patched_code code.old.items place places.One (λ middle. expressing.name_code (seen_numbering site.now) (seen_site site.now) middle (seen_name name.now))) result code.new.items }
+{
+    emit_one(code, place, Instr::Peek)?;
+    emit_name(code, site, name)?;
+    emit_patch(code, place, Places::One)
+}
+
+/// Adds the store of the value below an address in the place of the component there with this number.
+fn emit_by_integer(code: &mut Vec<Instr>, place: Place, number: u32) -> Result<(), Uncoded>
+    ensures { Emits (receiving.patched_code code.old.items place places.One (λ middle. expressing.integer_code middle place number)) result code.new.items }
+{
+    emit_one(code, place, Instr::Peek)?;
+    emit_integer(code, place, number)?;
+    emit_patch(code, place, Places::One)
+}
+
+/// Adds the store of the value below an address in the places of the component there that a subscript chooses.
+fn emit_by_part(
+    sub: &Sub,
+    code: &mut Vec<Instr>,
+    site: &Site<'_>,
+    place: Place,
+) -> Result<(), Uncoded>
+    requires site { IsSite site.now }
+    ensures { Emits (receiving.patched_code code.old.items place (placing.places_of (seen_sub sub.now)) (λ middle. expressing.part_code (seen_numbering site.now) (seen_site site.now) middle place (seen_sub sub.now))) result code.new.items }
+{
+    emit_one(code, place, Instr::Peek)?;
+    emit_part(sub, code, site, place)?;
+    emit_patch(code, place, places_of(sub))
+}
+
+/// Adds the store of the value below an address, in the component of what is there where subscripts choose one.
 #[tactic(auto, unfolding(hal_tree::specs::Rows::subscripts))]
 fn emit_stored(
     components: &[Sub],
@@ -35,12 +93,16 @@ fn emit_stored(
     site: &Site<'_>,
     place: Place,
 ) -> Result<(), Uncoded>
+    requires site { IsSite site.now }
     ensures { Emits (receiving.stored_code (seen_numbering site.now) (seen_site site.now) code.old.items place (subscripts (map seen_sub components.now))) result code.new.items }
 {
-    match components.split_first() {
-        None => emit_one(code, place, Instr::Keep),
-        Some(_) => Err(Uncoded::At(place)),
+    let Some((first, others)) = components.split_first() else {
+        return emit_one(code, place, Instr::Keep);
+    };
+    if !are_none(others) {
+        return Err(Uncoded::At(place));
     }
+    emit_by_part(first, code, site, place)
 }
 
 /// Adds the store of the value below an address, in a receiver with an array or without one.
@@ -52,22 +114,27 @@ fn emit_received(
     place: Place,
     arrayed: bool,
 ) -> Result<(), Uncoded>
+    requires site { IsSite site.now }
     ensures { Emits (receiving.received_code (seen_numbering site.now) (seen_site site.now) code.old.items place arrayed (seen_subscript subscript.now)) result code.new.items }
 {
     match subscript {
         Subscript::None => emit_one(code, place, Instr::Keep),
-        Subscript::Name { .. } => {
+        Subscript::Name { place: _, name } => {
             if arrayed {
                 emit_one(code, place, Instr::Keep)
             } else {
-                Err(Uncoded::At(place))
+                emit_by_name(name, code, site, place)
             }
         }
-        Subscript::Integer { .. } => {
+        Subscript::Integer {
+            place: _,
+            at: _,
+            number,
+        } => {
             if arrayed {
                 emit_one(code, place, Instr::Keep)
             } else {
-                Err(Uncoded::At(place))
+                emit_by_integer(code, place, *number)
             }
         }
         Subscript::Parts {

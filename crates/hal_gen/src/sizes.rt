@@ -3,19 +3,23 @@
 
 ghost use Rattle.std.specs.Prelude.{◌≡◌, ◌+◌, IfOk, length, map};
 ghost use Rattle.std.specs.Option.{option_map};
+ghost use Rattle.hal_grammar.specs.Statements as grammar;
 ghost use Rattle.hal_tree.specs.Rows.{expressions, statements};
 ghost use Rattle.hal_tree.specs.SeenExpressions.{seen_expression, seen_reference};
 ghost use Rattle.hal_tree.specs.SeenLeaves.{seen_name};
-ghost use Rattle.hal_tree.specs.SeenStatements.{seen_alternative, seen_basic, seen_group, seen_guard, seen_statement};
+ghost use Rattle.hal_tree.specs.SeenStatements.{seen_alternative, seen_basic, seen_group, seen_guard, seen_span, seen_statement};
 ghost use Rattle.hal_meaning.specs.Sets.{body_at};
 ghost use Rattle.hal_gen_expr.specs.SeenSites.{seen_site, seen_numbering, IsSite};
 ghost use Rattle.hal_gen.specs.Leaves as leaves;
 ghost use Rattle.hal_gen.specs.Sizes as sizes;
 
+use crate::calls::call_size;
 use crate::receivers::receiver_size;
 use crate::returns::gives_text;
+use crate::schedules::schedule_size;
+use crate::times::time_size;
 use hal_gen_expr::{Site, Uncoded, emit_expression};
-use hal_tree::{Basic, Expr, Group, Guard, Identifier, Reference, Statement};
+use hal_tree::{Basic, Expr, Group, Guard, Identifier, Reference, Span, Statement};
 use std::alloc::AllocError;
 
 /// The size of two phrases.
@@ -26,6 +30,13 @@ pub(crate) fn sum(first: usize, second: usize) -> Result<usize, AllocError>
         None => Err(AllocError),
         Some(size) => Ok(size),
     }
+}
+
+/// The size of three phrases.
+fn sum_of(first: usize, second: usize, third: usize) -> Result<usize, AllocError>
+    ensures { IfOk result (λ size. size ≡ first + (second + third)) }
+{
+    sum(first, sum(second, third)?)
 }
 
 /// The size of an expression, 0 where it has no code.
@@ -39,6 +50,22 @@ pub(crate) fn expression_size(tree: &Expr, site: &Site<'_>) -> Result<usize, All
         Err(Uncoded::At(_)) => Ok(0),
         Err(Uncoded::Memory(error)) => Err(error),
     }
+}
+
+/// The size of a condition, with the jump behind it.
+fn condition_size(tree: &Expr, site: &Site<'_>) -> Result<usize, AllocError>
+    requires site { IsSite site.now }
+    ensures { IfOk result (λ size. size ≡ sizes.expression_size (seen_numbering site.now) (seen_site site.now) (seen_expression tree.now) + 1) }
+{
+    sum(expression_size(tree, site)?, 1)
+}
+
+/// The size of the number of a DO CASE, with what keeps it.
+fn number_size(tree: &Expr, site: &Site<'_>) -> Result<usize, AllocError>
+    requires site { IsSite site.now }
+    ensures { IfOk result (λ size. size ≡ sizes.expression_size (seen_numbering site.now) (seen_site site.now) (seen_expression tree.now) + 2) }
+{
+    sum(expression_size(tree, site)?, 2)
 }
 
 /// The size of the items of WRITE.
@@ -135,6 +162,131 @@ fn test_size(guard: &Guard, site: &Site<'_>) -> Result<usize, AllocError>
     }
 }
 
+/// The size of the test of a DO FOR before its first turn.
+fn first_span_size(guard: &Option<Guard>, site: &Site<'_>) -> Result<usize, AllocError>
+    requires site { IsSite site.now }
+    ensures { IfOk result (λ size. size ≡ sizes.first_span_size (seen_numbering site.now) (seen_site site.now) (option_map seen_guard guard.now)) }
+{
+    match guard {
+        None => Ok(0),
+        Some(guard) => first_test_size(guard, site),
+    }
+}
+
+/// The size of each later one.
+fn later_span_size(guard: &Option<Guard>, site: &Site<'_>) -> Result<usize, AllocError>
+    requires site { IsSite site.now }
+    ensures { IfOk result (λ size. size ≡ sizes.later_span_size (seen_numbering site.now) (seen_site site.now) (option_map seen_guard guard.now)) }
+{
+    match guard {
+        None => Ok(1),
+        Some(guard) => test_size(guard, site),
+    }
+}
+
+/// The size of a value of a DO FOR's list, which is stored and counted.
+pub(crate) fn value_size(tree: &Expr, site: &Site<'_>) -> Result<usize, AllocError>
+    requires site { IsSite site.now }
+    ensures { IfOk result (λ size. size ≡ sizes.value_size (seen_numbering site.now) (seen_site site.now) (seen_expression tree.now)) }
+{
+    sum(expression_size(tree, site)?, 5)
+}
+
+/// The size of values behind the first one, each with a test before it and a jump behind it.
+#[tactic(auto, unfolding(crate::specs::Sums::with_values))]
+fn values_size(values: &[Expr], site: &Site<'_>) -> Result<usize, AllocError>
+    requires site { IsSite site.now }
+    ensures { IfOk result (λ size. size + 1 ≡ sizes.next_values_size (seen_numbering site.now) (seen_site site.now) (expressions (map seen_expression values.now))) }
+{
+    let mut size: usize = 0;
+    for tree in values {
+        size = sum(size, sum(5, sum(value_size(tree, site)?, 1)?)?)?;
+    }
+    Ok(size)
+}
+
+/// The same with the jump behind them.
+pub(crate) fn next_values_size(values: &[Expr], site: &Site<'_>) -> Result<usize, AllocError>
+    requires site { IsSite site.now }
+    ensures { IfOk result (λ size. size ≡ sizes.next_values_size (seen_numbering site.now) (seen_site site.now) (expressions (map seen_expression values.now))) }
+{
+    sum(values_size(values, site)?, 1)
+}
+
+/// The size of the step of a DO FOR with TO.
+fn step_size(step: &Option<Expr>, site: &Site<'_>) -> Result<usize, AllocError>
+    requires site { IsSite site.now }
+    ensures { IfOk result (λ size. size ≡ sizes.step_size (seen_numbering site.now) (seen_site site.now) (option_map seen_expression step.now)) }
+{
+    match step {
+        None => Ok(1),
+        Some(tree) => expression_size(tree, site),
+    }
+}
+
+/// The size of the bounds of a DO FOR with TO, with what stores and tests them.
+fn bounds_size(
+    first: &Expr,
+    last: &Expr,
+    step: &Option<Expr>,
+    site: &Site<'_>,
+) -> Result<usize, AllocError>
+    requires site { IsSite site.now }
+    ensures { IfOk result (λ size. size ≡ sizes.expression_size (seen_numbering site.now) (seen_site site.now) (seen_expression first.now) + (sizes.expression_size (seen_numbering site.now) (seen_site site.now) (seen_expression last.now) + (sizes.step_size (seen_numbering site.now) (seen_site site.now) (option_map seen_expression step.now) + 29))) }
+{
+    let rest = sum(step_size(step, site)?, 29)?;
+    let ends = sum(expression_size(last, site)?, rest)?;
+    sum(expression_size(first, site)?, ends)
+}
+
+/// The size of the first value of a list.
+#[tactic(auto, unfolding(hal_tree::specs::Rows::expressions))]
+fn first_value_size(values: &[Expr], site: &Site<'_>) -> Result<usize, AllocError>
+    requires site { IsSite site.now }
+    ensures { IfOk result (λ size. size ≡ sizes.begin_size (seen_numbering site.now) (seen_site site.now) (grammar.Listed (expressions (map seen_expression values.now)))) }
+{
+    match values {
+        [] => Ok(0),
+        [first, ..] => value_size(first, site),
+    }
+}
+
+/// The size of the others.
+#[tactic(auto, unfolding(hal_tree::specs::Rows::expressions))]
+fn other_values_size(values: &[Expr], site: &Site<'_>) -> Result<usize, AllocError>
+    requires site { IsSite site.now }
+    ensures { IfOk result (λ size. size ≡ sizes.again_size (seen_numbering site.now) (seen_site site.now) (grammar.Listed (expressions (map seen_expression values.now)))) }
+{
+    match values {
+        [] => Ok(0),
+        [_, others @ ..] => next_values_size(others, site),
+    }
+}
+
+/// The size of what stands before the first test of a DO FOR.
+#[tactic(auto, unfolding(hal_tree::specs::SeenStatements::seen_span))]
+fn begin_size(span: &Span, site: &Site<'_>) -> Result<usize, AllocError>
+    requires site { IsSite site.now }
+    ensures { IfOk result (λ size. size ≡ sizes.begin_size (seen_numbering site.now) (seen_site site.now) (seen_span span.now)) }
+{
+    match span {
+        Span::Range { first, last, step } => bounds_size(first, last, step, site),
+        Span::List { values } => first_value_size(values, site),
+    }
+}
+
+/// The size of what stands behind a turn, before the test.
+#[tactic(auto, unfolding(hal_tree::specs::SeenStatements::seen_span))]
+fn again_size(span: &Span, site: &Site<'_>) -> Result<usize, AllocError>
+    requires site { IsSite site.now }
+    ensures { IfOk result (λ size. size ≡ sizes.again_size (seen_numbering site.now) (seen_site site.now) (seen_span span.now)) }
+{
+    match span {
+        Span::Range { .. } => Ok(21),
+        Span::List { values } => other_values_size(values, site),
+    }
+}
+
 /// The size of a jump over what stands after ELSE.
 pub(crate) fn jump_size(alternative: &Option<Box<Statement>>) -> usize
     ensures { result ≡ sizes.jump_size (seen_alternative alternative.now) }
@@ -223,6 +375,76 @@ fn alternative_size(tree: &Option<Box<Statement>>, site: &Site<'_>) -> Result<us
     }
 }
 
+/// The size of what DO CASE does where its number selects no statement.
+#[cycle(sizes)]
+fn uncased_size(tree: &Option<Box<Statement>>, site: &Site<'_>) -> Result<usize, AllocError>
+    requires site { IsSite site.now }
+    ensures { IfOk result (λ size. size ≡ sizes.uncased_size (seen_numbering site.now) (seen_site site.now) (seen_alternative tree.now)) }
+{
+    match tree {
+        None => Ok(1),
+        Some(statement) => statement_size(statement, site),
+    }
+}
+
+/// The size of the statements of DO CASE, each with a test before it and a jump behind it.
+#[cycle(sizes)]
+#[tactic(auto, unfolding(crate::specs::Sums::with_cases))]
+fn selected_size(trees: &[Statement], site: &Site<'_>) -> Result<usize, AllocError>
+    requires site { IsSite site.now }
+    ensures { IfOk result (λ size. size ≡ sizes.selected_size (seen_numbering site.now) (seen_site site.now) (statements (map seen_statement trees.now))) }
+{
+    let mut size: usize = 0;
+    for tree in trees {
+        size = sum(size, sum(5, sum(statement_size(tree, site)?, 1)?)?)?;
+    }
+    Ok(size)
+}
+
+/// The size of a group of DO CASE.
+#[cycle(sizes)]
+#[tactic(auto, using(hal_tree::proofs::MadeStatements::parts_of_group))]
+fn cases_size(tree: &Group, site: &Site<'_>) -> Result<usize, AllocError>
+    requires site { IsSite site.now }
+    ensures { IfOk result (λ size. size ≡ sizes.cases_size (seen_numbering site.now) (seen_site site.now) (seen_group tree.now)) }
+{
+    selected_size(&tree.statements, site)
+}
+
+/// The size of a DO CASE.
+pub(crate) fn selection_size(
+    group: &Group,
+    number: &Expr,
+    alternative: &Option<Box<Statement>>,
+    site: &Site<'_>,
+) -> Result<usize, AllocError>
+    requires site { IsSite site.now }
+    ensures { IfOk result (λ size. size ≡ (sizes.expression_size (seen_numbering site.now) (seen_site site.now) (seen_expression number.now) + 2) + (sizes.cases_size (seen_numbering site.now) (seen_site site.now) (seen_group group.now) + sizes.uncased_size (seen_numbering site.now) (seen_site site.now) (seen_alternative alternative.now))) }
+{
+    let begin = number_size(number, site)?;
+    let cases = cases_size(group, site)?;
+    let other = uncased_size(alternative, site)?;
+    sum_of(begin, cases, other)
+}
+
+/// The size of a DO FOR.
+#[cycle(sizes)]
+pub(crate) fn spanned_size(
+    group: &Group,
+    span: &Span,
+    guard: &Option<Guard>,
+    site: &Site<'_>,
+) -> Result<usize, AllocError>
+    requires site { IsSite site.now }
+    ensures { IfOk result (λ size. size ≡ ((sizes.begin_size (seen_numbering site.now) (seen_site site.now) (seen_span span.now) + sizes.first_span_size (seen_numbering site.now) (seen_site site.now) (option_map seen_guard guard.now)) + 1) + (sizes.group_size (seen_numbering site.now) (seen_site site.now) (seen_group group.now) + (sizes.again_size (seen_numbering site.now) (seen_site site.now) (seen_span span.now) + sizes.later_span_size (seen_numbering site.now) (seen_site site.now) (option_map seen_guard guard.now)))) }
+{
+    let test = sum(begin_size(span, site)?, first_span_size(guard, site)?)?;
+    let begin = sum(test, 1)?;
+    let later = sum(again_size(span, site)?, later_span_size(guard, site)?)?;
+    let turn = sum(group_size(group, site)?, later)?;
+    sum(begin, turn)
+}
+
 /// The size of a loop.
 #[cycle(sizes)]
 pub(crate) fn loop_size(group: &Group, guard: &Guard, site: &Site<'_>) -> Result<usize, AllocError>
@@ -234,9 +456,23 @@ pub(crate) fn loop_size(group: &Group, guard: &Guard, site: &Site<'_>) -> Result
     sum(begin, turn)
 }
 
+/// The size of IF, of whose parts these are the sizes.
+fn branch_size(
+    condition: usize,
+    consequence: usize,
+    jump: usize,
+    alternative: usize,
+) -> Result<usize, AllocError>
+    ensures { IfOk result (λ size. size ≡ (condition + 1) + (consequence + (jump + alternative))) }
+{
+    let test = sum(condition, 1)?;
+    let other = sum(jump, alternative)?;
+    sum(test, sum(consequence, other)?)
+}
+
 /// The size of a statement without labels.
 #[cycle(sizes)]
-#[tactic(auto, using(hal_tree::proofs::MadeStatements::made_null, hal_tree::proofs::MadeStatements::made_assignment, hal_tree::proofs::MadeStatements::made_if, hal_tree::proofs::MadeStatements::made_do, hal_tree::proofs::MadeStatements::made_do_case, hal_tree::proofs::MadeStatements::made_do_loop, hal_tree::proofs::MadeStatements::made_do_for, hal_tree::proofs::MadeStatements::made_exit, hal_tree::proofs::MadeStatements::made_repeat, hal_tree::proofs::MadeStatements::made_return, hal_tree::proofs::MadeStatements::made_call_statement, hal_tree::proofs::MadeStatements::made_read, hal_tree::proofs::MadeStatements::made_write, hal_tree::proofs::MadeStatements::made_update, hal_tree::proofs::MadeStatements::made_schedule_statement, hal_tree::proofs::MadeStatements::made_cancel, hal_tree::proofs::MadeStatements::made_terminate, hal_tree::proofs::MadeStatements::made_wait, hal_tree::proofs::MadeStatements::made_wait_until, hal_tree::proofs::MadeStatements::made_wait_for_dependent, hal_tree::proofs::MadeStatements::made_wait_for, hal_tree::proofs::MadeStatements::made_event, hal_tree::proofs::MadeStatements::made_update_priority, hal_tree::proofs::MadeStatements::made_on_error_statement, hal_tree::proofs::MadeStatements::made_on_error_response, hal_tree::proofs::MadeStatements::made_off_error, hal_tree::proofs::MadeStatements::made_send_error, crate::proofs::Counted::call_counted))]
+#[tactic(auto, using(hal_tree::proofs::MadeStatements::made_null, hal_tree::proofs::MadeStatements::made_assignment, hal_tree::proofs::MadeStatements::made_if, hal_tree::proofs::MadeStatements::made_do, hal_tree::proofs::MadeStatements::made_do_case, hal_tree::proofs::MadeStatements::made_do_loop, hal_tree::proofs::MadeStatements::made_do_for, hal_tree::proofs::MadeStatements::made_exit, hal_tree::proofs::MadeStatements::made_repeat, hal_tree::proofs::MadeStatements::made_return, hal_tree::proofs::MadeStatements::made_call_statement, hal_tree::proofs::MadeStatements::made_read, hal_tree::proofs::MadeStatements::made_write, hal_tree::proofs::MadeStatements::made_update, hal_tree::proofs::MadeStatements::made_schedule_statement, hal_tree::proofs::MadeStatements::made_cancel, hal_tree::proofs::MadeStatements::made_terminate, hal_tree::proofs::MadeStatements::made_wait, hal_tree::proofs::MadeStatements::made_wait_until, hal_tree::proofs::MadeStatements::made_wait_for_dependent, hal_tree::proofs::MadeStatements::made_wait_for, hal_tree::proofs::MadeStatements::made_event, hal_tree::proofs::MadeStatements::made_update_priority, hal_tree::proofs::MadeStatements::made_on_error_statement, hal_tree::proofs::MadeStatements::made_on_error_response, hal_tree::proofs::MadeStatements::made_off_error, hal_tree::proofs::MadeStatements::made_send_error))]
 fn basic_size(tree: &Basic, site: &Site<'_>) -> Result<usize, AllocError>
     requires site { IsSite site.now }
     ensures { IfOk result (λ size. size ≡ sizes.basic_size (seen_numbering site.now) (seen_site site.now) (seen_basic tree.now)) }
@@ -248,17 +484,37 @@ fn basic_size(tree: &Basic, site: &Site<'_>) -> Result<usize, AllocError>
             consequence,
             alternative,
         } => {
-            let test = sum(expression_size(condition, site)?, 1)?;
-            let consequence = statement_size(consequence, site)?;
-            let other = sum(jump_size(alternative), alternative_size(alternative, site)?)?;
-            sum(test, sum(consequence, other)?)
+            let tested = expression_size(condition, site)?;
+            let followed = statement_size(consequence, site)?;
+            let otherwise = alternative_size(alternative, site)?;
+            let jump = jump_size(alternative);
+            branch_size(tested, followed, jump, otherwise)
         }
         Basic::Do { place: _, group } => group_size(group, site),
+        Basic::DoCase {
+            place: _,
+            selector,
+            alternative,
+            group,
+        } => {
+            let begin = number_size(selector, site)?;
+            let cases = cases_size(group, site)?;
+            let other = uncased_size(alternative, site)?;
+            sum_of(begin, cases, other)
+        }
         Basic::DoLoop {
             place: _,
             guard,
             group,
         } => loop_size(group, guard, site),
+        Basic::DoFor {
+            place: _,
+            temporary: _,
+            variable: _,
+            span,
+            guard,
+            group,
+        } => spanned_size(group, span, guard, site),
         Basic::Update {
             place: _,
             body,
@@ -284,20 +540,27 @@ fn basic_size(tree: &Basic, site: &Site<'_>) -> Result<usize, AllocError>
         Basic::Terminate { place: _, names } => Ok(names_size(names)),
         Basic::Exit { .. } => Ok(1),
         Basic::Repeat { .. } => Ok(1),
-        Basic::Wait { .. } => Ok(1),
-        Basic::WaitUntil { .. } => Ok(1),
+        Basic::Wait { place: _, time } => sum(time_size(time, site)?, 1),
+        Basic::WaitUntil { place: _, time } => sum(time_size(time, site)?, 1),
         Basic::WaitForDependent { .. } => Ok(1),
         Basic::WaitFor { .. } => Ok(1),
         Basic::Event(_) => Ok(1),
         Basic::OnErrorResponse { .. } => Ok(1),
         Basic::OffError { .. } => Ok(1),
         Basic::SendError { .. } => Ok(1),
-        Basic::Call { .. } => Ok(0),
+        Basic::Call {
+            place,
+            name,
+            arguments,
+            receivers: _,
+        } => call_size(name, arguments, site, *place),
         Basic::Null { .. } => Ok(0),
-        Basic::DoCase { .. } => Ok(0),
-        Basic::DoFor { .. } => Ok(0),
-        Basic::Schedule { .. } => Ok(0),
-        Basic::UpdatePriority { .. } => Ok(0),
+        Basic::Schedule { place: _, schedule } => schedule_size(schedule, site),
+        Basic::UpdatePriority {
+            place: _,
+            name: _,
+            priority,
+        } => sum(expression_size(priority, site)?, 1),
         Basic::OnErrorStatement { .. } => Ok(0),
     }
 }

@@ -13,22 +13,39 @@ ghost use Rattle.hal_gen.specs.SeenLocks.{AreGroups};
 ghost use Rattle.hal_gen.specs.Sizes as sizes;
 ghost use Rattle.hal_gen.specs.StatementCode as codes;
 
+use crate::calls::emit_call;
 use crate::channels::{emit_input, emit_output};
 use crate::errors::{emit_off, emit_raise, emit_response};
 use crate::events::{emit_event, emit_event_pause};
 use crate::exits::{Exits, Leaving};
 use crate::groups::{
-    emit_again, emit_exit, emit_first_test, emit_open, emit_test, in_group, in_loop, other_branch,
+    emit_again, emit_exit, emit_first_test, emit_open, emit_test, in_cases, in_group, in_loop,
+    other_branch,
 };
+use crate::kept::{cell_of, cells_of, emit_case, push_keeping};
 use crate::locks::Locks;
-use crate::marks::{after_statement, next};
-use crate::real_time::{Ask, emit_named, emit_wait, emit_wait_until};
+use crate::loops::{Spanned, emit_span_end, emit_span_start};
+use crate::marks::{after_alternative, after_statement, next};
+use crate::real_time::{Ask, emit_named};
 use crate::receivers::emit_receivers;
 use crate::returns::emit_return;
-use crate::sizes::{loop_size, statement_size, statements_size, sum};
+use crate::schedules::{emit_schedule, emit_update_priority};
+use crate::sizes::{loop_size, selection_size, spanned_size, statement_size, statements_size, sum};
+use crate::times::{emit_wait, emit_wait_until};
+use hal_base::Place;
 use hal_code::{Delay, Instr};
 use hal_gen_expr::{Site, Uncoded, emit_expression, emit_one, push};
 use hal_tree::{Basic, Group, Identifier, Statement};
+
+/// A DO CASE.
+#[derive(Clone, Copy)]
+struct Selection {
+    place: Place,
+    /// The view of the own place that keeps its number.
+    cell: u32,
+    /// Where its code ends.
+    end: usize,
+}
 
 /// Adds the code of a statement before which the next mark has this number, or tells the place of the first part of it that has none yet (image document, Code
 /// that stands for a set).
@@ -135,9 +152,85 @@ fn emit_updating(
     emit_statements(body, code, site, locks, &inner, next(mark)?)
 }
 
+/// Adds the code of the statements of a DO CASE, each behind a test and before a jump to the end.
+#[cycle(statements)]
+#[tactic(auto, unfolding(hal_tree::specs::Rows::statements))]
+fn emit_selected<'a>(
+    list: &'a [Statement],
+    selection: Selection,
+    code: &mut Vec<Instr>,
+    site: &Site<'_>,
+    locks: &Locks<'_>,
+    exits: &Exits<'a>,
+    mark: usize,
+) -> Result<(), Uncoded>
+    requires site { IsSite site.now }
+    requires locks { AreGroups site.now locks.now }
+    ensures { Emits (codes.selected_code (seen_numbering site.now) (seen_site site.now) code.old.items (seen_exits exits.now) selection.place selection.cell selection.end mark 1 (statements (map seen_statement list.now))) result code.new.items }
+{
+    let mut following = mark;
+    let mut number: usize = 1;
+    for tree in list {
+        let size = statement_size(tree, site)?;
+        emit_case(code, selection.place, selection.cell, number, size)?;
+        emit_statement(tree, code, site, locks, exits, following)?;
+        push(code, Instr::Jump(selection.end as u64))?;
+        following = after_statement(tree, following)?;
+        number = next(number)?;
+    }
+    Ok(())
+}
+
+/// Adds the code of the group of a DO CASE.
+#[cycle(statements)]
+#[tactic(auto, using(hal_tree::proofs::MadeStatements::parts_of_group))]
+fn emit_cases<'a>(
+    tree: &'a Group,
+    selection: Selection,
+    code: &mut Vec<Instr>,
+    site: &Site<'_>,
+    locks: &Locks<'_>,
+    exits: &Exits<'a>,
+    mark: usize,
+) -> Result<(), Uncoded>
+    requires site { IsSite site.now }
+    requires locks { AreGroups site.now locks.now }
+    ensures { Emits (codes.cases_code (seen_numbering site.now) (seen_site site.now) code.old.items (seen_exits exits.now) selection.place selection.cell selection.end mark (seen_group tree.now)) result code.new.items }
+{
+    emit_selected(&tree.statements, selection, code, site, locks, exits, mark)
+}
+
+/// Adds what a DO CASE at this place does where its number selects no statement.
+#[cycle(statements)]
+fn emit_uncased<'a>(
+    tree: &'a Option<Box<Statement>>,
+    code: &mut Vec<Instr>,
+    site: &Site<'_>,
+    locks: &Locks<'_>,
+    exits: &Exits<'a>,
+    place: Place,
+    mark: usize,
+) -> Result<(), Uncoded>
+    requires site { IsSite site.now }
+    requires locks { AreGroups site.now locks.now }
+    ensures { Emits (codes.uncased_code (seen_numbering site.now) (seen_site site.now) code.old.items (seen_exits exits.now) place mark (seen_alternative tree.now)) result code.new.items }
+{
+    match tree {
+        None => emit_one(
+            code,
+            place,
+            Instr::Raise {
+                group: 1,
+                number: 6,
+            },
+        ),
+        Some(statement) => emit_statement(statement, code, site, locks, exits, mark),
+    }
+}
+
 /// Adds the code of a statement with these labels; those without code yet tell their place.
 #[cycle(statements)]
-#[tactic(auto, using(hal_tree::proofs::MadeStatements::made_null, hal_tree::proofs::MadeStatements::made_assignment, hal_tree::proofs::MadeStatements::made_if, hal_tree::proofs::MadeStatements::made_do, hal_tree::proofs::MadeStatements::made_do_case, hal_tree::proofs::MadeStatements::made_do_loop, hal_tree::proofs::MadeStatements::made_do_for, hal_tree::proofs::MadeStatements::made_exit, hal_tree::proofs::MadeStatements::made_repeat, hal_tree::proofs::MadeStatements::made_return, hal_tree::proofs::MadeStatements::made_call_statement, hal_tree::proofs::MadeStatements::made_read, hal_tree::proofs::MadeStatements::made_write, hal_tree::proofs::MadeStatements::made_update, hal_tree::proofs::MadeStatements::made_schedule_statement, hal_tree::proofs::MadeStatements::made_cancel, hal_tree::proofs::MadeStatements::made_terminate, hal_tree::proofs::MadeStatements::made_wait, hal_tree::proofs::MadeStatements::made_wait_until, hal_tree::proofs::MadeStatements::made_wait_for_dependent, hal_tree::proofs::MadeStatements::made_wait_for, hal_tree::proofs::MadeStatements::made_event, hal_tree::proofs::MadeStatements::made_update_priority, hal_tree::proofs::MadeStatements::made_on_error_statement, hal_tree::proofs::MadeStatements::made_on_error_response, hal_tree::proofs::MadeStatements::made_off_error, hal_tree::proofs::MadeStatements::made_send_error, crate::proofs::Called::call_uncoded))]
+#[tactic(auto, using(hal_tree::proofs::MadeStatements::made_null, hal_tree::proofs::MadeStatements::made_assignment, hal_tree::proofs::MadeStatements::made_if, hal_tree::proofs::MadeStatements::made_do, hal_tree::proofs::MadeStatements::made_do_case, hal_tree::proofs::MadeStatements::made_do_loop, hal_tree::proofs::MadeStatements::made_do_for, hal_tree::proofs::MadeStatements::made_exit, hal_tree::proofs::MadeStatements::made_repeat, hal_tree::proofs::MadeStatements::made_return, hal_tree::proofs::MadeStatements::made_call_statement, hal_tree::proofs::MadeStatements::made_read, hal_tree::proofs::MadeStatements::made_write, hal_tree::proofs::MadeStatements::made_update, hal_tree::proofs::MadeStatements::made_schedule_statement, hal_tree::proofs::MadeStatements::made_cancel, hal_tree::proofs::MadeStatements::made_terminate, hal_tree::proofs::MadeStatements::made_wait, hal_tree::proofs::MadeStatements::made_wait_until, hal_tree::proofs::MadeStatements::made_wait_for_dependent, hal_tree::proofs::MadeStatements::made_wait_for, hal_tree::proofs::MadeStatements::made_event, hal_tree::proofs::MadeStatements::made_update_priority, hal_tree::proofs::MadeStatements::made_on_error_statement, hal_tree::proofs::MadeStatements::made_on_error_response, hal_tree::proofs::MadeStatements::made_off_error, hal_tree::proofs::MadeStatements::made_send_error, crate::proofs::Called::call_given))]
 fn emit_basic<'a>(
     tree: &'a Basic,
     labels: &'a [Identifier],
@@ -168,6 +261,29 @@ fn emit_basic<'a>(
             let inner = in_group(exits, labels, group, site, code.len())?;
             emit_group(group, code, site, locks, &inner, next(mark)?)
         }
+        Basic::DoCase {
+            place,
+            selector,
+            alternative,
+            group,
+        } => {
+            let Some(cell) = cell_of(site, mark, 0) else {
+                return Err(Uncoded::At(*place));
+            };
+            let size = selection_size(group, selector, alternative, site)?;
+            let end = sum(code.len(), size)?;
+            let inner = in_cases(exits, labels, site, end)?;
+            let selection = Selection {
+                place: *place,
+                cell,
+                end,
+            };
+            emit_expression(selector, code, site)?;
+            push_keeping(code, cell)?;
+            let following = after_alternative(alternative, next(mark)?)?;
+            emit_cases(group, selection, code, site, locks, &inner, following)?;
+            emit_uncased(alternative, code, site, locks, &inner, *place, next(mark)?)
+        }
         Basic::DoLoop {
             place: _,
             guard,
@@ -180,6 +296,30 @@ fn emit_basic<'a>(
             let inner = in_loop(exits, labels, group, site, turn, exit)?;
             emit_group(group, code, site, locks, &inner, next(mark)?)?;
             emit_test(guard, code, site, turn, exit)
+        }
+        Basic::DoFor {
+            place,
+            temporary,
+            variable,
+            span,
+            guard,
+            group,
+        } => {
+            let Some(cells) = cells_of(site, *temporary, mark) else {
+                return Err(Uncoded::At(*place));
+            };
+            let exit = sum(code.len(), spanned_size(group, span, guard, site)?)?;
+            let spanned = Spanned {
+                place: *place,
+                cells,
+                exit,
+            };
+            emit_span_start(span, guard, code, site, &variable.name, spanned)?;
+            let turn = code.len();
+            push(code, Instr::Turn(exit as u64))?;
+            let inner = in_loop(exits, labels, group, site, turn, exit)?;
+            emit_group(group, code, site, locks, &inner, next(mark)?)?;
+            emit_span_end(span, guard, code, site, &variable.name, spanned, turn)
         }
         Basic::Update {
             place,
@@ -215,8 +355,8 @@ fn emit_basic<'a>(
         Basic::Event(change) => emit_event(change, code, site),
         Basic::Cancel { place, names } => emit_named(names, code, site, *place, Ask::Cancel),
         Basic::Terminate { place, names } => emit_named(names, code, site, *place, Ask::Terminate),
-        Basic::Wait { place, time } => emit_wait(time, code, *place),
-        Basic::WaitUntil { place, time } => emit_wait_until(time, code, *place),
+        Basic::Wait { place, time } => emit_wait(time, code, site, *place),
+        Basic::WaitUntil { place, time } => emit_wait_until(time, code, site, *place),
         Basic::WaitForDependent { place } => emit_one(code, *place, Instr::Wait(Delay::Dependents)),
         Basic::WaitFor { place, .. } => emit_event_pause(code, site, *place, mark),
         Basic::OnErrorResponse {
@@ -232,11 +372,18 @@ fn emit_basic<'a>(
             number,
             ..
         } => emit_raise(code, *place, *group, *number),
-        Basic::Call { place, .. } => Err(Uncoded::At(*place)),
-        Basic::DoCase { place, .. } => Err(Uncoded::At(*place)),
-        Basic::DoFor { place, .. } => Err(Uncoded::At(*place)),
-        Basic::Schedule { place, .. } => Err(Uncoded::At(*place)),
-        Basic::UpdatePriority { place, .. } => Err(Uncoded::At(*place)),
+        Basic::Call {
+            place,
+            name,
+            arguments,
+            receivers,
+        } => emit_call(name, arguments, receivers, code, site, *place),
+        Basic::Schedule { place, schedule } => emit_schedule(schedule, code, site, *place, mark),
+        Basic::UpdatePriority {
+            place,
+            name,
+            priority,
+        } => emit_update_priority(name, priority, code, site, *place),
         Basic::OnErrorStatement { place, .. } => Err(Uncoded::At(*place)),
     }
 }

@@ -13,18 +13,19 @@ use Rattle.hal_constants.specs.declared.operation.Operation.TheVariants as opera
 use Rattle.hal_constants.specs.Naming.{operation_of}
 use Rattle.hal_constants.specs.Constants.{is_none}
 use Rattle.hal_meaning.specs.Calls.{parameter_named}
-use Rattle.hal_meaning.specs.Expressions.{is_condition, are_conditions, operation_of_relation, operation_of_sign, operation_of_conversion, is_size, inputs_at, sizes_named}
+use Rattle.hal_meaning.specs.Expressions.{is_condition, are_conditions, operation_of_relation, operation_of_sign, operation_of_conversion, is_size, inputs_at, sizes_named, becomes_condition}
 use Rattle.hal_meaning.specs.Variables.{is_arrayed, is_whole}
 use Rattle.hal_code.specs.declared.instr.Instr.{Instr}
 use Rattle.hal_code.specs.declared.instr.Instr.TheVariants as instr
 use Rattle.hal_code.specs.declared.operand.Places.TheVariants as places
-use Rattle.hal_agreement.specs.PlacedExpressions.{two, stay, picks, places_of}
+use Rattle.hal_agreement.specs.PlacedExpressions.{two, picks, places_of}
 use Rattle.hal_agreement.specs.Sites.{Site}
 use Rattle.hal_gen_expr.specs.Emitting.{Emitted, onwards, emit, length_of}
-use Rattle.hal_gen_expr.specs.ExpressionCode.{where_they_stay, literal_instr, exponent_instr, power_of, behind_arguments, emit_one, emit_any, one, sign_code, integer_instr, name_code, integer_code, cell_code, place_code, array_code, subscripted_code, reference_code, chosen_code, copies_code, indexes_code, index_code, position_code, component_code, parts_code, part_code, called_code, expression_code, folded_code, terms_code, built_code, arguments_code}
+use Rattle.hal_gen_expr.specs.ExpressionCode.{literal_instr, exponent_instr, power_of, behind_arguments, emit_one, emit_any, one, sign_code, integer_instr, name_code, integer_code, cell_code, place_code, array_code, subscripted_code, reference_code, chosen_code, copies_code, indexes_code, index_code, position_code, component_code, parts_code, part_code, called_code, expression_code, folded_code, terms_code, built_code, arguments_code, operand_code, size_code, joined_code}
 use Rattle.hal_gen_expr.specs.Led.{Led, led_to, sizes_led, cell_of}
 use Rattle.hal_gen_expr.specs.Leaves.{is_nil, element_of, value_of, call_of}
 use Rattle.hal_gen_expr.specs.Numbering.{Numbering}
+use Rattle.hal_gen_expr.specs.Sizes.{size_of_arguments}
 use Rattle.hal_referents.specs.Referents.{Referent, DataOf, ConstantOf, EventOf, BlockOf, BuiltinOf, Unmeant}
 use Rattle.hal_gen_expr.specs.Referents.{referent}
 use Rattle.hal_gen_expr.proofs.Growing.{append_append}
@@ -43,7 +44,7 @@ pub onwards_behind : (front : List Instr) (r there : Emitted) (next later : List
 onwards_behind front (Ok code) there next later is each = ap (λ r. onwards r later) is ∙ each code
 onwards_behind front (Err place) there next later is each = ap (λ r. onwards r later) is
 
-if_behind : (b : Bool) (front : List Instr) (r there : Emitted) (place : Place) → there ≡ behind front r → (if b then there else Err place) ≡ behind front (if b then r else Err place)
+pub if_behind : (b : Bool) (front : List Instr) (r there : Emitted) (place : Place) → there ≡ behind front r → (if b then there else Err place) ≡ behind front (if b then r else Err place)
 if_behind true front r there place is = is
 if_behind false front r there place is = refl
 
@@ -61,9 +62,9 @@ call_behind None front r there place is = refl
 call_behind (Some js) front r there place is = onwards_behind front r there (λ middle. Ok (middle ++ js)) (λ middle. Ok (middle ++ js)) is (λ code. ap Ok (append_append front code js))
 
 module _ (n : Numbering) (site : Site) (front : List Instr) where
-  stay_behind : (b : Bool) (before : List Instr) (place : Place) → (if b then Ok (front ++ before) else Err place) ≡ behind front (if b then Ok before else Err place)
-  stay_behind true before place = refl
-  stay_behind false before place = refl
+  operand_behind : (becomes : Bool) (before : List Instr) (place : Place) → operand_code (front ++ before) place becomes ≡ behind front (operand_code before place becomes)
+  operand_behind true before place = emit_behind front before place (Some (instr.Bits 1 0 ∷ two op2.NotEqual ∷ []))
+  operand_behind false before place = refl
 
   sign_behind : (opening : Option Sign) (before : List Instr) (place : Place) → sign_code (front ++ before) place opening ≡ behind front (sign_code before place opening)
   sign_behind (Some Minus) before place = emit_behind front before place (Some (one op1.Minus ∷ []))
@@ -111,28 +112,32 @@ module _ (n : Numbering) (site : Site) (front : List Instr) where
   subscripted_behind (BuiltinOf b) path before place address address_there component a c = valued_behind (BuiltinOf b) path before place component c
   subscripted_behind Unmeant path before place address address_there component a c = refl
 
-  called_behind : (r : Referent) (before : List Instr) (place : Place) (folded : List Instr → Emitted) (built built_there : Operation → Emitted) (arguments arguments_there : ℕ → Emitted)
-      → ((code : List Instr) → folded (front ++ code) ≡ behind front (folded code)) → ((op : Operation) → built_there op ≡ behind front (built op)) → ((unit : ℕ) → arguments_there unit ≡ behind front (arguments unit))
-      → called_code n site (front ++ before) place folded built_there arguments_there r ≡ behind front (called_code n site before place folded built arguments r)
-  called_behind (DataOf k kept shape) before place folded built built_there arguments arguments_there f b a =
+  called_behind : (r : Referent) (before : List Instr) (place : Place) (size size_there : Emitted) (folded : List Instr → Emitted) (built built_there : Operation → Emitted) (arguments arguments_there : ℕ → Emitted)
+      → size_there ≡ behind front size → ((code : List Instr) → folded (front ++ code) ≡ behind front (folded code)) → ((op : Operation) → built_there op ≡ behind front (built op)) → ((unit : ℕ) → arguments_there unit ≡ behind front (arguments unit))
+      → called_code n site (front ++ before) place size_there folded built_there arguments_there r ≡ behind front (called_code n site before place size folded built arguments r)
+  called_behind (DataOf k kept shape) before place size size_there folded built built_there arguments arguments_there s f b a =
       onwards_behind front (emit before place (value_of n site [] (DataOf k kept shape))) _ folded folded (emit_behind front before place (value_of n site [] (DataOf k kept shape))) f
-  called_behind (ConstantOf v) before place folded built built_there arguments arguments_there f b a =
+  called_behind (ConstantOf v) before place size size_there folded built built_there arguments arguments_there s f b a =
       onwards_behind front (emit before place (value_of n site [] (ConstantOf v))) _ folded folded (emit_behind front before place (value_of n site [] (ConstantOf v))) f
-  called_behind (EventOf e) before place folded built built_there arguments arguments_there f b a = refl
-  called_behind (BlockOf unit) before place folded built built_there arguments arguments_there f b a =
+  called_behind (EventOf e) before place size size_there folded built built_there arguments arguments_there s f b a = refl
+  called_behind (BlockOf unit) before place size size_there folded built built_there arguments arguments_there s f b a =
       call_behind (call_of n site true unit) front (arguments unit) (arguments_there unit) place (a unit)
-  called_behind (BuiltinOf one) before place folded built built_there arguments arguments_there f b a =
-      unless_behind (is_size one) front (built (operation_of one)) (built_there (operation_of one)) place (b (operation_of one))
-  called_behind Unmeant before place folded built built_there arguments arguments_there f b a = refl
+  called_behind (BuiltinOf one) before place size size_there folded built built_there arguments arguments_there s f b a =
+      both_behind (is_size one) front size (built (operation_of one)) size_there (built_there (operation_of one)) s (b (operation_of one))
+  called_behind Unmeant before place size size_there folded built built_there arguments arguments_there s f b a = refl
 
   mutual
     pub expression_behind : (tree : Expression) (before : List Instr) → expression_code n site (front ++ before) tree ≡ behind front (expression_code n site before tree)
     expression_behind (Or place first others) before =
-        onwards_behind front (where_they_stay before place first others) _ _ _ (stay_behind (stay (is_condition first || are_conditions others) (MoreExpressions first others)) before place)
-        (λ begun. onwards_behind front (expression_code n site begun first) _ _ _ (expression_behind first begun) (λ code. folded_behind others place op2.Or code))
+        onwards_behind front (expression_code n site before first) _ _ _ (expression_behind first before)
+        (λ code. onwards_behind front (operand_code code place (becomes_condition (is_condition first || are_conditions others) first)) _
+        (λ late. joined_code n site late place op2.Or (is_condition first || are_conditions others) others) (λ late. joined_code n site late place op2.Or (is_condition first || are_conditions others) others)
+        (operand_behind (becomes_condition (is_condition first || are_conditions others) first) code place) (λ late. joined_behind others place op2.Or (is_condition first || are_conditions others) late))
     expression_behind (And place first others) before =
-        onwards_behind front (where_they_stay before place first others) _ _ _ (stay_behind (stay (is_condition first || are_conditions others) (MoreExpressions first others)) before place)
-        (λ begun. onwards_behind front (expression_code n site begun first) _ _ _ (expression_behind first begun) (λ code. folded_behind others place op2.And code))
+        onwards_behind front (expression_code n site before first) _ _ _ (expression_behind first before)
+        (λ code. onwards_behind front (operand_code code place (becomes_condition (is_condition first || are_conditions others) first)) _
+        (λ late. joined_code n site late place op2.And (is_condition first || are_conditions others) others) (λ late. joined_code n site late place op2.And (is_condition first || are_conditions others) others)
+        (operand_behind (becomes_condition (is_condition first || are_conditions others) first) code place) (λ late. joined_behind others place op2.And (is_condition first || are_conditions others) late))
     expression_behind (Compare place left relation right) before =
         onwards_behind front (expression_code n site before left) _ _ _ (expression_behind left before)
         (λ code. onwards_behind front (expression_code n site code right) _ _ _ (expression_behind right code) (λ late. emit_behind front late place (Some (two (operation_of_relation relation) ∷ []))))
@@ -148,12 +153,23 @@ module _ (n : Numbering) (site : Site) (front : List Instr) where
     expression_behind (Decimal place number) before = refl
     expression_behind (Referred reference) before = reference_behind reference before
     expression_behind (Called place name arguments) before =
-        called_behind (referent site name) before place (λ middle. folded_code n site middle place op2.Product arguments) (λ op. built_code n site before place op arguments) (λ op. built_code n site (front ++ before) place op arguments)
+        called_behind (referent site name) before place (size_code site before place arguments) (size_code site (front ++ before) place arguments) (λ middle. folded_code n site middle place op2.Product arguments) (λ op. built_code n site before place op arguments) (λ op. built_code n site (front ++ before) place op arguments)
         (λ unit. arguments_code n site before place unit (inputs_at site.set unit) arguments) (λ unit. arguments_code n site (front ++ before) place unit (inputs_at site.set unit) arguments)
-        (λ code. folded_behind arguments place op2.Product code) (λ op. built_behind arguments op place before) (λ unit. arguments_behind arguments unit (inputs_at site.set unit) place before)
+        (emit_behind front before place (option_map (λ i. i ∷ []) (integer_instr (size_of_arguments site arguments)))) (λ code. folded_behind arguments place op2.Product code) (λ op. built_behind arguments op place before) (λ unit. arguments_behind arguments unit (inputs_at site.set unit) place before)
     expression_behind (Convert place conversion operand) before =
         onwards_behind front (expression_code n site before operand) _ _ _ (expression_behind operand before) (λ code. emit_behind front code place (Some (one (operation_of_conversion conversion) ∷ [])))
     expression_behind (Parenthesis place inner) before = expression_behind inner before
+
+    joined_behind : (trees : Expressions) (place : Place) (op : Op2) (condition : Bool) (before : List Instr)
+        → joined_code n site (front ++ before) place op condition trees ≡ behind front (joined_code n site before place op condition trees)
+    joined_behind NoExpressions place op condition before = refl
+    joined_behind (MoreExpressions first others) place op condition before =
+        onwards_behind front (expression_code n site before first) _ _ _ (expression_behind first before)
+        (λ code. onwards_behind front (operand_code code place (becomes_condition condition first)) _
+        (λ late. onwards (emit_one late place (two op)) (λ last. joined_code n site last place op condition others)) (λ late. onwards (emit_one late place (two op)) (λ last. joined_code n site last place op condition others))
+        (operand_behind (becomes_condition condition first) code place)
+        (λ late. onwards_behind front (emit_one late place (two op)) _ (λ last. joined_code n site last place op condition others) (λ last. joined_code n site last place op condition others) (emit_behind front late place (Some (two op ∷ [])))
+        (λ last. joined_behind others place op condition last)))
 
     folded_behind : (trees : Expressions) (place : Place) (op : Op2) (before : List Instr) → folded_code n site (front ++ before) place op trees ≡ behind front (folded_code n site before place op trees)
     folded_behind NoExpressions place op before = refl

@@ -11,32 +11,36 @@ use Rattle.hal_operations.specs.declared.operation.Op2.TheVariants as op2
 use Rattle.hal_constants.specs.declared.operation.Operation.{Operation}
 use Rattle.hal_constants.specs.declared.operation.Operation.TheVariants as operation
 use Rattle.hal_constants.specs.Naming.{operation_of}
+use Rattle.hal_values.specs.declared.value.Value.{Value}
+use Rattle.hal_values.specs.declared.value.Value.TheVariants as value
 use Rattle.hal_constants.specs.Constants.{is_none}
 use Rattle.hal_values.specs.declared.value.Kind.{Kind}
 use Rattle.hal_states.specs.Spots.{Spot, Held, further}
 use Rattle.hal_meaning.specs.Calls.{parameter_named}
 use Rattle.hal_meaning.specs.Elements.{Shape, chosen, offset, product, copy_size}
-use Rattle.hal_meaning.specs.Expressions.{literal_value, is_condition, are_conditions, exponent_of, operation_of_relation, operation_of_sign, operation_of_conversion, is_size, inputs_at, sizes_named, copies_of, spoken}
+use Rattle.hal_meaning.specs.Expressions.{literal_value, is_condition, are_conditions, exponent_of, operation_of_relation, operation_of_sign, operation_of_conversion, is_size, inputs_at, sizes_named, copies_of, spoken, becomes_condition, size_argument}
 use Rattle.hal_meaning.specs.Places.{Storing}
 use Rattle.hal_meaning.specs.Variables.{is_arrayed, is_whole, Dimension, dimension, dimensions_of, kind_of_first, name_meant, spot_of}
 use Rattle.hal_code.specs.declared.instr.Instr.{Instr}
 use Rattle.hal_code.specs.declared.instr.Instr.TheVariants as instr
 use Rattle.hal_code.specs.declared.operand.Places.TheVariants as places
 use Rattle.hal_agreement.specs.Codes.{Code}
-use Rattle.hal_agreement.specs.PlacedExpressions.{One, BehindAt, PlaceAt, ArrayAt, EitherAt, SubscriptedAt, picks, places_of, ChosenAt, IndexesAt, PositionAt, ComponentAt, PartsAt, PartAt, pushes, two, stay, ValueAt, NameAt, SignAt, ReferenceAt, CalledAt, ExpressionAt, FoldedAt, TermsAt, BuiltAt, ArgumentsAt}
+use Rattle.hal_agreement.specs.PlacedExpressions.{One, BehindAt, PlaceAt, ArrayAt, EitherAt, SubscriptedAt, picks, places_of, ChosenAt, IndexesAt, PositionAt, ComponentAt, PartsAt, PartAt, pushes, two, ValueAt, NameAt, SignAt, ReferenceAt, CalledAt, ExpressionAt, FoldedAt, TermsAt, BuiltAt, ArgumentsAt, OperandAt, JoinedAt}
 use Rattle.hal_agreement.specs.Sites.{Site, here_at}
 use Rattle.hal_gen_expr.specs.Emitting.{Emitted, onwards, emit}
-use Rattle.hal_gen_expr.specs.ExpressionCode.{emit_one, emit_any, integer_instr, name_code, integer_code, cell_code, place_code, array_code, subscripted_code, chosen_code, copies_code, indexes_code, index_code, position_code, component_code, parts_code, part_code, one, literal_instr, raised_to, exponent_instr, power_of, behind_arguments, sign_code, reference_code, called_code, expression_code, folded_code, terms_code, built_code, arguments_code}
+use Rattle.hal_gen_expr.specs.ExpressionCode.{emit_one, emit_any, integer_instr, name_code, integer_code, cell_code, place_code, array_code, subscripted_code, chosen_code, copies_code, indexes_code, index_code, position_code, component_code, parts_code, part_code, one, literal_instr, raised_to, exponent_instr, power_of, behind_arguments, sign_code, reference_code, called_code, expression_code, folded_code, terms_code, built_code, arguments_code, operand_code, size_code, joined_code}
 use Rattle.hal_gen_expr.specs.Led.{Led, led_to, sizes_led, copies_led, dimensions_led, cell_of}
 use Rattle.hal_gen_expr.specs.Leaves.{is_nil, element_of, value_of, call_of}
 use Rattle.hal_gen_expr.specs.Numbering.{Numbering}
+use Rattle.hal_gen_expr.specs.Sizes.{size_of_arguments}
 use Rattle.hal_referents.specs.Referents.{Referent, DataOf, ConstantOf, EventOf, BlockOf, BuiltinOf, Unmeant}
 use Rattle.hal_gen_expr.specs.Referents.{referent}
 use Rattle.hal_gen_expr.specs.Standing.{Begins, IsNumbered, Placed}
-use Rattle.hal_gen_expr.proofs.Growing.{weaker, one_placed, none_placed, first_placed, both_placed, emitted}
+use Rattle.hal_gen_expr.proofs.Growing.{weaker, one_placed, none_placed, first_placed, both_placed, emitted, one_by_one}
 use Rattle.hal_gen_expr.proofs.Numbered.{mapped_is, behind_at}
 use Rattle.hal_gen_expr.proofs.Named.{nil_is, two_placed, element_at, call_placed, value_placed}
 use Rattle.hal_gen_expr.proofs.Referring.{meaning_of, name_means}
+use Rattle.hal_gen_expr.proofs.Sized.{size_known}
 
 pub ok_is : (before after : List Instr) → onwards (Ok before) Ok ≡ Ok after → before ≡ after
 ok_is before after is = cc
@@ -49,12 +53,6 @@ if_emitted false r place after is = absurd (cc)
 pub unless_emitted : (b : Bool) (r : Emitted) (place : Place) (after : List Instr) → (if b then Err place else r) ≡ Ok after → (b ≡ false) × (r ≡ Ok after)
 unless_emitted true r place after is = absurd (cc)
 unless_emitted false r place after is = (refl, is)
-
--- where operands stay as they are
-stay_given : (b : Bool) (before : List Instr) (place : Place) (next : List Instr → Emitted) (after : List Instr) → onwards (if b then Ok before else Err place) next ≡ Ok after
-    → (b ≡ true) × (next before ≡ Ok after)
-stay_given true before place next after is = (refl, is)
-stay_given false before place next after is = absurd (cc)
 
 -- what is put on the stack for a literal, and for an exponent
 in_room : (b : Bool) (one i : Instr) → (if b then Some one else None) ≡ Some i → i ≡ one
@@ -134,8 +132,16 @@ module _ (code : Code) (n : Numbering) (site : Site) (numbered : IsNumbered code
   sign_at (Some Plus) place before after is begins = none_placed code before after (ok_is before after is) begins
   sign_at None place before after is begins = none_placed code before after (ok_is before after is) begins
 
+  -- an operand of AND or OR
+  operand_at : (becomes : Bool) (place : Place) (before after : List Instr) → operand_code before place becomes ≡ Ok after → Begins after code.image.code
+      → Placed code before after (λ from to. OperandAt code becomes from to)
+  operand_at true place before after is begins =
+      first_placed code before after (instr.Bits 1 0)
+      (one_placed code (before ++ (instr.Bits 1 0 ∷ [])) after (two op2.NotEqual) (sym (one_by_one before (instr.Bits 1 0) (two op2.NotEqual ∷ [])) ∙ ok_is (before ++ (instr.Bits 1 0 ∷ two op2.NotEqual ∷ [])) after is) begins)
+  operand_at false place before after is begins = none_placed code before after (ok_is before after is) begins
+
   -- the value of a name
-  name_at : (path : List Naming) (name : List ℕ) (place : Place) (before after : List Instr) → emit before place (value_of n site path (referent site name)) ≡ Ok after → Begins after code.image.code
+  pub name_at : (path : List Naming) (name : List ℕ) (place : Place) (before after : List Instr) → emit before place (value_of n site path (referent site name)) ≡ Ok after → Begins after code.image.code
       → Placed code before after (λ from to. NameAt code site name path from to)
   name_at path name place before after is begins =
       let given = emitted before place (value_of n site path (referent site name)) after is in
@@ -143,7 +149,7 @@ module _ (code : Code) (n : Numbering) (site : Site) (numbered : IsNumbered code
       (value_placed code n site numbered path (referent site name) before after given.0 given.1 given.2 begins)
 
   -- an integer in a subscript
-  integer_at : (number : ℕ) (place : Place) (before after : List Instr) → integer_code before place number ≡ Ok after → Begins after code.image.code
+  pub integer_at : (number : ℕ) (place : Place) (before after : List Instr) → integer_code before place number ≡ Ok after → Begins after code.image.code
       → Placed code before after (λ from to. One code from (instr.Int (pos number)) to)
   integer_at number place before after is begins =
       let given = any_given before place (integer_instr number) after is in
@@ -248,38 +254,48 @@ module _ (code : Code) (n : Numbering) (site : Site) (numbered : IsNumbered code
       (both_placed code (emit before place (value_of n site [] r)) folded before after is
       (λ middle there begins. let given = emitted before place (value_of n site [] r) middle there in value_placed code n site numbered [] r before middle given.0 given.1 given.2 begins) second)
 
+  -- SIZE
+  size_at : (arguments : Expressions) (place : Place) (before after : List Instr) → size_code site before place arguments ≡ Ok after → Begins after code.image.code
+      → Placed code before after (λ from to. One code from (pushes (value.Int (pos (size_of_arguments site arguments)))) to)
+  size_at arguments place before after is begins =
+      let given = emitted before place (option_map (λ i. i ∷ []) (integer_instr (size_of_arguments site arguments))) after is in
+      let one = mapped_is (λ i. i ∷ []) (integer_instr (size_of_arguments site arguments)) given.0 given.1 in
+      one_placed code before after (instr.Int (pos (size_of_arguments site arguments)))
+      (ap (λ l. before ++ l) (ap (λ i. i ∷ []) (sym (in_room (nat_le (size_of_arguments site arguments) 2147483647) (instr.Int (pos (size_of_arguments site arguments))) one.0 one.1)) ∙ one.2) ∙ given.2) begins
+
   -- a name with a list
-  called_at : {Folded : ℕ → ℕ → Type 0} {Built : Operation → ℕ → ℕ → Type 0} {Arguments : ℕ → ℕ → ℕ → Type 0} (r : Referent) (folded : List Instr → Emitted) (built : Operation → Emitted)
-      (arguments : ℕ → Emitted) (place : Place) (before after : List Instr) → called_code n site before place folded built arguments r ≡ Ok after → Begins after code.image.code
-      → ((middle : List Instr) → folded middle ≡ Ok after → Placed code middle after Folded) → ((op : Operation) → built op ≡ Ok after → Placed code before after (Built op))
+  called_at : {Folded : ℕ → ℕ → Type 0} {Built : Operation → ℕ → ℕ → Type 0} {Arguments : ℕ → ℕ → ℕ → Type 0} (r : Referent) (size : Value) (sized : Emitted) (folded : List Instr → Emitted) (built : Operation → Emitted)
+      (arguments : ℕ → Emitted) (place : Place) (before after : List Instr) → called_code n site before place sized folded built arguments r ≡ Ok after → Begins after code.image.code
+      → (sized ≡ Ok after → Placed code before after (λ from to. One code from (pushes size) to)) → ((middle : List Instr) → folded middle ≡ Ok after → Placed code middle after Folded) → ((op : Operation) → built op ≡ Ok after → Placed code before after (Built op))
       → ((unit : ℕ) (middle : List Instr) → arguments unit ≡ Ok middle → Begins middle code.image.code → Placed code before middle (Arguments unit))
-      → Placed code before after (λ from to. (held : List Held) → CalledAt code site held Folded Built Arguments (meaning_of site held r) from to)
-  called_at (DataOf k stored shape) folded built arguments place before after is begins f b a = multiplied_at (DataOf k stored shape) folded place before after is f
-  called_at (ConstantOf v) folded built arguments place before after is begins f b a = multiplied_at (ConstantOf v) folded place before after is f
-  called_at (EventOf e) folded built arguments place before after is begins f b a = absurd (cc)
-  called_at (BlockOf unit) folded built arguments place before after is begins f b a =
+      → Placed code before after (λ from to. (held : List Held) → CalledAt code site held size Folded Built Arguments (meaning_of site held r) from to)
+  called_at (DataOf k stored shape) size sized folded built arguments place before after is begins s f b a = multiplied_at (DataOf k stored shape) folded place before after is f
+  called_at (ConstantOf v) size sized folded built arguments place before after is begins s f b a = multiplied_at (ConstantOf v) folded place before after is f
+  called_at (EventOf e) size sized folded built arguments place before after is begins s f b a = absurd (cc)
+  called_at (BlockOf unit) size sized folded built arguments place before after is begins s f b a =
       let call = call_given (arguments unit) (call_of n site true unit) place after is in
       weaker code before after (λ from to at. λ held. at)
       (both_placed code (arguments unit) (λ middle. Ok (middle ++ call.0)) before after call.2 (λ middle there begun. a unit middle there begun)
       (λ middle there. call_placed code n site numbered true unit middle after call.0 call.1 (ok_is (middle ++ call.0) after there) begins))
-  called_at (BuiltinOf one) folded built arguments place before after is begins f b a =
-      let other = unless_emitted (is_size one) (built (operation_of one)) place after is in
-      weaker code before after (λ from to at. λ held. (other.0, at)) (b (operation_of one) other.1)
-  called_at Unmeant folded built arguments place before after is begins f b a = absurd (cc)
+  called_at (BuiltinOf one) size sized folded built arguments place before after is begins s f b a =
+      weaker code before after (λ from to at. λ held. at) (either_at (is_size one) sized (built (operation_of one)) before after is s (λ there. b (operation_of one) there))
+  called_at Unmeant size sized folded built arguments place before after is begins s f b a = absurd (cc)
 
   mutual
     pub expression_at : (tree : Expression) (before after : List Instr) → expression_code n site before tree ≡ Ok after → Begins after code.image.code
         → Placed code before after (λ from to. ExpressionAt code site tree from to)
     expression_at (Or place first others) before after is begins =
-        let may = stay_given (stay (is_condition first || are_conditions others) (MoreExpressions first others)) before place _ after is in
-        weaker code before after (λ from to at. (may.0, at))
-        (both_placed code (expression_code n site before first) (λ middle. folded_code n site middle place op2.Or others) before after may.1 (λ middle there begun. expression_at first before middle there begun)
-        (λ middle there. folded_at others place op2.Or middle after there begins))
+        weaker code before after (λ from to at. (at.0, at.2.0, at.1, at.2.1, at.2.2))
+        (both_placed code (expression_code n site before first) _ before after is (λ middle there begun. expression_at first before middle there begun)
+        (λ middle there. both_placed code (operand_code middle place (becomes_condition (is_condition first || are_conditions others) first)) _ middle after there
+        (λ late becomes begun. operand_at (becomes_condition (is_condition first || are_conditions others) first) place middle late becomes begun)
+        (λ late others_there. joined_at others place op2.Or (is_condition first || are_conditions others) late after others_there begins)))
     expression_at (And place first others) before after is begins =
-        let may = stay_given (stay (is_condition first || are_conditions others) (MoreExpressions first others)) before place _ after is in
-        weaker code before after (λ from to at. (may.0, at))
-        (both_placed code (expression_code n site before first) (λ middle. folded_code n site middle place op2.And others) before after may.1 (λ middle there begun. expression_at first before middle there begun)
-        (λ middle there. folded_at others place op2.And middle after there begins))
+        weaker code before after (λ from to at. (at.0, at.2.0, at.1, at.2.1, at.2.2))
+        (both_placed code (expression_code n site before first) _ before after is (λ middle there begun. expression_at first before middle there begun)
+        (λ middle there. both_placed code (operand_code middle place (becomes_condition (is_condition first || are_conditions others) first)) _ middle after there
+        (λ late becomes begun. operand_at (becomes_condition (is_condition first || are_conditions others) first) place middle late becomes begun)
+        (λ late others_there. joined_at others place op2.And (is_condition first || are_conditions others) late after others_there begins)))
     expression_at (Compare place left relation right) before after is begins =
         weaker code before after (λ from to at. (at.0, at.2.0, at.1, at.2.1, at.2.2))
         (both_placed code (expression_code n site before left) _ before after is (λ middle there begun. expression_at left before middle there begun)
@@ -312,15 +328,28 @@ module _ (code : Code) (n : Numbering) (site : Site) (numbered : IsNumbered code
     expression_at (Decimal place number) before after is begins = absurd (cc)
     expression_at (Referred reference) before after is begins = reference_at reference before after is begins
     expression_at (Called place name arguments) before after is begins =
-        weaker code before after (λ from to at. λ held. subst (λ m. CalledAt code site held (λ a e. FoldedAt code site op2.Product arguments a e) (λ op a e. BuiltAt code site op arguments a e) (λ unit a e. ArgumentsAt code site unit (inputs_at site.set unit) arguments a e) m from to) (sym (name_means site held name)) (at held))
-        (called_at (referent site name) (λ middle. folded_code n site middle place op2.Product arguments) (λ op. built_code n site before place op arguments)
-        (λ unit. arguments_code n site before place unit (inputs_at site.set unit) arguments) place before after is begins
+        weaker code before after (λ from to at. λ held. subst (λ m. CalledAt code site held (size_argument (here_at site) arguments held) (λ a e. FoldedAt code site op2.Product arguments a e) (λ op a e. BuiltAt code site op arguments a e)
+        (λ unit a e. ArgumentsAt code site unit (inputs_at site.set unit) arguments a e) m from to) (sym (name_means site held name))
+        (subst (λ v. CalledAt code site held v (λ a e. FoldedAt code site op2.Product arguments a e) (λ op a e. BuiltAt code site op arguments a e)
+        (λ unit a e. ArgumentsAt code site unit (inputs_at site.set unit) arguments a e) (meaning_of site held (referent site name)) from to) (sym (size_known site arguments held)) (at held)))
+        (called_at (referent site name) (value.Int (pos (size_of_arguments site arguments))) (size_code site before place arguments) (λ middle. folded_code n site middle place op2.Product arguments) (λ op. built_code n site before place op arguments)
+        (λ unit. arguments_code n site before place unit (inputs_at site.set unit) arguments) place before after is begins (λ there. size_at arguments place before after there begins)
         (λ middle there. folded_at arguments place op2.Product middle after there begins) (λ op there. built_at arguments op place before after there begins)
         (λ unit middle there begun. arguments_at arguments unit (inputs_at site.set unit) place before middle there begun))
     expression_at (Convert place conversion operand) before after is begins =
         both_placed code (expression_code n site before operand) _ before after is (λ middle there begun. expression_at operand before middle there begun)
         (λ middle there. one_placed code middle after (one (operation_of_conversion conversion)) (ok_is _ after there) begins)
     expression_at (Parenthesis place inner) before after is begins = expression_at inner before after is begins
+
+    joined_at : (trees : Expressions) (place : Place) (op : Op2) (condition : Bool) (before after : List Instr) → joined_code n site before place op condition trees ≡ Ok after → Begins after code.image.code
+        → Placed code before after (λ from to. JoinedAt code site op condition trees from to)
+    joined_at NoExpressions place op condition before after is begins = none_placed code before after (ok_is before after is) begins
+    joined_at (MoreExpressions first others) place op condition before after is begins =
+        weaker code before after (λ from to at. (at.0, at.2.0, at.1, at.2.1, at.2.2.0, at.2.2.1))
+        (both_placed code (expression_code n site before first) _ before after is (λ middle there begun. expression_at first before middle there begun)
+        (λ middle there. both_placed code (operand_code middle place (becomes_condition condition first)) _ middle after there
+        (λ late becomes begun. operand_at (becomes_condition condition first) place middle late becomes begun)
+        (λ late others_there. first_placed code late after (two op) (joined_at others place op condition (late ++ (two op ∷ [])) after others_there begins))))
 
     folded_at : (trees : Expressions) (place : Place) (op : Op2) (before after : List Instr) → folded_code n site before place op trees ≡ Ok after → Begins after code.image.code
         → Placed code before after (λ from to. FoldedAt code site op trees from to)

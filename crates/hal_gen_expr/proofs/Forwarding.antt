@@ -1,5 +1,5 @@
 -- The code of expressions goes on: no instruction of it jumps.
-use Rattle.std.specs.Prelude.{◌≡◌, ◌≤◌, ◌<◌, ℕ, suc, nat_lt, Bool, true, false, ◌&&◌, List, [], ◌∷◌, ◌++◌, pos, Option, Some, None, slice_get}
+use Rattle.std.specs.Prelude.{◌≡◌, ◌≤◌, ◌<◌, ℕ, suc, nat_lt, Bool, true, false, ◌&&◌, ◌||◌, List, [], ◌∷◌, ◌++◌, pos, Option, Some, None, slice_get}
 use Rattle.std.proofs.Common.{refl, sym, subst, arith}
 use Rattle.std.proofs.lemmas.Bool.{ltb-true, ltb-false}
 use Rattle.hal_grammar.specs.Leaves.{Naming, Sign, Plus, Minus}
@@ -18,13 +18,13 @@ use Rattle.hal_values.specs.declared.value.Value.TheVariants as value
 use Rattle.hal_states.specs.Spots.{Spot, further}
 use Rattle.hal_meaning.specs.Calls.{inputs_of}
 use Rattle.hal_meaning.specs.Elements.{Shape, chosen, offset}
-use Rattle.hal_meaning.specs.Expressions.{inputs_at, literal_value, exponent_of, sizes_named, copies_of, spoken}
+use Rattle.hal_meaning.specs.Expressions.{inputs_at, literal_value, is_condition, are_conditions, becomes_condition, exponent_of, is_size, size_argument, sizes_named, copies_of, spoken}
 use Rattle.hal_meaning.specs.Variables.{Meant, MeantData, MeantConstant, MeantEvent, MeantBlock, MeantBuiltin, MeantNothing, name_meant, kind_of_first, Dimension, dimensions_of, is_arrayed}
 use Rattle.hal_code.specs.Forward.{GoesOn}
 use Rattle.hal_code.specs.declared.instr.Instr.{Instr}
 use Rattle.hal_code.specs.declared.instr.Instr.TheVariants as instr
 use Rattle.hal_agreement.specs.Codes.{Code}
-use Rattle.hal_agreement.specs.PlacedExpressions.{Has, One, pushes, AloneAt, ParametersAt, CallAt, ValueAt, NameAt, BehindAt, EitherAt, PlaceAt, ArrayAt, SubscriptedAt, SignAt, CalledAt, ExpressionAt, FoldedAt, TermsAt, BuiltAt, ArgumentsAt, ReferenceAt, ChosenAt, IndexesAt, PositionAt, ComponentAt, PartsAt, PartAt}
+use Rattle.hal_agreement.specs.PlacedExpressions.{Has, One, pushes, AloneAt, ParametersAt, CallAt, ValueAt, NameAt, BehindAt, EitherAt, PlaceAt, ArrayAt, SubscriptedAt, SignAt, OperandAt, CalledAt, ExpressionAt, JoinedAt, FoldedAt, TermsAt, BuiltAt, ArgumentsAt, ReferenceAt, ChosenAt, IndexesAt, PositionAt, ComponentAt, PartsAt, PartAt}
 use Rattle.hal_agreement.specs.Sites.{Site, here_at}
 
 module _ (code : Code) where
@@ -87,7 +87,7 @@ module _ (code : Code) where
     meant_goes path (MeantBuiltin b) from to there = alone_goes b from to there
     meant_goes path MeantNothing from to there = absurd there
 
-    name_goes : (name : List ℕ) (path : List Naming) (from to : ℕ) → NameAt code site name path from to → Goes from to
+    pub name_goes : (name : List ℕ) (path : List Naming) (from to : ℕ) → NameAt code site name path from to → Goes from to
     name_goes name path from to at = meant_goes path (name_meant (here_at site) name []) from to (at [])
 
     place_goes : (placed : ℕ → ℕ → Type 0) (k : Kind) (spot : Spot) (sizes : List ℕ) (from to : ℕ) → PlaceAt code [] placed k spot sizes from to → ((middle : ℕ) → placed from middle → Goes from middle) → Goes from to
@@ -121,19 +121,28 @@ module _ (code : Code) where
     sign_goes (Some Plus) from to at = none_goes from to at
     sign_goes None from to at = none_goes from to at
 
-    called_goes : (m : Meant) (folded : ℕ → ℕ → Type 0) (built : Operation → ℕ → ℕ → Type 0) (arguments : ℕ → ℕ → ℕ → Type 0) (from to : ℕ) → CalledAt code site [] folded built arguments m from to
+    operand_goes : (becomes : Bool) (from to : ℕ) → OperandAt code becomes from to → Goes from to
+    operand_goes true from to at = first_goes from to _ at.0 tt (one_goes (suc from) to _ at.1 tt)
+    operand_goes false from to at = none_goes from to at
+
+    called_goes : (m : Meant) (size : Value) (folded : ℕ → ℕ → Type 0) (built : Operation → ℕ → ℕ → Type 0) (arguments : ℕ → ℕ → ℕ → Type 0) (from to : ℕ) → CalledAt code site [] size folded built arguments m from to
         → ((middle : ℕ) → folded middle to → Goes middle to) → ((op : Operation) → built op from to → Goes from to) → ((unit middle : ℕ) → arguments unit from middle → Goes from middle) → Goes from to
-    called_goes (MeantData at shape) folded built arguments from to there f b a = joined_goes from there.0 to (meant_goes [] (MeantData at shape) from there.0 there.1) (f there.0 there.2)
-    called_goes (MeantConstant v) folded built arguments from to there f b a = joined_goes from there.0 to (meant_goes [] (MeantConstant v) from there.0 there.1) (f there.0 there.2)
-    called_goes (MeantEvent e) folded built arguments from to there f b a = absurd there
-    called_goes (MeantBlock unit) folded built arguments from to there f b a = joined_goes from there.0 to (a unit there.0 there.1) (call_goes unit true there.0 to there.2)
-    called_goes (MeantBuiltin one) folded built arguments from to there f b a = b (operation_of one) there.1
-    called_goes MeantNothing folded built arguments from to there f b a = absurd there
+    called_goes (MeantData at shape) size folded built arguments from to there f b a = joined_goes from there.0 to (meant_goes [] (MeantData at shape) from there.0 there.1) (f there.0 there.2)
+    called_goes (MeantConstant v) size folded built arguments from to there f b a = joined_goes from there.0 to (meant_goes [] (MeantConstant v) from there.0 there.1) (f there.0 there.2)
+    called_goes (MeantEvent e) size folded built arguments from to there f b a = absurd there
+    called_goes (MeantBlock unit) size folded built arguments from to there f b a = joined_goes from there.0 to (a unit there.0 there.1) (call_goes unit true there.0 to there.2)
+    called_goes (MeantBuiltin one) size folded built arguments from to there f b a =
+        either_goes (is_size one) (λ x e. One code x (pushes size) e) (λ x e. built (operation_of one) x e) from to there (λ here. one_goes from to _ here (value_goes from size)) (λ here. b (operation_of one) here)
+    called_goes MeantNothing size folded built arguments from to there f b a = absurd there
 
     mutual
       pub expression_goes : (tree : Expression) (from to : ℕ) → ExpressionAt code site tree from to → Goes from to
-      expression_goes (Or place first others) from to at = joined_goes from at.1.0 to (expression_goes first from at.1.0 at.1.1) (folded_goes others op2.Or at.1.0 to at.1.2)
-      expression_goes (And place first others) from to at = joined_goes from at.1.0 to (expression_goes first from at.1.0 at.1.1) (folded_goes others op2.And at.1.0 to at.1.2)
+      expression_goes (Or place first others) from to at =
+          joined_goes from at.0 to (expression_goes first from at.0 at.2) (joined_goes at.0 at.1 to (operand_goes (becomes_condition (is_condition first || are_conditions others) first) at.0 at.1 at.3)
+          (operands_go others op2.Or (is_condition first || are_conditions others) at.1 to at.4))
+      expression_goes (And place first others) from to at =
+          joined_goes from at.0 to (expression_goes first from at.0 at.2) (joined_goes at.0 at.1 to (operand_goes (becomes_condition (is_condition first || are_conditions others) first) at.0 at.1 at.3)
+          (operands_go others op2.And (is_condition first || are_conditions others) at.1 to at.4))
       expression_goes (Compare place left relation right) from to at =
           joined_goes from at.0 to (expression_goes left from at.0 at.2) (joined_goes at.0 at.1 to (expression_goes right at.0 at.1 at.3) (one_goes at.1 to _ at.4 tt))
       expression_goes (Cat place first others) from to at = joined_goes from at.0 to (expression_goes first from at.0 at.1) (folded_goes others op2.Cat at.0 to at.2)
@@ -147,11 +156,17 @@ module _ (code : Code) where
       expression_goes (Decimal place number) from to at = absurd at
       expression_goes (Referred reference) from to at = reference_goes reference from to at
       expression_goes (Called place name arguments) from to at =
-          called_goes (name_meant (here_at site) name []) (λ a e. FoldedAt code site op2.Product arguments a e) (λ op a e. BuiltAt code site op arguments a e)
+          called_goes (name_meant (here_at site) name []) (size_argument (here_at site) arguments []) (λ a e. FoldedAt code site op2.Product arguments a e) (λ op a e. BuiltAt code site op arguments a e)
           (λ unit a e. ArgumentsAt code site unit (inputs_at site.set unit) arguments a e) from to (at []) (λ middle there. folded_goes arguments op2.Product middle to there)
           (λ op there. built_goes arguments op from to there) (λ unit middle there. arguments_go arguments unit (inputs_at site.set unit) from middle there)
       expression_goes (Convert place conversion operand) from to at = joined_goes from at.0 to (expression_goes operand from at.0 at.1) (one_goes at.0 to _ at.2 tt)
       expression_goes (Parenthesis place inner) from to at = expression_goes inner from to at
+
+      operands_go : (trees : Expressions) (op : Op2) (condition : Bool) (from to : ℕ) → JoinedAt code site op condition trees from to → Goes from to
+      operands_go NoExpressions op condition from to at = none_goes from to at
+      operands_go (MoreExpressions first others) op condition from to at =
+          joined_goes from at.0 to (expression_goes first from at.0 at.2)
+          (joined_goes at.0 at.1 to (operand_goes (becomes_condition condition first) at.0 at.1 at.3) (first_goes at.1 to _ at.4 tt (operands_go others op condition (suc at.1) to at.5)))
 
       folded_goes : (trees : Expressions) (op : Op2) (from to : ℕ) → FoldedAt code site op trees from to → Goes from to
       folded_goes NoExpressions op from to at = none_goes from to at

@@ -2,10 +2,10 @@ pub mod Growing
 pub mod Referring
 pub mod Numbered
 pub mod Named
+mod Sized
 pub mod Expressed
 pub mod Appending
 pub mod Forwarding
-pub mod Uncalled
 mod Chosen
 mod Listed
 mod Capped
@@ -13,3 +13,6 @@ mod Lent
 mod Formed
 pub mod Sited
 pub mod Chained
+pub mod FoundBodies
+mod FoundParameters
+mod Calling

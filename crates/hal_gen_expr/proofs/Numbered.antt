@@ -8,7 +8,7 @@ use Rattle.std.proofs.lemmas.Option.{get_or_from_slice_get}
 use Rattle.std.proofs.Common.{refl, sym, ap, subst, ◌∙◌, cond, get_or, arith}
 use Rattle.hal_values.specs.declared.value.Kind.{Kind}
 use Rattle.hal_values.specs.declared.value.Kind.TheVariants as kind
-use Rattle.hal_states.specs.Spots.{Spot, Held, further}
+use Rattle.hal_states.specs.Spots.{Spot, Own, Held, further}
 use Rattle.hal_code.specs.declared.instr.Instr.{Instr}
 use Rattle.hal_code.specs.declared.instr.Instr.TheVariants as instr
 use Rattle.hal_code.specs.declared.row.Base.{Base}
@@ -27,7 +27,7 @@ use Rattle.hal_agreement.specs.PlacedExpressions.{Has, dimension_of, IsViewed, A
 use Rattle.hal_agreement.specs.Sites.{Site, here_at}
 use Rattle.hal_gen_expr.specs.Standing.{IsNumbered}
 use Rattle.hal_gen_expr.specs.Numbering.{Numbering, below, most, base_of, same_base, row_of, same_row, same_rows, gives_cell, is_cell_view, view_number}
-use Rattle.hal_gen_expr.specs.Leaves.{is_nil, is_settled, settled_for, address_of}
+use Rattle.hal_gen_expr.specs.Leaves.{is_nil, is_settled, settled_for, place_view, address_of}
 
 pub below_is : (limit n m : ℕ) → below limit n ≡ Some m → n ≡ m
 below_is limit n m = by (nat_lt n limit) where
@@ -171,6 +171,19 @@ module _ (code : Code) (n : Numbering) (site : Site) (numbered : IsNumbered code
         cell = subst (λ one. Has code from one) (sym row.2) has;
         row = row.3;
         plain = viewed there.0 [] kind row.1 held (further at (tree.spot_of (here_at site) held k stored)) row.4 (base_leads k at stored there.0 held (begun_is [] (base_of site k at stored) there.0 there.1));
+      }
+
+  -- an own place
+  pub place_at : (k before number from : ℕ) (held : List Held) → place_view n site k before ≡ Some number → Has code from (instr.Cell number) → AddressAt code held kind.Double (Own (first_place site.places k + before)) from
+  place_at k before number from held is has =
+      let there = then_is (view_number n [] kind.Double) (base_of site k before InPlaces) number is in
+      let row = numbered_view [] kind.Double there.0 (instr.Cell number) (ap (option_map instr.Cell) there.2) in
+      record {
+        number = row.0;
+        view = row.1;
+        cell = subst (λ one. Has code from one) (sym row.2) has;
+        row = row.3;
+        plain = viewed there.0 [] kind.Double row.1 held (Own (first_place site.places k + before)) row.4 (base_leads k before InPlaces there.0 held there.1);
       }
 
   -- data that lie at a base which is settled lie there whatever the own places hold

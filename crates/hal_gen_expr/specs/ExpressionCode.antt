@@ -13,18 +13,19 @@ use Rattle.hal_constants.specs.declared.operation.Operation.TheVariants as opera
 use Rattle.hal_constants.specs.Naming.{operation_of}
 use Rattle.hal_constants.specs.Constants.{is_none}
 use Rattle.hal_meaning.specs.Calls.{parameter_named}
-use Rattle.hal_meaning.specs.Expressions.{literal_value, is_condition, are_conditions, operation_of_relation, operation_of_sign, operation_of_conversion, is_size, inputs_at}
+use Rattle.hal_meaning.specs.Expressions.{literal_value, is_condition, are_conditions, operation_of_relation, operation_of_sign, operation_of_conversion, is_size, inputs_at, becomes_condition}
 use Rattle.hal_meaning.specs.Variables.{is_arrayed, is_whole}
 use Rattle.hal_code.specs.declared.choice.Choice.TheVariants as choice
 use Rattle.hal_code.specs.declared.instr.Instr.{Instr}
 use Rattle.hal_code.specs.declared.instr.Instr.TheVariants as instr
 use Rattle.hal_code.specs.declared.operand.Places.TheVariants as places
-use Rattle.hal_agreement.specs.PlacedExpressions.{pushes, two, stay, picks, places_of}
+use Rattle.hal_agreement.specs.PlacedExpressions.{pushes, two, picks, places_of}
 use Rattle.hal_agreement.specs.Sites.{Site}
 use Rattle.hal_gen_expr.specs.Emitting.{Emitted, onwards, emit}
 use Rattle.hal_gen_expr.specs.Led.{Led, led_by, sizes_led, cell_of}
 use Rattle.hal_gen_expr.specs.Leaves.{is_nil, element_of, value_of, call_of}
 use Rattle.hal_gen_expr.specs.Numbering.{Numbering}
+use Rattle.hal_gen_expr.specs.Sizes.{size_of_arguments}
 use Rattle.hal_referents.specs.Referents.{Referent, DataOf, ConstantOf, BlockOf, BuiltinOf}
 use Rattle.hal_gen_expr.specs.Referents.{referent}
 
@@ -63,9 +64,10 @@ abbrev pub ends : Expressions → Bool
 ends NoExpressions = true
 ends (MoreExpressions first others) = false
 
--- operands of AND or OR have code where they stay as they are
-abbrev pub where_they_stay : List Instr → Place → Expression → Expressions → Emitted
-where_they_stay before place first others = if stay (is_condition first || are_conditions others) (MoreExpressions first others) then Ok before else Err place
+-- an operand of AND or OR that becomes a condition is compared with a zero
+abbrev pub operand_code : List Instr → Place → Bool → Emitted
+operand_code before place true = emit before place (Some (instr.Bits 1 0 ∷ two op2.NotEqual ∷ []))
+operand_code before place false = Ok before
 
 -- a call, where it has code, behind its arguments
 abbrev pub behind_arguments : Place → Emitted → Option (List Instr) → Emitted
@@ -117,20 +119,28 @@ abbrev pub is_plain : Subscript → Bool
 is_plain Unsubscripted = true
 is_plain other = false
 
--- a name with a list: what it refers to is called with arguments, computes of operands, or is multiplied by a parenthesis
-abbrev pub called_code : Numbering → Site → List Instr → Place → (List Instr → Emitted) → (Operation → Emitted) → (ℕ → Emitted) → Referent → Emitted
-called_code n site before place folded built arguments (BlockOf unit) = behind_arguments place (arguments unit) (call_of n site true unit)
-called_code n site before place folded built arguments (BuiltinOf b) = if is_size b then Err place else built (operation_of b)
-called_code n site before place folded built arguments (DataOf k stored shape) = onwards (emit before place (value_of n site [] (DataOf k stored shape))) folded
-called_code n site before place folded built arguments (ConstantOf v) = onwards (emit before place (value_of n site [] (ConstantOf v))) folded
-called_code n site before place folded built arguments other = Err place
+-- SIZE of the first argument
+abbrev pub size_code : Site → List Instr → Place → Expressions → Emitted
+size_code site before place arguments = emit before place (option_map (λ i. i ∷ []) (integer_instr (size_of_arguments site arguments)))
+
+-- a name with a list: what it refers to is called with arguments, computes of operands, or is multiplied by a parenthesis; SIZE is a number
+abbrev pub called_code : Numbering → Site → List Instr → Place → Emitted → (List Instr → Emitted) → (Operation → Emitted) → (ℕ → Emitted) → Referent → Emitted
+called_code n site before place size folded built arguments (BlockOf unit) = behind_arguments place (arguments unit) (call_of n site true unit)
+called_code n site before place size folded built arguments (BuiltinOf b) = if is_size b then size else built (operation_of b)
+called_code n site before place size folded built arguments (DataOf k stored shape) = onwards (emit before place (value_of n site [] (DataOf k stored shape))) folded
+called_code n site before place size folded built arguments (ConstantOf v) = onwards (emit before place (value_of n site [] (ConstantOf v))) folded
+called_code n site before place size folded built arguments other = Err place
 
 abbrev mutual
   pub expression_code : Numbering → Site → List Instr → Expression → Emitted
   expression_code n site before (Or place first others) =
-      onwards (where_they_stay before place first others) (λ begun. onwards (expression_code n site begun first) (λ middle. folded_code n site middle place op2.Or others))
+      onwards (expression_code n site before first)
+      (λ middle. onwards (operand_code middle place (becomes_condition (is_condition first || are_conditions others) first))
+      (λ late. joined_code n site late place op2.Or (is_condition first || are_conditions others) others))
   expression_code n site before (And place first others) =
-      onwards (where_they_stay before place first others) (λ begun. onwards (expression_code n site begun first) (λ middle. folded_code n site middle place op2.And others))
+      onwards (expression_code n site before first)
+      (λ middle. onwards (operand_code middle place (becomes_condition (is_condition first || are_conditions others) first))
+      (λ late. joined_code n site late place op2.And (is_condition first || are_conditions others) others))
   expression_code n site before (Compare place left relation right) =
       onwards (expression_code n site before left)
       (λ middle. onwards (expression_code n site middle right) (λ last. emit_one last place (two (operation_of_relation relation))))
@@ -144,11 +154,19 @@ abbrev mutual
   expression_code n site before (Decimal place number) = Err place
   expression_code n site before (Referred reference) = reference_code n site before reference
   expression_code n site before (Called place name arguments) =
-      called_code n site before place (λ middle. folded_code n site middle place op2.Product arguments) (λ op. built_code n site before place op arguments)
+      called_code n site before place (size_code site before place arguments) (λ middle. folded_code n site middle place op2.Product arguments) (λ op. built_code n site before place op arguments)
       (λ unit. arguments_code n site before place unit (inputs_at site.set unit) arguments) (referent site name)
   expression_code n site before (Convert place conversion operand) =
       onwards (expression_code n site before operand) (λ middle. emit_one middle place (one (operation_of_conversion conversion)))
   expression_code n site before (Parenthesis place inner) = expression_code n site before inner
+
+  -- operands of AND or OR behind a value, each with the operation, beside a condition or not
+  pub joined_code : Numbering → Site → List Instr → Place → Op2 → Bool → Expressions → Emitted
+  joined_code n site before place op condition NoExpressions = Ok before
+  joined_code n site before place op condition (MoreExpressions first others) =
+      onwards (expression_code n site before first)
+      (λ middle. onwards (operand_code middle place (becomes_condition condition first))
+      (λ late. onwards (emit_one late place (two op)) (λ last. joined_code n site last place op condition others)))
 
   -- operands of an operation behind a value, each with the operation
   pub folded_code : Numbering → Site → List Instr → Place → Op2 → Expressions → Emitted

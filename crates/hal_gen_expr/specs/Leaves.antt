@@ -5,6 +5,7 @@ use Rattle.hal_grammar.specs.Leaves.{Naming}
 use Rattle.hal_scope.specs.declared.builtin.Builtin.{Builtin}
 use Rattle.hal_scope.specs.declared.builtin.Builtin.TheVariants as builtin
 use Rattle.hal_values.specs.declared.value.Kind.{Kind}
+use Rattle.hal_values.specs.declared.value.Kind.TheVariants as kind
 use Rattle.hal_code.specs.declared.instr.Instr.{Instr}
 use Rattle.hal_code.specs.declared.instr.Instr.TheVariants as instr
 use Rattle.hal_code.specs.declared.row.Base.{Base}
@@ -44,6 +45,10 @@ settled_for rows from = if is_nil rows || is_settled from then Some from else No
 -- CELL of the elements in these dimensions, of which the first one lies there
 abbrev pub address_of : Numbering → Site → List Dimension → ℕ → Storing → ℕ → Kind → Option Instr
 address_of n site rows k stored at kind = option_and_then (λ from. option_map instr.Cell (view_number n rows kind from)) (option_and_then (settled_for rows) (base_of site k at stored))
+
+-- the number of the view of an own place of kind DOUBLE, before which so many lie of those of the phrase with this number
+abbrev pub place_view : Numbering → Site → ℕ → ℕ → Option ℕ
+place_view n site k before = option_and_then (view_number n [] kind.Double) (base_of site k before InPlaces)
 
 -- CELL of the one element to which names lead
 abbrev pub element_of : Numbering → Site → List Naming → ℕ → Storing → Shape → Option Instr

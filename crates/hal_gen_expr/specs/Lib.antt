@@ -4,9 +4,13 @@ pub mod Leaves
 pub mod Elements
 pub mod Led
 pub mod Emitting
+pub mod Sizes
 pub mod ExpressionCode
 pub mod Standing
 pub mod SeenSites
 pub mod SeenLed
 pub mod Emits
 pub mod Called
+pub mod Bodies
+pub mod Parameters
+pub mod Calling

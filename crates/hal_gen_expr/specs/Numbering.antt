@@ -15,14 +15,14 @@ use Rattle.hal_meaning.specs.ReportNames.{first_cell, first_place}
 use Rattle.hal_meaning.specs.Variables as tree
 use Rattle.hal_agreement.specs.Sites.{Site}
 
--- the rows of the views, and the units of the blocks that are called, each in the order of its numbers
+-- the rows of the views, and the units that are called, in the order of their blocks, of which the first has this number
 pub record Numbering : Type 0 where
   pub views : List View
+  pub first : ℕ
   pub units : List ℕ
 
--- views alone, where no unit is called
-abbrev pub numbering : List View → Numbering
-numbering views = record { views = views; units = [] }
+abbrev pub numbering_with : List View → ℕ → List ℕ → Numbering
+numbering_with views first units = record { views = views; first = first; units = units }
 
 -- a number below a limit
 abbrev pub below : ℕ → ℕ → Option ℕ
@@ -76,4 +76,4 @@ view_number n rows kind from = option_and_then (below most) (position (is_cell_v
 
 -- the number of the block of a unit
 abbrev pub block_number : Numbering → ℕ → Option ℕ
-block_number n unit = option_and_then (below most) (position (λ one. one == unit) n.units)
+block_number n unit = option_and_then (λ k. below most (n.first + k)) (position (λ one. one == unit) n.units)

@@ -12,7 +12,7 @@ use Rattle.hal_referents.specs.Referents.{referents}
 use Rattle.hal_referents.specs.SeenReferents.{seen_referent}
 use Rattle.hal_set.specs.SeenSets.{seen_set}
 use Rattle.hal_agreement.specs.Sites.{Site}
-use Rattle.hal_gen_expr.specs.Numbering.{Numbering, numbering}
+use Rattle.hal_gen_expr.specs.Numbering.{Numbering, numbering_with}
 use Rattle.hal_gen_expr.specs.declared.site.Site as rust-site
 
 -- a place that is lent
@@ -26,9 +26,8 @@ lent_place_in places owner = position (λ (p : Bor rust-place.Place). p.now.owne
 unfoldable pub seen_site : rust-site.Site → Site
 seen_site s = record { set = seen_set s.set.now; places = map lent_place s.places.now; unit = s.unit; block = s.block; marks = s.marks.now }
 
--- no unit is called yet
 unfoldable pub seen_numbering : rust-site.Site → Numbering
-seen_numbering s = numbering s.views.now
+seen_numbering s = numbering_with s.views.now s.calls.first s.calls.units.now
 
 -- what is looked up is that of the set
 pub data IsSite (s : rust-site.Site) : Type 0 where

@@ -1,12 +1,17 @@
-//! Which expressions are conditions.
+//! Which expressions are conditions, and how bits become some.
 
 ghost use Rattle.std.specs.Prelude.{◌≡◌, ◌||◌, map};
-ghost use Rattle.hal_grammar.specs.Expressions.{MoreExpressions};
 ghost use Rattle.hal_tree.specs.Rows.{expressions};
 ghost use Rattle.hal_tree.specs.SeenExpressions.{seen_expression};
-ghost use Rattle.hal_agreement.specs.PlacedExpressions as placed;
 ghost use Rattle.hal_meaning.specs.Expressions as meaning;
+ghost use Rattle.hal_gen_expr.specs.Emits.{Emits};
+ghost use Rattle.hal_gen_expr.specs.ExpressionCode as codes;
 
+use crate::leaves::{emit_two, two};
+use crate::uncoded::Uncoded;
+use hal_base::Place;
+use hal_code::Instr;
+use hal_operations::Op2;
 use hal_tree::Expr;
 
 /// Whether an expression is a condition: a comparison, or what is made of some (language document, Expressions).
@@ -47,26 +52,27 @@ fn are_conditions(trees: &[Expr]) -> bool
     false
 }
 
-/// Whether operands stay as they are, where one beside them is a condition or none is.
-#[tactic(auto, unfolding(hal_tree::specs::Rows::expressions))]
-fn all_stay(condition: bool, trees: &[Expr]) -> bool
-    ensures { result ≡ placed.stay condition (expressions (map seen_expression trees.now)) }
+/// Whether AND or OR joins conditions: whether one of its operands is one.
+pub(crate) fn joins_conditions(first: &Expr, others: &[Expr]) -> bool
+    ensures { result ≡ (meaning.is_condition (seen_expression first.now) || meaning.are_conditions (expressions (map seen_expression others.now))) }
 {
-    for tree in trees {
-        if condition && !is_condition(tree) {
-            return false;
-        }
-    }
-    true
+    is_condition(first) || are_conditions(others)
 }
 
-/// Whether the operands of AND or OR stay as they are: where one of them is a condition, all are.
-pub(crate) fn stay(first: &Expr, others: &[Expr]) -> bool
-    ensures { result ≡ placed.stay (meaning.is_condition (seen_expression first.now) || meaning.are_conditions (expressions (map seen_expression others.now))) (MoreExpressions (seen_expression first.now) (expressions (map seen_expression others.now))) }
+/// Adds what makes an operand of AND or OR a condition, where one beside it is a condition and it is none: it is compared with a zero (language document,
+/// Expressions).
+pub(crate) fn emit_operand(
+    code: &mut Vec<Instr>,
+    place: Place,
+    condition: bool,
+    operand: &Expr,
+) -> Result<(), Uncoded>
+    ensures { Emits (codes.operand_code code.old.items place (meaning.becomes_condition condition (seen_expression operand.now))) result code.new.items }
 {
-    let condition = is_condition(first) || are_conditions(others);
-    if condition && !is_condition(first) {
-        return false;
+    if condition && !is_condition(operand) {
+        let zero = Instr::Bits { len: 1, word: 0 };
+        emit_two(code, place, Some(zero), two(Op2::NotEqual))
+    } else {
+        Ok(())
     }
-    all_stay(condition, others)
 }

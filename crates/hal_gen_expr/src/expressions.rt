@@ -4,18 +4,21 @@ ghost use Rattle.std.specs.Prelude.{◌≡◌, ◌∷◌, [], map};
 ghost use Rattle.std.specs.Option.{option_map};
 ghost use Rattle.hal_tree.specs.Rows.{expressions, terms};
 ghost use Rattle.hal_tree.specs.SeenExpressions.{seen_expression, seen_signed};
-ghost use Rattle.hal_tree.specs.SeenLeaves.{seen_conversion, seen_literal};
+ghost use Rattle.hal_tree.specs.SeenLeaves.{seen_conversion, seen_literal, seen_name};
 ghost use Rattle.hal_constants.specs.declared.operation.Operation.TheVariants as operation;
 ghost use Rattle.hal_meaning.specs.Expressions as meaning;
 ghost use Rattle.hal_referents.specs.Referents.{BuiltinOf};
 ghost use Rattle.hal_referents.specs.SeenReferents.{seen_meant, seen_referent};
 ghost use Rattle.hal_gen_expr.specs.Called as called;
+ghost use Rattle.hal_gen_expr.specs.Calling as calling;
 ghost use Rattle.hal_gen_expr.specs.Emits.{Emits};
 ghost use Rattle.hal_gen_expr.specs.Emitting as emitting;
 ghost use Rattle.hal_gen_expr.specs.ExpressionCode as codes;
+ghost use Rattle.hal_gen_expr.specs.Leaves as leaves;
 ghost use Rattle.hal_gen_expr.specs.SeenSites.{seen_site, seen_numbering, IsSite};
 
-use crate::conditions::stay;
+use crate::calls::{emit_call, inputs_at, is_whole_parameter, lacks_names, require_call};
+use crate::conditions::{emit_operand, joins_conditions};
 use crate::leaves::{
     emit_any, emit_one, emit_sign, emit_two, exponent_instr, literal_instr, one,
     operation_of_relation, two,
@@ -23,6 +26,7 @@ use crate::leaves::{
 use crate::names::{emit_value, referent};
 use crate::references::emit_reference;
 use crate::site::Site;
+use crate::sizes::emit_size;
 use crate::uncoded::Uncoded;
 use hal_base::Place;
 use hal_code::Instr;
@@ -30,7 +34,7 @@ use hal_constants::{Operation, operation_of, operation_of_conversion, operation_
 use hal_operations::{Op1, Op2};
 use hal_referents::{Meant, Referent};
 use hal_scope::Builtin;
-use hal_tree::{Conversion, Expr, LiteralValue, SignedTerm};
+use hal_tree::{Conversion, Expr, Identifier, LiteralValue, SignedTerm};
 
 /// Whether a built-in function is SIZE.
 fn is_size(builtin: Builtin) -> bool
@@ -62,11 +66,15 @@ enum Form {
     One(Op1),
     /// An operation of two arguments.
     Two(Op2),
+    /// SIZE.
+    Size,
+    /// A call of the FUNCTION with this number.
+    Called(usize),
     /// Nothing that has code yet.
     Uncoded,
 }
 
-/// What a name is before a list that refers to this declaration; no call has code yet.
+/// What a name is before a list that refers to this declaration.
 fn declared_form(referent: &Referent) -> Form
     ensures { result ≡ called.form_of (seen_referent referent.now) }
 {
@@ -74,17 +82,17 @@ fn declared_form(referent: &Referent) -> Form
         Referent::Data { .. } => Form::Multiplied,
         Referent::Constant(_) => Form::Multiplied,
         Referent::Event(_) => Form::Uncoded,
-        Referent::Block(_) => Form::Uncoded,
+        Referent::Block(unit) => Form::Called(*unit),
         Referent::Nothing => Form::Uncoded,
     }
 }
 
-/// What a built-in function is before a list; SIZE has no code yet.
+/// What a built-in function is before a list.
 fn builtin_form(builtin: Builtin) -> Form
     ensures { result ≡ called.form_of (BuiltinOf builtin) }
 {
     if is_size(builtin) {
-        return Form::Uncoded;
+        return Form::Size;
     }
     match operation_of(builtin) {
         Operation::One(op) => Form::One(op),
@@ -102,22 +110,6 @@ fn form_of(meant: Meant<'_>) -> Form
         Meant::Declared(referent) => declared_form(referent),
         Meant::Builtin(builtin) => builtin_form(builtin),
         Meant::Nothing => Form::Uncoded,
-    }
-}
-
-/// Tells the place of AND or OR whose operands don't stay as they are.
-fn require_stay(
-    code: &Vec<Instr>,
-    place: Place,
-    first: &Expr,
-    others: &Vec<Expr>,
-) -> Result<(), Uncoded>
-    ensures { Emits (codes.where_they_stay code.now.items place (seen_expression first.now) (expressions (map seen_expression others.now.items))) result code.now.items }
-{
-    if stay(first, others) {
-        Ok(())
-    } else {
-        Err(Uncoded::At(place))
     }
 }
 
@@ -150,18 +142,20 @@ pub fn emit_expression(tree: &Expr, code: &mut Vec<Instr>, site: &Site<'_>) -> R
             first,
             others,
         } => {
-            require_stay(code, *place, first, others)?;
+            let condition = joins_conditions(first, others);
             emit_expression(first, code, site)?;
-            emit_folded(others, code, site, *place, Op2::Or)
+            emit_operand(code, *place, condition, first)?;
+            emit_joined(others, code, site, *place, Op2::Or, condition)
         }
         Expr::And {
             place,
             first,
             others,
         } => {
-            require_stay(code, *place, first, others)?;
+            let condition = joins_conditions(first, others);
             emit_expression(first, code, site)?;
-            emit_folded(others, code, site, *place, Op2::And)
+            emit_operand(code, *place, condition, first)?;
+            emit_joined(others, code, site, *place, Op2::And, condition)
         }
         Expr::Compare {
             place,
@@ -225,6 +219,8 @@ pub fn emit_expression(tree: &Expr, code: &mut Vec<Instr>, site: &Site<'_>) -> R
             }
             Form::One(op) => emit_of_one(arguments, code, site, *place, op),
             Form::Two(op) => emit_of_two(arguments, code, site, *place, op),
+            Form::Size => emit_size(code, *place, arguments, site),
+            Form::Called(unit) => emit_called(arguments, code, site, *place, true, unit),
             Form::Uncoded => Err(Uncoded::At(*place)),
         },
         Expr::Convert {
@@ -237,6 +233,28 @@ pub fn emit_expression(tree: &Expr, code: &mut Vec<Instr>, site: &Site<'_>) -> R
         }
         Expr::Parenthesis { inner, .. } => emit_expression(inner, code, site),
     }
+}
+
+/// Adds the code of operands of AND or OR behind a value, each with the operation, beside a condition or not.
+#[cycle(expressions)]
+#[tactic(auto, unfolding(hal_tree::specs::Rows::expressions))]
+fn emit_joined(
+    trees: &Vec<Expr>,
+    code: &mut Vec<Instr>,
+    site: &Site<'_>,
+    place: Place,
+    op: Op2,
+    condition: bool,
+) -> Result<(), Uncoded>
+    requires site { IsSite site.now }
+    ensures { Emits (codes.joined_code (seen_numbering site.now) (seen_site site.now) code.old.items place op condition (expressions (map seen_expression trees.now.items))) result code.new.items }
+{
+    for tree in trees {
+        emit_expression(tree, code, site)?;
+        emit_operand(code, place, condition, tree)?;
+        emit_one(code, place, two(op))?;
+    }
+    Ok(())
 }
 
 /// Adds the code of operands behind a value, each with the operation.
@@ -335,4 +353,70 @@ fn emit_of_two(
     emit_expression(left, code, site)?;
     emit_expression(right, code, site)?;
     emit_one(code, place, two(op))
+}
+
+/// Adds the code of an argument for the parameter of this name of the unit with this number.
+#[cycle(expressions)]
+fn emit_argument(
+    tree: &Expr,
+    code: &mut Vec<Instr>,
+    site: &Site<'_>,
+    place: Place,
+    unit: usize,
+    name: &Identifier,
+) -> Result<(), Uncoded>
+    requires site { IsSite site.now }
+    ensures { Emits (calling.argument_code (seen_numbering site.now) (seen_site site.now) code.old.items place unit (seen_name name.now) (seen_expression tree.now)) result code.new.items }
+{
+    if is_whole_parameter(site, unit, name)? {
+        return Err(Uncoded::At(place));
+    }
+    emit_expression(tree, code, site)
+}
+
+/// Adds the code of arguments for the input parameters of the unit with this number, from left to right.
+#[cycle(expressions)]
+#[tactic(auto, using(crate::proofs::Calling::argument_first), unfolding(hal_tree::specs::Rows::expressions))]
+fn emit_arguments(
+    arguments: &Vec<Expr>,
+    code: &mut Vec<Instr>,
+    site: &Site<'_>,
+    place: Place,
+    unit: usize,
+) -> Result<(), Uncoded>
+    requires site { IsSite site.now }
+    ensures { Emits (codes.arguments_code (seen_numbering site.now) (seen_site site.now) code.old.items place unit (meaning.inputs_at (seen_site site.now).set unit) (expressions (map seen_expression arguments.now.items))) result code.new.items }
+{
+    let mut left = inputs_at(site, unit);
+    for tree in arguments {
+        let Some((name, more)) = left.split_first() else {
+            return Err(Uncoded::At(place));
+        };
+        emit_argument(tree, code, site, place, unit, name)?;
+        left = more;
+    }
+    if lacks_names(left) {
+        Ok(())
+    } else {
+        Err(Uncoded::At(place))
+    }
+}
+
+/// Adds the code of a call of the unit with this number: of a FUNCTION for its value, or of a PROCEDURE (language document, Units).
+#[cycle(expressions)]
+#[tactic(auto, using(crate::proofs::Calling::behind_given, crate::proofs::Calling::behind_stopped, crate::proofs::Calling::behind_none))]
+pub fn emit_called(
+    arguments: &Vec<Expr>,
+    code: &mut Vec<Instr>,
+    site: &Site<'_>,
+    place: Place,
+    function: bool,
+    unit: usize,
+) -> Result<(), Uncoded>
+    requires site { IsSite site.now }
+    ensures { Emits (codes.behind_arguments place (codes.arguments_code (seen_numbering site.now) (seen_site site.now) code.old.items place unit (meaning.inputs_at (seen_site site.now).set unit) (expressions (map seen_expression arguments.now.items))) (leaves.call_of (seen_numbering site.now) (seen_site site.now) function unit)) result code.new.items }
+{
+    require_call(site, place, function, unit)?;
+    emit_arguments(arguments, code, site, place, unit)?;
+    emit_call(code, site, place, function, unit)
 }

@@ -104,7 +104,7 @@ pub fn pushes(value: &Value) -> Instr
     }
 }
 
-/// An integer of a literal, where it has 31 bits.
+/// An integer, where it has 31 bits.
 pub(crate) fn integer_instr(number: u32) -> Option<Instr>
     ensures { result ≡ codes.integer_instr number }
 {

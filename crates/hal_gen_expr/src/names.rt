@@ -10,6 +10,7 @@ ghost use Rattle.hal_gen_expr.specs.Leaves as leaves;
 ghost use Rattle.hal_gen_expr.specs.Referents as referents;
 ghost use Rattle.hal_gen_expr.specs.SeenSites.{seen_site, seen_numbering, IsSite};
 
+use crate::calls::{emit_call, inputs_at, lacks_names};
 use crate::leaves::{emit_alone, emit_one, emit_two, pushes};
 use crate::site::Site;
 use crate::uncoded::Uncoded;
@@ -36,7 +37,6 @@ pub fn referent<'a>(site: &Site<'a>, name: &Name) -> Meant<'a>
 }
 
 /// Adds the code of the value of what a phrase declares, to whose one element these names lead.
-#[tactic(auto, using(crate::proofs::Uncalled::unit_uncalled), unfolding(crate::specs::SeenSites::seen_numbering))]
 fn emit_declared(
     code: &mut Vec<Instr>,
     site: &Site<'_>,
@@ -58,7 +58,13 @@ fn emit_declared(
         }
         Referent::Constant(value) => emit_one(code, place, pushes(value)),
         Referent::Event(event) => emit_one(code, place, Instr::Event(*event)),
-        Referent::Block(_) => Err(Uncoded::At(place)),
+        Referent::Block(unit) => {
+            if lacks_names(inputs_at(site, *unit)) {
+                emit_call(code, site, place, true, *unit)
+            } else {
+                Err(Uncoded::At(place))
+            }
+        }
         Referent::Nothing => Err(Uncoded::At(place)),
     }
 }

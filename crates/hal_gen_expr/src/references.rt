@@ -212,7 +212,7 @@ fn emit_by_name(
 }
 
 /// Adds an integer in a subscript, where it has 31 bits.
-fn emit_integer(code: &mut Vec<Instr>, place: Place, number: u32) -> Result<(), Uncoded>
+pub fn emit_integer(code: &mut Vec<Instr>, place: Place, number: u32) -> Result<(), Uncoded>
     ensures { Emits (codes.integer_code code.old.items place number) result code.new.items }
 {
     emit_any(code, place, integer_instr(number))

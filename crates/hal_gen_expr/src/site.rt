@@ -13,6 +13,13 @@ pub struct Events<'a> {
     pub declared: &'a [usize],
 }
 
+/// The units that are called, by the numbers of their phrases: in the order of their blocks, of which the first has this number.
+#[derive(Clone, Copy)]
+pub struct Calls<'a> {
+    pub first: usize,
+    pub units: &'a [usize],
+}
+
 /// Where phrases stand, as far as their code goes by it.
 #[derive(Clone, Copy)]
 pub struct Site<'a> {
@@ -32,4 +39,5 @@ pub struct Site<'a> {
     pub marks: &'a [usize],
     /// The views, in the order of their numbers.
     pub views: &'a [View],
+    pub calls: Calls<'a>,
 }

@@ -36,7 +36,7 @@ fn first_place(places: &[&Place], owner: usize) -> usize
 }
 
 /// A number of 32 bits, below 4,294,967,295.
-fn numbered(number: usize) -> Option<u32>
+pub(crate) fn numbered(number: usize) -> Option<u32>
     ensures { result ≡ numbers.below numbers.most number }
 {
     if number < 4_294_967_295 {
@@ -206,6 +206,15 @@ pub(crate) fn address_of(
     let from = settled_for(rows, base)?;
     let number = view_number(site, rows, one.kind, from)?;
     Some(Instr::Cell(number))
+}
+
+/// The number of the view of an own place of kind DOUBLE, before which so many lie of those of the phrase with this number.
+pub fn place_view(site: &Site<'_>, owner: usize, before: u32) -> Option<u32>
+    requires site { IsSite site.now }
+    ensures { result ≡ leaves.place_view (seen_numbering site.now) (seen_site site.now) owner before }
+{
+    let base = base_of(site, owner, Storing::InPlaces, before)?;
+    view_number(site, &[], Kind::Double, base)
 }
 
 /// CELL of one element.

@@ -13,7 +13,7 @@ use Rattle.hal_gen_expr.specs.SeenSites.{lent_place}
 use Rattle.hal_link.specs.Linking.{alone, own_row}
 
 -- one, and those behind it
-next_one : {X : Type 0} (xs : List X) (i : ℕ) (x : X) → i < length xs → x ≡ get_or xs i x → drop i xs ≡ x ∷ drop (i + 1) xs
+pub next_one : {X : Type 0} (xs : List X) (i : ℕ) (x : X) → i < length xs → x ≡ get_or xs i x → drop i xs ≡ x ∷ drop (i + 1) xs
 next_one xs i x within is = drop-cons xs i x within ∙ ap (λ n. get_or xs i x ∷ drop n xs) (sym (add-one i)) ∙ ap (λ y. y ∷ drop (i + 1) xs) (sym is)
 
 -- a place behind those so far

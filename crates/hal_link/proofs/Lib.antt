@@ -1,5 +1,7 @@
 pub mod Tabled
+pub mod Outlined
 pub mod Processed
+pub mod UnitCoded
 pub mod Linked
 mod Placed
 mod Coded
@@ -9,3 +11,7 @@ mod Locked
 mod Narrow
 mod Lent
 mod Begun
+mod Zeros
+mod Ranking
+mod Clearing
+mod Beginning

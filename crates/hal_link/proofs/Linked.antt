@@ -1,5 +1,5 @@
 -- The image of a set stands for it.
-use Rattle.std.specs.Prelude.{◌≡◌, ◌<◌, ℕ, zero, suc, ◌+◌, ◌==◌, Bool, true, false, List, [], ◌∷◌, ◌++◌, length, find, Option, Some, None, slice_get, Ok, Err, if◌then◌else◌}
+use Rattle.std.specs.Prelude.{◌≡◌, ◌<◌, ◌≤◌, ℕ, zero, suc, ◌+◌, ◌==◌, Bool, true, false, List, [], ◌∷◌, ◌++◌, length, find, position, Option, Some, None, slice_get, Ok, Err, if◌then◌else◌}
 use Rattle.std.proofs.Common.{refl, sym, ap, subst, ◌∙◌, arith, append-nil}
 use Rattle.std.proofs.lemmas.Bool.{eqb-true}
 use Rattle.std.proofs.lemmas.Option.{slice_get_within}
@@ -8,7 +8,7 @@ use Rattle.hal_grammar.specs.Units.{File}
 use Rattle.hal_phrases.specs.GatheredUnits.{phrases_of}
 use Rattle.hal_meaning.specs.Bodies.{Body, processes_of}
 use Rattle.hal_meaning.specs.Calls.{is_function}
-use Rattle.hal_meaning.specs.Runs.{process_body}
+use Rattle.hal_meaning.specs.Runs.{places_of_process}
 use Rattle.hal_meaning.specs.ReportNames.{path_of}
 use Rattle.hal_meaning.specs.Sets.{Set, set_of, body_at}
 use Rattle.hal_code.specs.declared.image.ImageParts.{ImageParts}
@@ -18,15 +18,22 @@ use Rattle.hal_code.specs.declared.row.View.{View}
 use Rattle.hal_code.specs.Images.{first_of, first_of_block}
 use Rattle.hal_agreement.specs.Codes.{Code}
 use Rattle.hal_agreement.specs.Placed.{IsPlacedProcess, IsPlaced}
-use Rattle.hal_agreement.specs.PlacedBlocks.{ProcessAt}
+use Rattle.hal_agreement.specs.PlacedBlocks.{ProcessAt, UnitAt, UnitsAt}
 use Rattle.hal_gen_expr.specs.Emitting.{Emitted}
+use Rattle.hal_gen_expr.specs.Numbering.{below, most, block_number}
 use Rattle.hal_gen_expr.specs.Standing.{Begins, IsNumbered}
 use Rattle.hal_gen_expr.proofs.Forwarding.{Goes, none_goes, joined_goes}
-use Rattle.hal_gen_expr.proofs.Growing.{append_append}
+use Rattle.hal_gen_expr.proofs.Growing.{append_append, length_of_one_more}
+use Rattle.hal_gen_expr.proofs.Numbered as numbered
+use Rattle.hal_link.specs.Outlines.{Outline, own_block, block_of, outlines_of, ranks_of, numbering_of}
 use Rattle.hal_link.specs.ProcessCode.{finish_of, process_code}
-use Rattle.hal_gen_expr.specs.Numbering.{numbering}
-use Rattle.hal_link.specs.Linking.{Linked, linked, Linking, process_block, process_site, behind_process, with_process, linked_from, image_with, linking, image_by, image_of}
-use Rattle.hal_link.proofs.Processed.{Processed, process_at}
+use Rattle.hal_link.specs.UnitCode.{clears_of, cleared_code, end_of, unit_code, unit_block}
+use Rattle.hal_link.specs.Linking.{Linked, linked, Linking, and_then, process_block, process_site, behind_block, with_process, with_unit, with_units, with_outline, with_outlines, image_with, linking, image_by, image_of}
+use Rattle.hal_link.proofs.Beginning.{all_begin}
+use Rattle.hal_link.proofs.Clearing.{all_cleared}
+use Rattle.hal_link.proofs.Outlined.{Laid, outlines_laid, outline_found}
+use Rattle.hal_link.proofs.Processed.{process_at}
+use Rattle.hal_link.proofs.UnitCoded.{UnitCoded, unit_at}
 use Rattle.hal_link.proofs.Tabled.{tables_same, process_there, places_begin}
 
 -- the unit that is found has the number that is looked for
@@ -38,157 +45,360 @@ found_number k (one ∷ bodies) b is = by (one.number == k) refl is (λ later. f
   by true same here later = let it : one ≡ b = cc in subst (λ (x : Body). x.number ≡ k) it (eqb-true one.number k same)
   by false same here later = later here
 
+-- and is found by its own
+found_by_own : (s : Set) (k : ℕ) (b : Body) → body_at s k ≡ Some b → body_at s b.number ≡ Some b
+found_by_own s k b found = subst (λ unit. body_at s unit ≡ Some b) (sym (found_number k s.bodies b found)) found
+
 -- what stands behind a list
 at_list_end : {T : Type 0} (xs : List T) (x : T) (more : List T) → slice_get (xs ++ (x ∷ more)) (length xs) ≡ Some x
 at_list_end [] x more = refl
 at_list_end (y ∷ xs) x more = at_list_end xs x more
 
-length_of_more : {T : Type 0} (xs : List T) (x : T) → length (xs ++ (x ∷ [])) ≡ suc (length xs)
-length_of_more [] x = refl
-length_of_more (y ∷ xs) x = ap suc (length_of_more xs x)
+named_there : {T : Type 0} (xs : List T) (p : ℕ) → p < length xs → (x : T) × (slice_get xs p ≡ Some x)
+named_there [] p less = absurd (omega (arith, less))
+named_there (x ∷ xs) zero less = (x, refl)
+named_there (x ∷ xs) (suc p) less = named_there xs p (omega (arith, less))
+
+-- what an option has is one thing
+the_same : {A : Type 0} (a b : A) (o : Option A) → o ≡ Some a → o ≡ Some b → a ≡ b
+the_same a b o is are = ap (λ one. elim one [ None ↦ a | Some x ↦ x ]) (sym is ∙ are)
+
+-- what is linked in two steps
+both_linked : (r : Linking) (next : Linked → Linking) (last : Linked) → and_then r next ≡ Ok last → (middle : Linked) × (r ≡ Ok middle) × (next middle ≡ Ok last)
+both_linked (Ok middle) next last is = (middle, refl, is)
+both_linked (Err at) next last is = absurd (cc)
+
+abbrev one_behind : (ℕ → ℕ → Block) → Linked → List Instr → Linked
+one_behind row so_far after = linked after (so_far.blocks ++ (row (length so_far.code) (length after) ∷ []))
+
+-- code that came behind
+block_linked : (row : ℕ → ℕ → Block) (so_far late : Linked) (r : Emitted) → behind_block row so_far r ≡ Ok late → (after : List Instr) × (r ≡ Ok after) × (one_behind row so_far after ≡ late)
+block_linked row so_far late (Ok after) is = (after, refl, cc)
+block_linked row so_far late (Err at) is = absurd (cc)
+
+unless_function : (function : Bool) (r : Linking) (late : Linked) → (if function then Err None else r) ≡ Ok late → (function ≡ false) × (r ≡ Ok late)
+unless_function true r late is = absurd (cc)
+unless_function false r late is = (refl, is)
+
+module _ (s : Set) (views : List View) where
+  -- how many rows of blocks there are
+  one_longer : (row : ℕ → ℕ → Block) (so_far late : Linked) (r : Emitted) → behind_block row so_far r ≡ Ok late → length late.blocks ≡ suc (length so_far.blocks)
+  one_longer row so_far late r is =
+      let there = block_linked row so_far late r is in
+      ap (λ (l : Linked). length l.blocks) (sym there.2) ∙ length_of_one_more so_far.blocks (row (length so_far.code) (length there.0))
+
+  unit_longer : (o : Outline) (b : Option Body) (so_far late : Linked) → with_unit s (numbering_of views o) o.process so_far b ≡ Ok late → length late.blocks ≡ suc (length so_far.blocks)
+  unit_longer o None so_far late is = absurd (cc)
+  unit_longer o (Some body) so_far late is =
+      one_longer (unit_block o.process body.head) so_far late (unit_code (numbering_of views o) (process_site s o.process body) so_far.code body.head body.statements) is
+
+  process_longer : (o : Outline) (b : Option Body) (so_far late : Linked) → with_process s (numbering_of views o) o.process so_far b ≡ Ok late → length late.blocks ≡ suc (length so_far.blocks)
+  process_longer o None so_far late is = absurd (cc)
+  process_longer o (Some body) so_far late is =
+      let code = process_code (numbering_of views o) (process_site s o.process body) so_far.code body.statements in
+      one_longer (process_block o.process) so_far late code ((unless_function (is_function body.head) (behind_block (process_block o.process) so_far code) late is).1)
+
+  units_longer : (o : Outline) (ks : List ℕ) (so_far late : Linked) → with_units s (numbering_of views o) o.process ks so_far ≡ Ok late → length late.blocks ≡ length so_far.blocks + length ks
+  unfolding with_units
+  units_longer o [] so_far late is = let same : so_far ≡ late = cc in let long = ap (λ (l : Linked). length l.blocks) same in omega (arith, long)
+  units_longer o (k ∷ ks) so_far late is =
+      let there = both_linked (with_unit s (numbering_of views o) o.process so_far (body_at s k)) (with_units s (numbering_of views o) o.process ks) late is in
+      let first = unit_longer o (body_at s k) so_far there.0 there.1 in
+      let others = units_longer o ks there.0 late there.2 in
+      omega (arith, first, others)
+
+  outline_longer : (o : Outline) (so_far late : Linked) → with_outline s views o so_far ≡ Ok late → length late.blocks ≡ length so_far.blocks + suc (length o.called)
+  outline_longer o so_far late is =
+      let there = both_linked (with_units s (numbering_of views o) o.process o.called so_far) (λ middle. with_process s (numbering_of views o) o.process middle (body_at s o.unit)) late is in
+      let units = units_longer o o.called so_far there.0 there.1 in
+      let last = process_longer o (body_at s o.unit) there.0 late there.2 in
+      omega (arith, units, last)
+
+  outlines_longer : (os : List Outline) (so_far late : Linked) → with_outlines s views os so_far ≡ Ok late → length so_far.blocks ≤ length late.blocks
+  unfolding with_outlines
+  outlines_longer [] so_far late is = let same : so_far ≡ late = cc in let long = ap (λ (l : Linked). length l.blocks) same in omega (arith, long)
+  outlines_longer (o ∷ os) so_far late is =
+      let there = both_linked (with_outline s views o so_far) (with_outlines s views os) late is in
+      let first = outline_longer o so_far there.0 there.1 in
+      let others = outlines_longer os there.0 late there.2 in
+      omega (arith, first, others)
 
 module _ (s : Set) (views : List View) (whole : Linked) where
   abbrev image : ImageParts
   image = image_with s views whole
 
-  -- no unit is called
+  -- the code of a process: the image with the blocks of the units that it calls
+  abbrev code_of : Outline → Code
+  code_of o = record { image = image; block = block_number (numbering_of views o) }
+
+  -- the image alone
   abbrev code : Code
   code = record { image = image; block = λ unit. None }
 
-  numbered : IsNumbered code (numbering views)
-  numbered = record { views = refl; blocks = λ unit number is. absurd (cc) }
+  goes_in : (o : Outline) (from to : ℕ) → Goes (code_of o) from to → Goes code from to
+  goes_in o from to goes = record { ordered = goes.ordered; each = goes.each }
 
-  -- the code of a process stands there
-  record Stands (p : ℕ) : Type 0 where
+  -- the block of a unit
+  record Numbered (o : Outline) (unit number : ℕ) : Type 0 where
+    pub place : ℕ
+    pub there : slice_get o.called place ≡ Some unit
+    pub is : o.first + place ≡ number
+
+  number_given : (o : Outline) (unit number : ℕ) → block_number (numbering_of views o) unit ≡ Some number → Numbered o unit number
+  number_given o unit number given =
+      let named = numbered.then_is (λ k. below most (o.first + k)) (position (λ one. one == unit) o.called) number given in
+      let member = numbered.first_is (λ one. one == unit) o.called named.0 named.1 in
+      record {
+        place = named.0;
+        there = subst (λ k. slice_get o.called named.0 ≡ Some k) (eqb-true member.0 unit member.2) member.1;
+        is = numbered.below_is most (o.first + named.0) number named.2;
+      }
+
+  outline_numbered : (o : Outline) → own_block o < length whole.blocks → IsNumbered (code_of o) (numbering_of views o)
+  outline_numbered o room =
+      record {
+        views = refl;
+        blocks = λ unit number given.
+            let there = number_given o unit number given in
+            let within = slice_get_within o.called there.place unit there.there in
+            let same = there.is in
+            let row = named_there whole.blocks number (omega (arith, room, within, same)) in (given, row.0, row.1);
+      }
+
+  -- a unit that a process calls stands in the block with this number
+  record UnitStands (o : Outline) (number unit : ℕ) : Type 0 where
     pub body : Body
-    pub found : process_body s p ≡ Some body
+    pub row : Block
+    pub found : body_at s unit ≡ Some body
+    pub block : slice_get whole.blocks number ≡ Some row
+    pub at : UnitAt (code_of o) s (places_of_process s o.process) body row
+
+  -- the code of a process stands there, and that of the units that it calls
+  record Stands (o : Outline) : Type 0 where
+    pub body : Body
+    pub found : body_at s o.unit ≡ Some body
     pub plain : is_function body.head ≡ false
-    pub number : body_at s body.number ≡ Some body
     pub before : List Instr
     pub end : ℕ
-    pub row : slice_get whole.blocks p ≡ Some (process_block p (length before) end)
-    pub stands : ProcessAt code (length before) (process_site s p body) 0 body.statements (λ mark. finish_of (numbering views) (process_site s p body) before body.statements)
+    pub row : slice_get whole.blocks (own_block o) ≡ Some (process_block o.process (length before) end)
+    pub stands : ProcessAt (code_of o) (length before) (process_site s o.process body) 0 body.statements (λ mark. finish_of (numbering_of views o) (process_site s o.process body) before body.statements)
+    pub units : (k unit : ℕ) → slice_get o.called k ≡ Some unit → UnitStands o (o.first + k) unit
 
-  -- what is known of the code of processes from one on
-  record Known (p count : ℕ) (so_far : Linked) : Type 0 where
+  -- what is known where code goes on to the whole
+  record Known (so_far : Linked) : Type 0 where
     pub begins : Begins so_far.code whole.code
     pub rest : List Block
     pub blocks : whole.blocks ≡ so_far.blocks ++ rest
     pub goes : Goes code (length so_far.code) (length whole.code)
-    pub each : (q : ℕ) → q < count → Stands (p + q)
 
-  -- the numbers of the units of processes from one on
-  abbrev Numbers : ℕ → List ℕ → Type 0
-  Numbers p ks = (q m : ℕ) → m ≡ p + q → slice_get (processes_of s.phrases) m ≡ slice_get ks q
-
-  abbrev Later : ℕ → List ℕ → Type 0
-  Later p ks = (late : Linked) → Numbers (suc p) ks → length late.blocks ≡ suc p → linked_from s (numbering views) (suc p) ks late ≡ Ok whole → Known (suc p) (length ks) late
-
-  next_numbers : (k : ℕ) (ks : List ℕ) (p : ℕ) → Numbers p (k ∷ ks) → Numbers (suc p) ks
-  next_numbers k ks p numbers q m is = numbers (suc q) m (omega (arith, is))
-
-  -- a process whose code this is
-  stands_here : (k : ℕ) (ks : List ℕ) (p : ℕ) (so_far : Linked) (body : Body) (after : List Instr) (rest : List Block) → body_at s k ≡ Some body → Numbers p (k ∷ ks) → length so_far.blocks ≡ p
-      → is_function body.head ≡ false → whole.blocks ≡ so_far.blocks ++ (process_block p (length so_far.code) (length after) ∷ rest)
-      → Processed code (numbering views) (process_site s p body) numbered so_far.code after body.statements → Stands p
-  stands_here k ks p so_far body after rest found numbers long plain blocks processed =
-      let here : slice_get (processes_of s.phrases) p ≡ Some k = numbers 0 p (omega arith) in
-      record {
-        body = body;
-        found = ap (λ o. elim o [ None ↦ None | Some unit ↦ body_at s unit ]) here ∙ found;
-        plain = plain;
-        number = subst (λ unit. body_at s unit ≡ Some body) (sym (found_number k s.bodies body found)) found;
-        before = so_far.code;
-        end = length after;
-        row = ap (λ l. slice_get l p) blocks
-            ∙ subst (λ m. slice_get (so_far.blocks ++ (process_block p (length so_far.code) (length after) ∷ rest)) m ≡ Some (process_block p (length so_far.code) (length after))) long
-            (at_list_end so_far.blocks (process_block p (length so_far.code) (length after)) rest);
-        stands = processed.stands;
-      }
-
-  one_more : (p count : ℕ) → Stands p → ((q : ℕ) → q < count → Stands (suc p + q)) → (q : ℕ) → q < suc count → Stands (p + q)
-  one_more p count here later zero less = let same : p ≡ p + 0 = omega arith in subst Stands same here
-  one_more p count here later (suc q) less = let same : suc p + q ≡ p + suc q = omega arith in subst Stands same (later q (omega (arith, less)))
-
-  -- behind the code of a process
-  code_known : (k : ℕ) (ks : List ℕ) (p : ℕ) (so_far : Linked) (body : Body) (r : Emitted) → process_code (numbering views) (process_site s p body) so_far.code body.statements ≡ r → body_at s k ≡ Some body
-      → Numbers p (k ∷ ks) → length so_far.blocks ≡ p → is_function body.head ≡ false → Later p ks
-      → behind_process p so_far (λ late. linked_from s (numbering views) (suc p) ks late) r ≡ Ok whole → Known p (suc (length ks)) so_far
-  code_known k ks p so_far body (Err place) there found numbers long plain later is = absurd (cc)
-  code_known k ks p so_far body (Ok after) there found numbers long plain later is =
-      let row = process_block p (length so_far.code) (length after) in
-      let known = later (linked after (so_far.blocks ++ (row ∷ []))) (next_numbers k ks p numbers) (length_of_more so_far.blocks row ∙ ap suc long) is in
-      let processed = process_at code (numbering views) (process_site s p body) numbered body.statements so_far.code after there known.begins in
-      let blocks = known.blocks ∙ append_append so_far.blocks (row ∷ []) known.rest in
-      record {
-        begins = processed.begins;
-        rest = row ∷ known.rest;
-        blocks = blocks;
-        goes = joined_goes code (length so_far.code) (length after) (length whole.code) processed.goes known.goes;
-        each = one_more p (length ks) (stands_here k ks p so_far body after known.rest found numbers long plain blocks processed) known.each;
-      }
-
-  form_known : (k : ℕ) (ks : List ℕ) (p : ℕ) (so_far : Linked) (body : Body) (function : Bool) → is_function body.head ≡ function → body_at s k ≡ Some body → Numbers p (k ∷ ks) → length so_far.blocks ≡ p → Later p ks
-      → (if function then Err None else behind_process p so_far (λ late. linked_from s (numbering views) (suc p) ks late) (process_code (numbering views) (process_site s p body) so_far.code body.statements)) ≡ Ok whole
-      → Known p (suc (length ks)) so_far
-  form_known k ks p so_far body true plain found numbers long later is = absurd (cc)
-  form_known k ks p so_far body false plain found numbers long later is =
-      code_known k ks p so_far body (process_code (numbering views) (process_site s p body) so_far.code body.statements) refl found numbers long plain later is
-
-  process_known : (k : ℕ) (ks : List ℕ) (p : ℕ) (so_far : Linked) (o : Option Body) → body_at s k ≡ o → Numbers p (k ∷ ks) → length so_far.blocks ≡ p → Later p ks
-      → with_process s (numbering views) p so_far (λ late. linked_from s (numbering views) (suc p) ks late) o ≡ Ok whole → Known p (suc (length ks)) so_far
-  process_known k ks p so_far None found numbers long later is = absurd (cc)
-  process_known k ks p so_far (Some body) found numbers long later is = form_known k ks p so_far body (is_function body.head) refl found numbers long later is
-
-  processes_known : (ks : List ℕ) (p : ℕ) (so_far : Linked) → Numbers p ks → length so_far.blocks ≡ p → linked_from s (numbering views) p ks so_far ≡ Ok whole → Known p (length ks) so_far
-  processes_known [] p so_far numbers long is =
-      let same : so_far ≡ whole = cc in
+  whole_known : (so_far : Linked) → so_far ≡ whole → Known so_far
+  whole_known so_far same =
       record {
         begins = record { more = []; is = ap (λ (one : Linked). one.code) (sym same) ∙ sym (append-nil so_far.code) };
         rest = [];
         blocks = ap (λ (one : Linked). one.blocks) (sym same) ∙ sym (append-nil so_far.blocks);
         goes = none_goes code (length so_far.code) (length whole.code) (ap (λ (one : Linked). length one.code) same);
-        each = λ q less. absurd (omega (arith, less));
       }
-  processes_known (k ∷ ks) p so_far numbers long is =
-      process_known k ks p so_far (body_at s k) refl numbers long (λ late numbers_there long_there rest. processes_known ks (suc p) late numbers_there long_there rest) is
 
-  named_there : {T : Type 0} (xs : List T) (p : ℕ) → p < length xs → (x : T) × (slice_get xs p ≡ Some x)
-  named_there [] p less = absurd (omega (arith, less))
-  named_there (x ∷ xs) zero less = (x, refl)
-  named_there (x ∷ xs) (suc p) less = named_there xs p (omega (arith, less))
+  -- a block behind it
+  block_known : (row : ℕ → ℕ → Block) (so_far : Linked) (after : List Instr) → Known (one_behind row so_far after) → Begins so_far.code whole.code → Goes code (length so_far.code) (length after) → Known so_far
+  block_known row so_far after known begins goes =
+      record {
+        begins = begins;
+        rest = row (length so_far.code) (length after) ∷ known.rest;
+        blocks = known.blocks ∙ append_append so_far.blocks (row (length so_far.code) (length after) ∷ []) known.rest;
+        goes = joined_goes code (length so_far.code) (length after) (length whole.code) goes known.goes;
+      }
 
-  first_is : (p : ℕ) (name : List ℕ) (row : Block) → slice_get s.tables.processes p ≡ Some name → slice_get whole.blocks p ≡ Some row → first_of image p ≡ row.first
-  first_is p name row named there =
-      let process = process_there s p 0 s.tables.processes name named in
-      let number : 0 + p ≡ p = omega arith in
-      ap (λ o. elim o [ None ↦ 0 | Some one ↦ first_of_block image one.block ]) process
-      ∙ (ap (first_of_block image) number ∙ ap (λ o. elim o [ None ↦ 0 | Some block ↦ block.first ]) there)
+  row_there : (row : ℕ → ℕ → Block) (so_far : Linked) (after : List Instr) (number : ℕ) → length so_far.blocks ≡ number → Known (one_behind row so_far after)
+      → slice_get whole.blocks number ≡ Some (row (length so_far.code) (length after))
+  row_there row so_far after number long known =
+      subst (λ m. slice_get whole.blocks m ≡ Some (row (length so_far.code) (length after))) long
+      (ap (λ l. slice_get l (length so_far.blocks)) (known.blocks ∙ append_append so_far.blocks (row (length so_far.code) (length after) ∷ []) known.rest)
+      ∙ at_list_end so_far.blocks (row (length so_far.code) (length after)) known.rest)
 
-  process_placed : (p : ℕ) (name : List ℕ) → slice_get s.tables.processes p ≡ Some name → Stands p → IsPlacedProcess s image p
-  process_placed p name named one =
+  module _ (o : Outline) (room : own_block o < length whole.blocks) where
+    -- a unit that it calls
+    record UnitKnown (so_far : Linked) (number unit : ℕ) : Type 0 where
+      pub known : Known so_far
+      pub stands : UnitStands o number unit
+
+    unit_stands : (so_far : Linked) (number unit : ℕ) (body : Body) (after : List Instr) → body_at s unit ≡ Some body → length so_far.blocks ≡ number
+        → Known (one_behind (unit_block o.process body.head) so_far after)
+        → UnitCoded (code_of o) (numbering_of views o) (process_site s o.process body) (outline_numbered o room) (unit_block o.process body.head (length so_far.code) (length after)) so_far.code after body.head body.statements
+        → UnitStands o number unit
+    unit_stands so_far number unit body after found long known coded =
+        record {
+          body = body;
+          row = unit_block o.process body.head (length so_far.code) (length after);
+          found = found;
+          block = row_there (unit_block o.process body.head) so_far after number long known;
+          at = record {
+            found = found_by_own s unit body found;
+            clears = clears_of (process_site s o.process body);
+            start = length (cleared_code (process_site s o.process body) so_far.code);
+            begins = coded.clears;
+            cleared = λ held. all_cleared s body.number (places_of_process s o.process) held (all_begin s o.process body.number);
+            handler = λ mark. end_of (numbering_of views o) (process_site s o.process body) (cleared_code (process_site s o.process body) so_far.code) body.statements;
+            finish = coded.finish;
+            statements = coded.statements;
+            leads_out = coded.leads_out;
+            ends = coded.ends;
+          };
+        }
+
+    unit_known : (so_far late : Linked) (number unit : ℕ) (b : Option Body) → body_at s unit ≡ b → length so_far.blocks ≡ number
+        → with_unit s (numbering_of views o) o.process so_far b ≡ Ok late → Known late → UnitKnown so_far number unit
+    unit_known so_far late number unit None found long is known = absurd (cc)
+    unit_known so_far late number unit (Some body) found long is known =
+        let site = process_site s o.process body in
+        let there = block_linked (unit_block o.process body.head) so_far late (unit_code (numbering_of views o) site so_far.code body.head body.statements) is in
+        let behind = subst Known (sym there.2) known in
+        let coded = unit_at (code_of o) (numbering_of views o) site (outline_numbered o room) o.process (length so_far.code) (length there.0) body.head body.statements so_far.code there.0 there.1 behind.begins in
+        record {
+          known = block_known (unit_block o.process body.head) so_far there.0 behind coded.begins (goes_in o (length so_far.code) (length there.0) coded.goes);
+          stands = unit_stands so_far number unit body there.0 found long behind coded;
+        }
+
+    -- the units that it calls from one on
+    record UnitsKnown (so_far : Linked) (number : ℕ) (ks : List ℕ) : Type 0 where
+      pub known : Known so_far
+      pub each : (k unit : ℕ) → slice_get ks k ≡ Some unit → UnitStands o (number + k) unit
+
+    one_more : (number one : ℕ) (ks : List ℕ) → UnitStands o number one → ((k unit : ℕ) → slice_get ks k ≡ Some unit → UnitStands o (suc number + k) unit)
+        → (k unit : ℕ) → slice_get (one ∷ ks) k ≡ Some unit → UnitStands o (number + k) unit
+    one_more number one ks here later zero unit is =
+        let same : one ≡ unit = cc in let first : number ≡ number + 0 = omega arith in subst (λ m. UnitStands o m unit) first (subst (UnitStands o number) same here)
+    one_more number one ks here later (suc k) unit is = let same : suc number + k ≡ number + suc k = omega arith in subst (λ m. UnitStands o m unit) same (later k unit is)
+
+    units_known : (ks : List ℕ) (so_far late : Linked) (number : ℕ) → length so_far.blocks ≡ number
+        → with_units s (numbering_of views o) o.process ks so_far ≡ Ok late → Known late → UnitsKnown so_far number ks
+    unfolding with_units
+    units_known [] so_far late number long is known =
+        let same : late ≡ so_far = cc in record { known = subst Known same known; each = λ k unit has. absurd (cc) }
+    units_known (one ∷ ks) so_far late number long is known =
+        let there = both_linked (with_unit s (numbering_of views o) o.process so_far (body_at s one)) (with_units s (numbering_of views o) o.process ks) late is in
+        let more = unit_longer s views o (body_at s one) so_far there.0 there.1 in
+        let later = units_known ks there.0 late (suc number) (omega (arith, long, more)) there.2 known in
+        let here = unit_known so_far there.0 number one (body_at s one) refl long there.1 later.known in
+        record { known = here.known; each = one_more number one ks here.stands later.each }
+
+    -- the process itself, behind the units that it calls
+    record ProcessKnown (so_far : Linked) : Type 0 where
+      pub known : Known so_far
+      pub stands : ((k unit : ℕ) → slice_get o.called k ≡ Some unit → UnitStands o (o.first + k) unit) → Stands o
+
+    process_known : (so_far late : Linked) (b : Option Body) → body_at s o.unit ≡ b → length so_far.blocks ≡ own_block o → with_process s (numbering_of views o) o.process so_far b ≡ Ok late → Known late → ProcessKnown so_far
+    process_known so_far late None found long is known = absurd (cc)
+    process_known so_far late (Some body) found long is known =
+        let site = process_site s o.process body in
+        let emitted = process_code (numbering_of views o) site so_far.code body.statements in
+        let form = unless_function (is_function body.head) (behind_block (process_block o.process) so_far emitted) late is in
+        let there = block_linked (process_block o.process) so_far late emitted form.1 in
+        let behind = subst Known (sym there.2) known in
+        let processed = process_at (code_of o) (numbering_of views o) site (outline_numbered o room) body.statements so_far.code there.0 there.1 behind.begins in
+        record {
+          known = block_known (process_block o.process) so_far there.0 behind processed.begins (goes_in o (length so_far.code) (length there.0) processed.goes);
+          stands = λ units. record {
+            body = body;
+            found = found;
+            plain = form.0;
+            before = so_far.code;
+            end = length there.0;
+            row = row_there (process_block o.process) so_far there.0 (own_block o) long behind;
+            stands = processed.stands;
+            units = units;
+          };
+        }
+
+    record OutlineKnown (so_far : Linked) : Type 0 where
+      pub known : Known so_far
+      pub stands : Stands o
+
+    outline_known : (so_far late : Linked) → length so_far.blocks ≡ o.first → with_outline s views o so_far ≡ Ok late → Known late → OutlineKnown so_far
+    outline_known so_far late long is known =
+        let there = both_linked (with_units s (numbering_of views o) o.process o.called so_far) (λ middle. with_process s (numbering_of views o) o.process middle (body_at s o.unit)) late is in
+        let more = units_longer s views o o.called so_far there.0 there.1 in
+        let process = process_known there.0 late (body_at s o.unit) refl (omega (arith, long, more)) there.2 known in
+        let units = units_known o.called so_far there.0 o.first long there.1 process.known in
+        record { known = units.known; stands = process.stands units.each }
+
+  -- all processes
+  record AllKnown (so_far : Linked) (os : List Outline) : Type 0 where
+    pub known : Known so_far
+    pub each : (q : ℕ) (o : Outline) → slice_get os q ≡ Some o → Stands o
+
+  all_more : (one : Outline) (os : List Outline) → Stands one → ((q : ℕ) (o : Outline) → slice_get os q ≡ Some o → Stands o) → (q : ℕ) (o : Outline) → slice_get (one ∷ os) q ≡ Some o → Stands o
+  all_more one os here later zero o is = subst Stands (let same : one ≡ o = cc in same) here
+  all_more one os here later (suc q) o is = later q o is
+
+  outlines_known : (os : List Outline) (so_far : Linked) (first : ℕ) → Laid first os → length so_far.blocks ≡ first → with_outlines s views os so_far ≡ Ok whole → AllKnown so_far os
+  unfolding with_outlines
+  outlines_known [] so_far first laid long is = record { known = whole_known so_far (let same : so_far ≡ whole = cc in same); each = λ q o has. absurd (cc) }
+  outlines_known (o ∷ os) so_far first laid long is =
+      let there = both_linked (with_outline s views o so_far) (with_outlines s views os) whole is in
+      let more = outline_longer s views o so_far there.0 there.1 in
+      let within = outlines_longer s views os there.0 whole there.2 in
+      let starts = laid.0 in
+      let later = outlines_known os there.0 (own_block o + 1) laid.1 (omega (arith, long, more, starts)) there.2 in
+      let here = outline_known o (omega (arith, long, more, within, starts)) so_far there.0 (omega (arith, long, starts)) there.1 later.known in
+      record { known = here.known; each = all_more o os here.stands later.each }
+
+  -- all units that a process calls
+  units_placed : (o : Outline) → Stands o → UnitsAt (code_of o) s (places_of_process s o.process)
+  units_placed o one unit number b row named found block =
+      let given = number_given o unit number named in
+      let there = one.units given.place unit given.there in
+      subst (λ x. UnitAt (code_of o) s (places_of_process s o.process) x row) (the_same there.body b (body_at s unit) there.found found)
+      (subst (λ x. UnitAt (code_of o) s (places_of_process s o.process) there.body x)
+      (the_same there.row row (slice_get whole.blocks number) (subst (λ m. slice_get whole.blocks m ≡ Some there.row) given.is there.block) block) there.at)
+
+  first_is : (o : Outline) (name : List ℕ) (row : Block) → slice_get s.tables.processes o.process ≡ Some name → slice_get (outlines_of s) o.process ≡ Some o → slice_get whole.blocks (own_block o) ≡ Some row
+      → first_of image o.process ≡ row.first
+  first_is o name row named outline there =
+      let process = process_there s (outlines_of s) o.process 0 s.tables.processes name named in
+      let number : 0 + o.process ≡ o.process = omega arith in
+      ap (λ r. elim r [ None ↦ 0 | Some one ↦ first_of_block image one.block ]) process
+      ∙ (ap (λ p. first_of_block image (block_of (outlines_of s) p)) number
+      ∙ (ap (λ r. first_of_block image (elim r [ None ↦ 0 | Some one ↦ own_block one ])) outline ∙ ap (λ r. elim r [ None ↦ 0 | Some block ↦ block.first ]) there))
+
+  process_placed : (o : Outline) (name : List ℕ) → slice_get s.tables.processes o.process ≡ Some name → slice_get (outlines_of s) o.process ≡ Some o → slice_get (processes_of s.phrases) o.process ≡ Some o.unit → Stands o
+      → IsPlacedProcess s image o.process
+  process_placed o name named outline unit one =
       record {
         body = one.body;
-        found = one.found;
-        plain = ap (λ o. elim o [ None ↦ false | Some b ↦ is_function b.head ]) one.number ∙ one.plain;
-        places = places_begin s views whole p name named;
-        block = λ unit. None;
-        units = λ unit number b row is found there. absurd (cc);
-        spot = λ mark. finish_of (numbering views) (process_site s p one.body) one.before one.body.statements;
-        code = subst (λ begin. ProcessAt code begin (process_site s p one.body) 0 one.body.statements (λ mark. finish_of (numbering views) (process_site s p one.body) one.before one.body.statements))
-            (sym (first_is p name (process_block p (length one.before) one.end) named one.row)) one.stands;
+        found = ap (λ r. elim r [ None ↦ None | Some k ↦ body_at s k ]) unit ∙ one.found;
+        plain = ap (λ r. elim r [ None ↦ false | Some b ↦ is_function b.head ]) (found_by_own s o.unit one.body one.found) ∙ one.plain;
+        places = places_begin s views whole o.process name named;
+        block = block_number (numbering_of views o);
+        units = units_placed o one;
+        spot = λ mark. finish_of (numbering_of views o) (process_site s o.process one.body) one.before one.body.statements;
+        code = subst (λ begin. ProcessAt (code_of o) begin (process_site s o.process one.body) 0 one.body.statements (λ mark. finish_of (numbering_of views o) (process_site s o.process one.body) one.before one.body.statements))
+            (sym (first_is o name (process_block o.process (length one.before) one.end) named outline one.row)) one.stands;
       }
+
+  -- the process with this number
+  numbered_placed : (p k : ℕ) (name : List ℕ) → slice_get s.tables.processes p ≡ Some name → slice_get (processes_of s.phrases) p ≡ Some k → ((q : ℕ) (o : Outline) → slice_get (outlines_of s) q ≡ Some o → Stands o)
+      → IsPlacedProcess s image p
+  numbered_placed p k name named unit each =
+      let found = outline_found (ranks_of s.phrases) (processes_of s.phrases) 0 0 p k unit in
+      let its : found.outline.process ≡ p = let number = found.process in omega (arith, number) in
+      subst (IsPlacedProcess s image) its
+      (process_placed found.outline name (subst (λ q. slice_get s.tables.processes q ≡ Some name) (sym its) named)
+      (subst (λ q. slice_get (outlines_of s) q ≡ Some found.outline) (sym its) found.there)
+      (subst (λ q. slice_get (processes_of s.phrases) q ≡ Some found.outline.unit) (sym its) (unit ∙ ap Some (sym found.unit))) (each p found.outline found.there))
 
   pub placed : linking s views ≡ Ok whole → length s.tables.processes ≡ length (processes_of s.phrases) → IsPlaced s image
   placed is same =
-      let known = processes_known (processes_of s.phrases) 0 (linked [] []) (λ q m at. let number : m ≡ q = omega (arith, at) in ap (slice_get (processes_of s.phrases)) number) refl is in
+      let known = outlines_known (outlines_of s) (linked [] []) 0 (outlines_laid (ranks_of s.phrases) 0 0 (processes_of s.phrases)) refl is in
+      let all = known.known in
       record {
         tables = tables_same s views whole;
-        forward = λ at i has. known.goes.each at i (omega arith) (slice_get_within whole.code at i has) has;
+        forward = λ at i has. all.goes.each at i (omega arith) (slice_get_within whole.code at i has) has;
         processes = λ p less.
             let name = named_there s.tables.processes p less in
-            let number : 0 + p ≡ p = omega arith in
-            process_placed p name.0 name.1 (subst Stands number (known.each p (subst (λ m. p < m) same less)));
+            let unit = named_there (processes_of s.phrases) p (subst (λ m. p < m) same less) in
+            numbered_placed p unit.0 name.0 name.1 unit.1 known.each;
       }
 
 image_given : (s : Set) (views : List View) (r : Linking) (made : ImageParts) → linking s views ≡ r → image_by s views r ≡ Ok made → length s.tables.processes ≡ length (processes_of s.phrases) → IsPlaced s made

@@ -17,6 +17,7 @@ use Rattle.hal_code.specs.declared.row.View.{View}
 use Rattle.hal_code.specs.Images as machine
 use Rattle.hal_code.specs.Images.{expanded, start_of, tables_of, places_of}
 use Rattle.hal_link.specs.Linking.{Linked, alone, own_row, processes_from, known_start, image_with}
+use Rattle.hal_link.specs.Outlines.{Outline, outlines_of, block_of}
 
 expanded_alone : {T : Type 0} (rows : List T) → expanded (map alone rows) ≡ rows
 expanded_alone [] = refl
@@ -26,9 +27,9 @@ starts_same : (starts : List EventStart) → map start_of (map known_start start
 starts_same [] = refl
 starts_same (one ∷ starts) = ap (λ l. one ∷ l) (starts_same starts)
 
-names_same : (s : Set) (p : ℕ) (names : List (List ℕ)) → map (λ (one : Process). one.name) (processes_from s p names) ≡ names
-names_same s p [] = refl
-names_same s p (name ∷ names) = ap (λ l. name ∷ l) (names_same s (suc p) names)
+names_same : (s : Set) (os : List Outline) (p : ℕ) (names : List (List ℕ)) → map (λ (one : Process). one.name) (processes_from s os p names) ≡ names
+names_same s os p [] = refl
+names_same s os p (name ∷ names) = ap (λ l. name ∷ l) (names_same s os (suc p) names)
 
 pub tables_same : (s : Set) (views : List View) (one : Linked) → tables_of (image_with s views one) ≡ s.tables
 tables_same s views one =
@@ -36,11 +37,11 @@ tables_same s views one =
     (expanded_alone s.tables.cells)
     (subst (λ names. tables_of (image_with s views one) ≡
     (record { cells = expanded (map alone s.tables.cells); processes = names; first = s.tables.first; events = s.tables.events; expressions = s.tables.expressions; names = s.tables.names }))
-    (names_same s 0 s.tables.processes)
+    (names_same s (outlines_of s) 0 s.tables.processes)
     (subst (λ events. tables_of (image_with s views one) ≡
     (record {
       cells = expanded (map alone s.tables.cells);
-      processes = map (λ (p : Process). p.name) (processes_from s 0 s.tables.processes);
+      processes = map (λ (p : Process). p.name) (processes_from s (outlines_of s) 0 s.tables.processes);
       first = s.tables.first;
       events = events;
       expressions = s.tables.expressions;
@@ -48,18 +49,19 @@ tables_same s views one =
     }))
     (starts_same s.tables.events) refl))
 
--- the process with this number
-pub process_there : (s : Set) (q p : ℕ) (names : List (List ℕ)) (name : List ℕ) → slice_get names q ≡ Some name
-    → slice_get (processes_from s p names) q ≡ Some (record { name = name; block = p + q; places = map alone (map own_row (places_of_process s (p + q))) })
-process_there s q p [] name is = absurd (cc)
-process_there s zero p (one ∷ names) name is =
+-- the row of the process with this number
+abbrev pub row_of : Set → List Outline → List ℕ → ℕ → Process
+row_of s os name p = record { name = name; block = block_of os p; places = map alone (map own_row (places_of_process s p)) }
+
+pub process_there : (s : Set) (os : List Outline) (q p : ℕ) (names : List (List ℕ)) (name : List ℕ) → slice_get names q ≡ Some name → slice_get (processes_from s os p names) q ≡ Some (row_of s os name (p + q))
+process_there s os q p [] name is = absurd (cc)
+process_there s os zero p (one ∷ names) name is =
     let same : one ≡ name = cc in
     let number : p ≡ p + 0 = omega arith in
-    ap (λ n. Some (record { name = n; block = p; places = map alone (map own_row (places_of_process s p)) })) same
-    ∙ ap (λ k. Some (record { name = name; block = k; places = map alone (map own_row (places_of_process s k)) })) number
-process_there s (suc q) p (one ∷ names) name is =
+    ap (λ n. Some (row_of s os n p)) same ∙ ap (λ k. Some (row_of s os name k)) number
+process_there s os (suc q) p (one ∷ names) name is =
     let number : suc p + q ≡ p + suc q = omega arith in
-    process_there s q (suc p) names name is ∙ ap (λ k. Some (record { name = name; block = k; places = map alone (map own_row (places_of_process s k)) })) number
+    process_there s os q (suc p) names name is ∙ ap (λ k. Some (row_of s os name k)) number
 
 held_by : (k : Option Kind) (v : Value) → machine.held_first (elim k [ None ↦ place.Reference 0 | Some one ↦ place.Data one v ]) ≡ (elim k [ None ↦ Refers Nowhere | Some one ↦ Holds v ])
 held_by None v = refl
@@ -76,7 +78,7 @@ no_common = []
 pub places_begin : (s : Set) (views : List View) (one : Linked) (p : ℕ) (name : List ℕ) → slice_get s.tables.processes p ≡ Some name
     → map machine.held_first (places_of (image_with s views one) p) ≡ map tree.held_first (places_of_process s p)
 places_begin s views one p name is =
-    let there = process_there s p 0 s.tables.processes name is in
+    let there = process_there s (outlines_of s) p 0 s.tables.processes name is in
     let number : 0 + p ≡ p = omega arith in
     ap (λ (o : Option Process). map machine.held_first (elim o [ None ↦ [] | Some process ↦ expanded no_common ++ expanded process.places ])) there
     ∙ (ap (map machine.held_first) (expanded_alone (map own_row (places_of_process s (0 + p)))) ∙ (held_same (places_of_process s (0 + p)) ∙ ap (λ k. map tree.held_first (places_of_process s k)) number))

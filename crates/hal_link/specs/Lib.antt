@@ -1,9 +1,12 @@
 pub mod ProcessCode
+pub mod UnitCode
+pub mod Outlines
 pub mod Linking
 pub mod Views
+pub mod CalledViews
 pub mod Placing
 pub mod Links
 pub mod Members
-pub mod Processes
 pub mod SeenLinking
 pub mod Finding
+pub mod SeenOutlines

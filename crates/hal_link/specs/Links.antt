@@ -12,7 +12,7 @@ use Rattle.hal_set.specs.declared.set.Set as rust-set
 use Rattle.hal_set.specs.SeenSets.{seen_set}
 use Rattle.hal_code.specs.declared.image.ImageParts.{ImageParts}
 use Rattle.hal_link.specs.Linking.{linked, Linking, image_of}
-use Rattle.hal_link.specs.Views.{views_of}
+use Rattle.hal_link.specs.CalledViews.{views_of}
 
 abbrev pub unlinked_by : Uncoded → Unlinked
 unlinked_by (uncoded.At place) = unlinked.At place

@@ -10,24 +10,25 @@ use Rattle.hal_code.specs.declared.row.Process.{Process}
 use Rattle.hal_meaning.specs.Sets.{Set}
 use Rattle.hal_meaning.specs.Runs.{places_of_process}
 use Rattle.hal_link.specs.Linking.{alone, own_row}
+use Rattle.hal_link.specs.Outlines.{Outline, block_of}
 
 -- the own places of the set's layout are those of the set
 abbrev pub IsLaid : rust-set.Set → Type 0
 IsLaid s = seen_own s.layout.now.own ≡ own_places (seen_set s).phrases (seen_set s).constants
 
 -- the row of a process
-abbrev pub process_row : Set → ℕ → List ℕ → Process
-process_row s p name = record { name = name; block = p; places = map alone (map own_row (places_of_process s p)) }
+abbrev pub process_row : Set → List Outline → ℕ → List ℕ → Process
+process_row s os p name = record { name = name; block = block_of os p; places = map alone (map own_row (places_of_process s p)) }
 
 -- the rows of processes from this one on
-unfoldable pub rows_from : Set → ℕ → List (List ℕ) → List Process
-rows_from s p [] = []
-rows_from s p (name ∷ names) = process_row s p name ∷ rows_from s (p + 1) names
+unfoldable pub rows_from : Set → List Outline → ℕ → List (List ℕ) → List Process
+rows_from s os p [] = []
+rows_from s os p (name ∷ names) = process_row s os p name ∷ rows_from s os (p + 1) names
 
 -- the same behind rows so far; None where a name has more than 255 bytes
-unfoldable pub rows_if : Set → ℕ → List Process → List (List ℕ) → Option (List Process)
-rows_if s p rows [] = Some rows
-rows_if s p rows (name ∷ names) = if nat_le (length name) 255 then rows_if s (p + 1) (rows ++ (process_row s p name ∷ [])) names else None
+unfoldable pub rows_if : Set → List Outline → ℕ → List Process → List (List ℕ) → Option (List Process)
+rows_if s os p rows [] = Some rows
+rows_if s os p rows (name ∷ names) = if nat_le (length name) 255 then rows_if s os (p + 1) (rows ++ (process_row s os p name ∷ [])) names else None
 
 abbrev pub seen_rows : Vec Process Global → List Process
 seen_rows rows = rows.items

@@ -1,17 +1,21 @@
--- The views that the code of a set names: one for each cell and place to which names in the units of its processes lead, and one for the elements among which
+-- The views that the code of a set names: one for each cell and place to which names in the units of its processes lead, for each own place of a DO FOR, for the first
+-- one of a DO CASE, and one for the elements among which
 -- subscripts choose, each once, in the order of these names.
 use Rattle.std.specs.Prelude.{ℕ, ◌+◌, ◌==◌, map, Bool, List, [], ◌∷◌, ◌++◌, Option, Some, None, if◌then◌else◌}
 use Rattle.std.specs.List.{list_any}
 use Rattle.std.specs.Option.{is_some}
 use Rattle.hal_values.specs.declared.value.Kind.{Kind}
+use Rattle.hal_values.specs.declared.value.Kind.TheVariants as kind
 use Rattle.hal_grammar.specs.Leaves.{Naming}
 use Rattle.hal_grammar.specs.Expressions.{Reference, Refers}
-use Rattle.hal_phrases.specs.Phrases.{Node, Phrase, OfReference, OfSubscriptName, OfCallForm}
+use Rattle.hal_phrases.specs.declared.role.Role.{Role}
+use Rattle.hal_phrases.specs.declared.role.Role.TheVariants as role
+use Rattle.hal_phrases.specs.Phrases.{Node, Phrase, OfReference, OfSubscriptName, OfCallForm, OfExpression, OfVariable}
 use Rattle.hal_code.specs.declared.row.Base.{Base}
 use Rattle.hal_code.specs.declared.row.Dimension.{Dimension}
 use Rattle.hal_code.specs.declared.row.View.{View}
 use Rattle.hal_meaning.specs.Bodies.{Body, processes_of}
-use Rattle.hal_meaning.specs.Places.{Storing}
+use Rattle.hal_meaning.specs.Places.{Storing, InPlaces}
 use Rattle.hal_meaning.specs.Sets.{Set, body_at}
 use Rattle.hal_agreement.specs.Sites.{Site}
 use Rattle.hal_referents.specs.Referents.{Referent, DataOf}
@@ -47,16 +51,31 @@ abbrev pub with_reference : Site → List View → Reference → List View
 with_reference site views (Refers place name path subscript) =
     if is_plain subscript then with_referent site views path (referent site name) else with_led site views (speaks subscript) (led_by path (referent site name))
 
--- those of a phrase
-abbrev pub with_node : Site → List View → Node → List View
-with_node site views (OfReference role reference) = with_reference site views reference
-with_node site views (OfSubscriptName name) = with_referent site views [] (referent site name.name)
-with_node site views (OfCallForm place name arguments) = with_referent site views [] (referent site name)
-with_node site views other = views
+-- that of an own place of the group with this number, before which so many of its places lie
+abbrev pub with_place : Site → ℕ → ℕ → List View → List View
+with_place site k before views = with_cell [] kind.Double views (base_of site k before InPlaces)
+
+-- those of a DO FOR
+abbrev pub with_places : Site → ℕ → List View → List View
+with_places site k views = with_place site k 3 (with_place site k 2 (with_place site k 1 (with_place site k 0 views)))
+
+-- a DO CASE keeps its number in its first place
+abbrev pub with_role : Site → List View → ℕ → Role → List View
+with_role site views parent role.Case = with_place site parent 0 views
+with_role site views parent other = views
+
+-- those of a phrase, of which this is the parent
+abbrev pub with_node : Site → List View → ℕ → Node → List View
+with_node site views parent (OfReference role reference) = with_reference site views reference
+with_node site views parent (OfSubscriptName name) = with_referent site views [] (referent site name.name)
+with_node site views parent (OfCallForm place name arguments) = with_referent site views [] (referent site name)
+with_node site views parent (OfVariable name) = with_places site parent (with_referent site views [] (referent site name.name))
+with_node site views parent (OfExpression r tree) = with_role site views parent r
+with_node site views parent other = views
 
 -- those of a phrase, where it stands in the unit
 abbrev pub with_phrase : Site → List View → Phrase → List View
-with_phrase site views p = if p.around.home == site.unit then with_node site views p.node else views
+with_phrase site views p = if p.around.home == site.unit then with_node site views p.around.parent p.node else views
 
 unfoldable pub with_phrases : Site → List View → List Phrase → List View
 with_phrases site views [] = views

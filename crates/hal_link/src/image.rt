@@ -12,11 +12,16 @@ ghost use Rattle.hal_set.specs.SeenSets.{seen_set};
 ghost use Rattle.hal_meaning.specs.Bodies.{processes_of};
 ghost use Rattle.hal_meaning.specs.Events.{declared_events};
 ghost use Rattle.hal_gen_expr.specs.SeenSites.{IsSite};
+ghost use Rattle.hal_link.specs.CalledViews.{views_of};
 ghost use Rattle.hal_link.specs.Links.{HasImage, MakesImage};
 ghost use Rattle.hal_link.specs.Linking as linking;
+ghost use Rattle.hal_link.specs.Outlines as outlining;
 ghost use Rattle.hal_link.specs.SeenLinking as seen;
+ghost use Rattle.hal_link.specs.SeenOutlines.{seen_outline};
 
-use crate::linking::{link_processes, views_of};
+use crate::called_views::push_outlines;
+use crate::linking::{link_outlines, uncalled, views_of};
+use crate::outlines::{Outline, outlines_of, own_block};
 use crate::places::places_of;
 use crate::rows::{cell_rows, event_rows, place_rows};
 use crate::unlinked::Unlinked;
@@ -57,6 +62,20 @@ fn whole_of<'a>(
         block: 0,
         marks: &[],
         views: &[],
+        calls: uncalled(),
+    }
+}
+
+/// The number of the block of the process with this number.
+fn block_of(outlines: &[Outline], process: usize) -> Result<u32, AllocError>
+    ensures { IfOk result (λ block. block ≡ outlining.block_of (map seen_outline outlines.now) process) }
+{
+    let Some(outline) = outlines.get(process) else {
+        return Ok(0);
+    };
+    match u32::try_from(own_block(outline)?) {
+        Ok(block) => Ok(block),
+        Err(_) => Err(AllocError),
     }
 }
 
@@ -65,17 +84,17 @@ fn whole_of<'a>(
 fn process_row(
     alloc: Global,
     set: &Set<'_>,
+    outlines: &[Outline],
     process: usize,
     name: Text,
 ) -> Result<Process, AllocError>
-    requires few { process ≤ 255 }
     requires laid { seen.IsLaid set.now }
-    ensures { IfOk result (λ row. row ≡ seen.process_row (seen_set set.now) process name) }
+    ensures { IfOk result (λ row. row ≡ seen.process_row (seen_set set.now) (map seen_outline outlines.now) process name) }
 {
     let places = places_of(alloc, &set.layout.own, process)?;
     Ok(Process {
         name,
-        block: process as u32,
+        block: block_of(outlines, process)?,
         places: place_rows(alloc, &places)?,
     })
 }
@@ -85,18 +104,18 @@ fn process_row(
 fn process_rows(
     alloc: Global,
     set: &Set<'_>,
+    outlines: &[Outline],
     names: &[Vec<u8>],
 ) -> Result<Option<Vec<Process>>, AllocError>
-    requires few { length names.now ≤ 128 }
     requires laid { seen.IsLaid set.now }
-    ensures { IfOk result (λ found. option_map seen.seen_rows found ≡ seen.rows_if (seen_set set.now) 0 [] (map seen_path names.now)) }
+    ensures { IfOk result (λ found. option_map seen.seen_rows found ≡ seen.rows_if (seen_set set.now) (map seen_outline outlines.now) 0 [] (map seen_path names.now)) }
 {
     let mut rows = Vec::new(alloc);
     for (process, name) in names.iter().enumerate() {
         let Some(text) = Text::of(name) else {
             return Ok(None);
         };
-        rows.push(process_row(alloc, set, process, text)?)?;
+        rows.push(process_row(alloc, set, outlines, process, text)?)?;
     }
     Ok(Some(rows))
 }
@@ -136,16 +155,17 @@ fn copied_names(alloc: Global, names: &[ReportName]) -> Result<Listing<ReportNam
 fn image_with(
     alloc: Global,
     set: &Set<'_>,
+    outlines: &[Outline],
     views: Vec<View>,
     code: Vec<Instr>,
     blocks: Vec<Block>,
 ) -> Result<ImageParts, Unlinked>
-    requires few { length (seen_layout set.now.layout.now).processes ≤ 128 }
     requires laid { seen.IsLaid set.now }
+    requires outlined { map seen_outline outlines.now ≡ outlining.outlines_of (seen_set set.now) }
     ensures { MakesImage set.now (linking.image_with (seen_set set.now) views.items (linking.linked code.items blocks.items)) result }
 {
     let layout = set.layout;
-    let Some(processes) = process_rows(alloc, set, &layout.processes)? else {
+    let Some(processes) = process_rows(alloc, set, outlines, &layout.processes)? else {
         return Err(Unlinked::Wide);
     };
     let Ok(first) = u8::try_from(layout.first) else {
@@ -166,7 +186,24 @@ fn image_with(
     })
 }
 
-/// The image of a set of files in which no unit is called, or the place of the first phrase that has no code yet (image document, The image of a set).
+/// The views that the code of a set names, whose processes these are.
+fn views_in(
+    whole: &Site<'_>,
+    processes: &[usize],
+    outlines: &[Outline],
+) -> Result<Vec<View>, AllocError>
+    requires whole { IsSite whole.now }
+    requires laid { seen.IsLaid whole.now.set.now }
+    requires processes { processes.now ≡ processes_of (seen_set whole.now.set.now).phrases }
+    requires outlined { map seen_outline outlines.now ≡ outlining.outlines_of (seen_set whole.now.set.now) }
+    ensures { IfOk result (λ list. list.items ≡ views_of (seen_set whole.now.set.now)) }
+{
+    let mut views = views_of(whole, processes)?;
+    push_outlines(&mut views, whole, outlines)?;
+    Ok(views)
+}
+
+/// The image of a set of files, or the place of the first phrase that has no code yet (image document, The image of a set).
 pub fn link(alloc: Global, set: &Set<'_>) -> Result<ImageParts, Unlinked>
     requires few_processes { length (processes_of (seen_set set.now).phrases) ≤ 128 }
     requires few_events { length (processes_of (seen_set set.now).phrases) + length (declared_events (seen_set set.now).phrases) ≤ 65535 }
@@ -182,9 +219,10 @@ pub fn link(alloc: Global, set: &Set<'_>) -> Result<ImageParts, Unlinked>
         declared: &declared,
     };
     let whole = whole_of(alloc, &*set, &referents, &cells, events);
-    let views = views_of(&whole, &processes)?;
+    let outlines = outlines_of(alloc, set, &processes)?;
+    let views = views_in(&whole, &processes, &outlines)?;
     let mut code = Vec::new(alloc);
     let mut blocks = Vec::new(alloc);
-    link_processes(&mut code, &mut blocks, &whole, &views, &processes)?;
-    image_with(alloc, set, views, code, blocks)
+    link_outlines(&mut code, &mut blocks, &whole, &views, &outlines)?;
+    image_with(alloc, set, &outlines, views, code, blocks)
 }

@@ -1,13 +1,17 @@
-//! Images of sets of files without units that are called: which code each process has, and that the image agrees with the set.
+//! Images of sets of files: which code each process has, and each unit that it calls, and that the image agrees with the set.
 #![tactic(auto)]
 
+mod called_views;
 mod image;
 mod laws;
 mod linking;
 mod members;
+mod outlines;
 mod places;
 mod processes;
+mod ranks;
 mod rows;
+mod units;
 mod unlinked;
 mod views;
 

@@ -1,57 +1,56 @@
 //! The code of a set of files.
 
 ghost use Rattle.std.specs.Prelude.{◌≡◌, ◌≤◌, ◌<◌, ◌+◌, [], length, map, IfOk, OnOk};
-ghost use Rattle.std.specs.Option.{option_map};
 ghost use Rattle.hal_set.specs.SeenBodies.{seen_body};
 ghost use Rattle.hal_set.specs.SeenSets.{seen_set};
 ghost use Rattle.hal_gen_expr.specs.SeenSites.{lent_place, seen_site, seen_numbering, IsSite};
-ghost use Rattle.hal_gen_expr.specs.Numbering.{numbering};
+ghost use Rattle.hal_gen_expr.specs.Numbering.{numbering_with};
 ghost use Rattle.hal_meaning.specs.LockGroups.{groups_of};
+ghost use Rattle.hal_meaning.specs.Runs.{places_of_process};
 ghost use Rattle.hal_meaning.specs.Sets as sets;
 ghost use Rattle.hal_link.specs.Finding as finding;
 ghost use Rattle.hal_link.specs.Links.{Links};
 ghost use Rattle.hal_link.specs.Linking as linking;
-ghost use Rattle.hal_link.specs.Processes as processes;
+ghost use Rattle.hal_link.specs.Outlines as outlines;
 ghost use Rattle.hal_link.specs.SeenLinking.{IsLaid};
+ghost use Rattle.hal_link.specs.SeenOutlines.{seen_outline};
 ghost use Rattle.hal_link.specs.Views as views;
 
+use crate::outlines::Outline;
 use crate::places::places_of;
-use crate::processes::link_body;
+use crate::processes::link_process_at;
+use crate::units::link_unit_at;
 use crate::unlinked::Unlinked;
 use crate::views::push_phrases;
 use hal_code::{Block, Instr, View};
 use hal_gen::Locks;
-use hal_gen_expr::Site;
+use hal_gen_expr::{Calls, Site, body_at};
 use hal_lock_groups::groups_of;
 use hal_own_places::Place;
 use hal_set::{Body, Set};
 use std::alloc::{AllocError, Global};
 
-/// The body of the unit with this number.
-#[tactic(auto, unfolding(crate::specs::Finding::found_in))]
-fn body_at<'a, 'b>(bodies: &'b [Body<'a>], unit: usize) -> Option<&'b Body<'a>>
-    ensures { option_map finding.lent_body result ≡ finding.found_in unit (map seen_body bodies.now) }
-{
-    for body in bodies {
-        if body.number == unit {
-            return Some(body);
-        }
+/// The calls of code that calls no unit.
+pub(crate) fn uncalled<'a>() -> Calls<'a> {
+    Calls {
+        first: 0,
+        units: &[],
     }
-    None
 }
 
-/// Where the statements of a process's unit stand, among these views.
+/// Where the statements of a unit stand in a process, among these views and calls.
 #[tactic(auto, unfolding(hal_gen_expr::specs::SeenSites::seen_site, hal_gen_expr::specs::SeenSites::seen_numbering))]
-fn site_in<'a>(
+pub(crate) fn site_in<'a>(
     whole: &Site<'a>,
     places: &'a [&'a Place],
     body: &'a Body<'a>,
     views: &'a [View],
+    calls: Calls<'a>,
 ) -> Site<'a>
     requires whole { IsSite whole.now }
     ensures site { IsSite result }
     ensures seen { seen_site result ≡ finding.site_with (seen_set whole.now.set.now) (map lent_place places.now) (seen_body body.now) }
-    ensures views { seen_numbering result ≡ numbering views.now }
+    ensures views { seen_numbering result ≡ numbering_with views.now calls.entry.first calls.entry.units.now }
 {
     Site {
         alloc: whole.alloc,
@@ -64,6 +63,7 @@ fn site_in<'a>(
         block: body.number,
         marks: &body.marks,
         views,
+        calls,
     }
 }
 
@@ -79,69 +79,136 @@ fn locks_of(alloc: Global, set: &Set<'_>, marks: &[usize]) -> Result<Vec<u16>, A
     Ok(list)
 }
 
-/// Adds the code and the block of the process with this number, whose unit has that one.
-#[tactic(auto, using(crate::proofs::Found::body_found, crate::proofs::Placed::places_laid, crate::proofs::Locked::all_locked))]
-fn link_process(
+/// The calls of a process.
+fn calls_of(outline: &Outline) -> Calls<'_>
+    ensures first { result.first ≡ outline.now.first }
+    ensures units { result.units.now ≡ outline.now.called.items }
+{
+    Calls {
+        first: outline.first,
+        units: &outline.called,
+    }
+}
+
+/// Adds the code and the block of the unit with this number, which a process calls that has these own places.
+#[tactic(auto, using(crate::proofs::Locked::all_locked), unfolding(hal_gen_expr::specs::SeenSites::seen_site))]
+fn link_unit(
     code: &mut Vec<Instr>,
     blocks: &mut Vec<Block>,
     whole: &Site<'_>,
     views: &[View],
-    process: u8,
+    places: &[&Place],
+    outline: &Outline,
     unit: usize,
 ) -> Result<(), Unlinked>
     requires whole { IsSite whole.now }
-    requires laid { IsLaid whole.now.set.now }
-    ensures { Links (processes.with_body (seen_set whole.now.set.now) (numbering views.now) process (linking.linked code.old.items blocks.old.items) (sets.body_at (seen_set whole.now.set.now) unit)) result code.new.items blocks.new.items }
+    requires places { map lent_place places.now ≡ places_of_process (seen_set whole.now.set.now) outline.now.process }
+    ensures { Links (linking.with_unit (seen_set whole.now.set.now) (outlines.numbering_of views.now (seen_outline outline.now)) outline.now.process (linking.linked code.old.items blocks.old.items) (sets.body_at (seen_set whole.now.set.now) unit)) result code.new.items blocks.new.items }
 {
-    let Some(body) = body_at(&whole.set.bodies, unit) else {
+    let Some(body) = body_at(whole, unit) else {
         return Err(Unlinked::Lost);
     };
-    let places = places_of(whole.alloc, &whole.set.layout.own, usize::from(process))?;
-    let site = site_in(whole, &places, body, views);
+    let site = site_in(whole, places, body, views, calls_of(outline));
     let groups = locks_of(whole.alloc, whole.set, &body.marks)?;
     let locks = Locks { groups: &groups };
-    link_body(code, blocks, &site, &locks, process, body)
+    link_unit_at(code, blocks, &site, &locks, outline.process, body)
 }
 
-/// Adds the code and the blocks of the processes whose units have these numbers, one behind the other.
-#[tactic(auto, unfolding(crate::specs::Processes::with_units))]
+/// Adds those of these units, one behind the other.
+#[tactic(auto, unfolding(crate::specs::Linking::with_units))]
 fn link_units(
     code: &mut Vec<Instr>,
     blocks: &mut Vec<Block>,
     whole: &Site<'_>,
     views: &[View],
+    places: &[&Place],
+    outline: &Outline,
     units: &[usize],
 ) -> Result<(), Unlinked>
-    requires few { length units.now ≤ 128 }
     requires whole { IsSite whole.now }
-    requires laid { IsLaid whole.now.set.now }
-    ensures { Links (processes.with_units (seen_set whole.now.set.now) (numbering views.now) 0 units.now (linking.linked code.old.items blocks.old.items)) result code.new.items blocks.new.items }
+    requires places { map lent_place places.now ≡ places_of_process (seen_set whole.now.set.now) outline.now.process }
+    ensures { Links (linking.with_units (seen_set whole.now.set.now) (outlines.numbering_of views.now (seen_outline outline.now)) outline.now.process units.now (linking.linked code.old.items blocks.old.items)) result code.new.items blocks.new.items }
 {
-    for (process, unit) in units.iter().enumerate() {
-        link_process(code, blocks, whole, views, process as u8, *unit)?;
+    for unit in units {
+        link_unit(code, blocks, whole, views, places, outline, *unit)?;
     }
     Ok(())
 }
 
-/// Adds the code and the blocks of the processes whose units have these numbers.
-#[tactic(auto, using(crate::proofs::Following::units_linked))]
-pub(crate) fn link_processes(
+/// Adds the code and the block of a process that has these own places.
+#[tactic(auto, using(crate::proofs::Locked::all_locked), unfolding(hal_gen_expr::specs::SeenSites::seen_site))]
+fn link_process(
     code: &mut Vec<Instr>,
     blocks: &mut Vec<Block>,
     whole: &Site<'_>,
     views: &[View],
-    units: &[usize],
+    places: &[&Place],
+    outline: &Outline,
 ) -> Result<(), Unlinked>
-    requires few { length units.now ≤ 128 }
+    requires whole { IsSite whole.now }
+    requires places { map lent_place places.now ≡ places_of_process (seen_set whole.now.set.now) outline.now.process }
+    ensures { Links (linking.with_process (seen_set whole.now.set.now) (outlines.numbering_of views.now (seen_outline outline.now)) outline.now.process (linking.linked code.old.items blocks.old.items) (sets.body_at (seen_set whole.now.set.now) outline.now.unit)) result code.new.items blocks.new.items }
+{
+    let Some(body) = body_at(whole, outline.unit) else {
+        return Err(Unlinked::Lost);
+    };
+    let site = site_in(whole, places, body, views, calls_of(outline));
+    let groups = locks_of(whole.alloc, whole.set, &body.marks)?;
+    let locks = Locks { groups: &groups };
+    link_process_at(code, blocks, &site, &locks, outline.process, body)
+}
+
+/// Adds the code and the blocks of a process: first the units that it calls.
+#[tactic(auto, using(crate::proofs::Placed::places_laid))]
+fn link_outline(
+    code: &mut Vec<Instr>,
+    blocks: &mut Vec<Block>,
+    whole: &Site<'_>,
+    views: &[View],
+    outline: &Outline,
+) -> Result<(), Unlinked>
     requires whole { IsSite whole.now }
     requires laid { IsLaid whole.now.set.now }
-    ensures { Links (linking.linked_from (seen_set whole.now.set.now) (numbering views.now) 0 units.now (linking.linked code.old.items blocks.old.items)) result code.new.items blocks.new.items }
+    ensures { Links (linking.with_outline (seen_set whole.now.set.now) views.now (seen_outline outline.now) (linking.linked code.old.items blocks.old.items)) result code.new.items blocks.new.items }
 {
-    link_units(code, blocks, whole, views, units)
+    let places = places_of(
+        whole.alloc,
+        &whole.set.layout.own,
+        usize::from(outline.process),
+    )?;
+    link_units(
+        code,
+        blocks,
+        whole,
+        views,
+        &places,
+        outline,
+        &outline.called,
+    )?;
+    link_process(code, blocks, whole, views, &places, outline)
+}
+
+/// Adds the code and the blocks of these processes, one behind the other.
+#[tactic(auto, unfolding(crate::specs::Linking::with_outlines))]
+pub(crate) fn link_outlines(
+    code: &mut Vec<Instr>,
+    blocks: &mut Vec<Block>,
+    whole: &Site<'_>,
+    views: &[View],
+    list: &[Outline],
+) -> Result<(), Unlinked>
+    requires whole { IsSite whole.now }
+    requires laid { IsLaid whole.now.set.now }
+    ensures { Links (linking.with_outlines (seen_set whole.now.set.now) views.now (map seen_outline list.now) (linking.linked code.old.items blocks.old.items)) result code.new.items blocks.new.items }
+{
+    for outline in list {
+        link_outline(code, blocks, whole, views, outline)?;
+    }
+    Ok(())
 }
 
 /// Adds the views that the code of the process with this number names, whose unit has that one.
-#[tactic(auto, using(crate::proofs::Found::body_found, crate::proofs::Placed::places_laid))]
+#[tactic(auto, using(crate::proofs::Placed::places_laid), unfolding(hal_gen_expr::specs::SeenSites::seen_site))]
 fn push_views(
     into: &mut Vec<View>,
     whole: &Site<'_>,
@@ -152,11 +219,11 @@ fn push_views(
     requires laid { IsLaid whole.now.set.now }
     ensures { OnOk result (into.new.items ≡ views.with_body (seen_set whole.now.set.now) process into.old.items (sets.body_at (seen_set whole.now.set.now) unit)) }
 {
-    let Some(body) = body_at(&whole.set.bodies, unit) else {
+    let Some(body) = body_at(whole, unit) else {
         return Ok(());
     };
     let places = places_of(whole.alloc, &whole.set.layout.own, process)?;
-    let site = site_in(whole, &places, body, &[]);
+    let site = site_in(whole, &places, body, &[], uncalled());
     push_phrases(into, &site, whole.set.names.phrases())
 }
 

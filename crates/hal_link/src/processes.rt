@@ -10,7 +10,6 @@ ghost use Rattle.hal_meaning.specs.Calls as calls;
 ghost use Rattle.hal_link.specs.Links.{Links};
 ghost use Rattle.hal_link.specs.Linking as linking;
 ghost use Rattle.hal_link.specs.ProcessCode as codes;
-ghost use Rattle.hal_link.specs.Processes as processes;
 
 use crate::members::{elements_size, emit_elements};
 use crate::unlinked::Unlinked;
@@ -59,7 +58,7 @@ fn emit_process(
 
 /// Whether a head is that of a FUNCTION.
 #[tactic(auto, using(hal_tree::proofs::MadeUnits::made_program, hal_tree::proofs::MadeUnits::made_compool, hal_tree::proofs::MadeUnits::made_task, hal_tree::proofs::MadeUnits::made_procedure, hal_tree::proofs::MadeUnits::made_function))]
-fn is_function(head: &Head) -> bool
+pub(crate) fn is_function(head: &Head) -> bool
     ensures { result ≡ calls.is_function (seen_head head.now) }
 {
     match head {
@@ -84,7 +83,7 @@ fn process_block(process: u8, first: usize, end: usize) -> Block
 }
 
 /// Adds a block.
-fn push_block(blocks: &mut Vec<Block>, block: Block) -> Result<(), AllocError>
+pub(crate) fn push_block(blocks: &mut Vec<Block>, block: Block) -> Result<(), AllocError>
     ensures { OnOk result (blocks.new.items ≡ blocks.old.items ++ (block ∷ [])) }
 {
     blocks.push(block)?;
@@ -93,7 +92,7 @@ fn push_block(blocks: &mut Vec<Block>, block: Block) -> Result<(), AllocError>
 
 /// Adds the code and the block of the process with this number, which stands at this site.
 #[tactic(auto, using(crate::proofs::Coded::head_listed))]
-pub(crate) fn link_body(
+pub(crate) fn link_process_at(
     code: &mut Vec<Instr>,
     blocks: &mut Vec<Block>,
     site: &Site<'_>,
@@ -103,7 +102,7 @@ pub(crate) fn link_body(
 ) -> Result<(), Unlinked>
     requires site { IsSite site.now }
     requires locks { AreGroups site.now locks.now }
-    ensures { Links (processes.with_site (seen_numbering site.now) (seen_site site.now) process (linking.linked code.old.items blocks.old.items) (seen_body body.now)) result code.new.items blocks.new.items }
+    ensures { Links (linking.with_process_at (seen_numbering site.now) (seen_site site.now) process (linking.linked code.old.items blocks.old.items) (seen_body body.now)) result code.new.items blocks.new.items }
 {
     if is_function(&body.unit.head) {
         return Err(Unlinked::Lost);

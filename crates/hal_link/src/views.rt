@@ -18,7 +18,7 @@ use hal_gen_expr::{
     Element, Led, Site, base_of, dimensions_led, element_named, first_led, is_cell_view, is_plain,
     led_by, referent, speaks,
 };
-use hal_phrases::{Node, Phrase};
+use hal_phrases::{Node, Phrase, Role};
 use hal_referents::{Meant, Referent};
 use hal_tree::{Identifier, Reference};
 use hal_values::{Kind, Listing};
@@ -34,7 +34,7 @@ fn has_view(views: &[View], rows: &[Dimension], kind: Kind, from: Base) -> bool
 }
 
 /// Adds the view of cells of this kind in these dimensions, which begins there, unless it is among them.
-fn push_cell(
+pub(crate) fn push_cell(
     into: &mut Vec<View>,
     rows: Vec<Dimension>,
     kind: Kind,
@@ -158,12 +158,63 @@ fn push_reference(
     }
 }
 
-/// Adds that of a phrase.
-fn push_node(into: &mut Vec<View>, site: &Site<'_>, node: Node<'_>) -> Result<(), AllocError>
+/// Adds that of an own place of the group with this number, before which so many of its places lie.
+fn push_place(
+    into: &mut Vec<View>,
+    site: &Site<'_>,
+    group: usize,
+    before: u32,
+) -> Result<(), AllocError>
     requires site { IsSite site.now }
-    ensures { OnOk result (into.new.items ≡ views.with_node (seen_site site.now) into.old.items (seen_node node.entry)) }
+    ensures { OnOk result (into.new.items ≡ views.with_place (seen_site site.now) group before into.old.items) }
+{
+    let from = base_of(site, group, Storing::InPlaces, before);
+    push_cell(into, Vec::new(site.alloc), Kind::Double, from)
+}
+
+/// Adds those of a DO FOR.
+fn push_places(into: &mut Vec<View>, site: &Site<'_>, group: usize) -> Result<(), AllocError>
+    requires site { IsSite site.now }
+    ensures { OnOk result (into.new.items ≡ views.with_places (seen_site site.now) group into.old.items) }
+{
+    push_place(into, site, group, 0)?;
+    push_place(into, site, group, 1)?;
+    push_place(into, site, group, 2)?;
+    push_place(into, site, group, 3)
+}
+
+/// Adds that of the number of a DO CASE.
+fn push_role(
+    into: &mut Vec<View>,
+    site: &Site<'_>,
+    parent: usize,
+    role: Role,
+) -> Result<(), AllocError>
+    requires site { IsSite site.now }
+    ensures { OnOk result (into.new.items ≡ views.with_role (seen_site site.now) into.old.items parent role) }
+{
+    match role {
+        Role::Case => push_place(into, site, parent, 0),
+        _ => Ok(()),
+    }
+}
+
+/// Adds that of a phrase, of which this is the parent.
+fn push_node(
+    into: &mut Vec<View>,
+    site: &Site<'_>,
+    parent: usize,
+    node: Node<'_>,
+) -> Result<(), AllocError>
+    requires site { IsSite site.now }
+    ensures { OnOk result (into.new.items ≡ views.with_node (seen_site site.now) into.old.items parent (seen_node node.entry)) }
 {
     match node {
+        Node::Expression { role, tree: _ } => push_role(into, site, parent, role),
+        Node::Variable { name } => {
+            push_meant(into, site, &[], referent(site, &name.name))?;
+            push_places(into, site, parent)
+        }
         Node::Reference { role: _, reference } => push_reference(into, site, reference),
         Node::SubscriptName { name } => push_meant(into, site, &[], referent(site, &name.name)),
         Node::CallForm {
@@ -182,7 +233,7 @@ fn push_phrase(into: &mut Vec<View>, site: &Site<'_>, phrase: &Phrase<'_>) -> Re
     ensures { OnOk result (into.new.items ≡ views.with_phrase (seen_site site.now) into.old.items (seen_phrase phrase.now)) }
 {
     if phrase.around.home == site.unit {
-        push_node(into, site, phrase.node)
+        push_node(into, site, phrase.around.parent, phrase.node)
     } else {
         Ok(())
     }

@@ -16,8 +16,8 @@ use Rattle.hal_meaning.proofs.Accessing.{Ok_state, Begins}
 -- where a task's phrases stand
 abbrev pub here_of : Task → Here
 here_of (Tested h loop g) = h
-here_of (Stepping h end loop name g) = h
-here_of (Listing h loop name g list) = h
+here_of (Stepping h n loop name g) = h
+here_of (Listing h n loop name g values) = h
 here_of (Entering h) = h
 here_of (Resuming h place) = h
 here_of (Cycling h) = h

@@ -11,3 +11,4 @@ pub mod Loading
 pub mod Cells
 pub mod Postfix
 pub mod Accepted
+pub mod Conditions

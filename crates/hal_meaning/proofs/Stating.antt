@@ -1,5 +1,5 @@
 -- What is said of statements.
-use Rattle.std.specs.Prelude.{ℕ, zero, suc, ◌+◌, ◌≤◌, nat_lt, length, take, List, [], ◌∷◌, ℤ, pos, ◌+ℤ◌, ◌-ℤ◌, Bool, true, false, not, Option, Some, None, Result, Ok, Err, slice_get}
+use Rattle.std.specs.Prelude.{ℕ, zero, suc, ◌+◌, ◌≤◌, nat_lt, length, take, List, [], ◌∷◌, ℤ, pos, ◌+ℤ◌, Bool, true, false, not, Option, Some, None, Result, Ok, Err, slice_get}
 use Rattle.std.proofs.Common.{refl, sym, ap, subst, arith}
 use Rattle.std.proofs.lemmas.List.Elements.{All-nil}
 use Rattle.hal_grammar.specs.Leaves.{Naming}
@@ -19,7 +19,7 @@ use Rattle.hal_values.specs.Answers.{Answered, error}
 use Rattle.hal_values.specs.Answers as answered
 use Rattle.hal_values.specs.Loads.{IsWritten}
 use Rattle.hal_values.specs.Requests.{IsTime}
-use Rattle.hal_states.specs.Spots.{Spot, held_in}
+use Rattle.hal_states.specs.Spots.{Spot}
 use Rattle.hal_states.specs.Modes.{turns_given}
 use Rattle.hal_states.specs.Lines.{line_of}
 use Rattle.hal_states.specs.Numbers.{integer_of, holds, is_past}
@@ -29,7 +29,7 @@ use Rattle.hal_meaning.specs.States.{State, Evaluated, Gives, Asks, Caught, Rest
 use Rattle.hal_meaning.specs.Access.{Here, within, updating, raise, turn, store}
 use Rattle.hal_meaning.specs.Expressions.{inputs_at, Located}
 use Rattle.hal_meaning.specs.RealTime.{stated_at_mark}
-use Rattle.hal_meaning.specs.Statements.{goes_on, replaced, components_in, component_received, received_by, is_array_named, received, all_received, kind_meant, kind_named, datum_of, datum_received, all_read, line_fitting, channel_of, written, spots, called, group_left, After, NextTurn, Ended, after_turn, goes_round, turn_made, turn_if, guard_holds, first_holds, span_holds, kept_at, variable_spot, variable_stored, variable_read, group_here, end_place, update_left, resumed, settled, update_groups, entered_update, returned, step_of, begun_stepping, span_begins, next_stored, next_stepping, looping, listed, waited, is_one, goes_behind, one_of, spanned, statement, basic_statement, otherwise, without_case, case_of, selected, grouped, statements}
+use Rattle.hal_meaning.specs.Statements.{goes_on, replaced, components_in, component_received, received_by, is_array_named, received, all_received, kind_meant, kind_named, datum_of, datum_received, all_read, line_fitting, channel_of, written, spots, called, group_left, After, NextTurn, Ended, after_turn, goes_round, turn_made, turn_if, guard_holds, first_holds, span_holds, loop_place, kept_at, held_at, is_number, variable_spot, variable_stored, variable_read, group_here, end_place, update_left, resumed, settled, update_groups, entered_update, returned, step_of, bounds_kept, variable_kept, begun_stepping, span_begins, next_kept, next_stored, next_begun, next_stepping, looping, listed, next_listed, waited, goes_behind, one_of, spanned, statement, basic_statement, otherwise, without_case, case_of, selected, grouped, statements}
 use Rattle.hal_meaning.specs.Tasks.{Looping, Meaning, Tested, Stepping, Listing, Resuming}
 use Rattle.hal_meaning.proofs.Going.{weight, turns_in, spare, pushed, Turned-through, Fine, Answers, Goes-bind, Goes-weaker}
 use Rattle.hal_meaning.proofs.Accessing.{after_answer, Begins, Goes-ask, Goes-request, Goes-if, Goes-raise, Goes-turn, Goes-read, Goes-store}
@@ -70,17 +70,27 @@ Runs-stored h limit a name v st fit = Goes-store h h.set.turns limit a (kind_mea
 Runs-read : (h : Here) (limit : ℕ) (a : Answered) (name : List ℕ) (st : State) → Fit h limit st → Runs h limit a (variable_read h name st) (variable_read h name (pushed a st))
 Runs-read h limit a name st fit = Goes-read h h.set.turns limit a (kind_meant [] (name_meant h name st.kept.places)) (variable_spot (name_meant h name st.kept.places)) st fit
 
-Runs-next_stored : (h : Here) (limit : ℕ) (a : Answered) (name : List ℕ) (past : Bool) (v : Value) (st : State) → Fit h limit st → Runs h limit a (next_stored h name past v st) (next_stored h name past v (pushed a st))
-Runs-next_stored h limit a name true v st fit = (fit, refl)
-Runs-next_stored h limit a name false v st fit = Runs-mapped h limit a _ _ (λ done. true) (Runs-stored h limit a name v st fit)
+Runs-kept : (h : Here) (limit : ℕ) (a : Answered) (name : List ℕ) (n : ℕ) (st : State) → Fit h limit st → Runs h limit a (variable_kept h name n st) (variable_kept h name n (pushed a st))
+Runs-kept h limit a name n st fit = Runs-stored h limit a name (held_at (suc (suc n)) st) st fit
+
+Runs-next_stored : (h : Here) (limit : ℕ) (a : Answered) (name : List ℕ) (n : ℕ) (begins : Bool) (st : State) → Fit h limit st → Runs h limit a (next_stored h name n begins st) (next_stored h name n begins (pushed a st))
+Runs-next_stored h limit a name n false st fit = (fit, refl)
+Runs-next_stored h limit a name n true st fit = Runs-mapped h limit a _ _ (λ done. true) (Runs-kept h limit a name n st fit)
+
+Runs-next_begun : (h : Here) (limit : ℕ) (a : Answered) (name : List ℕ) (n : ℕ) (st : State) → Fit h limit st → Runs h limit a (next_begun h name n st) (next_begun h name n (pushed a st))
+Runs-next_begun h limit a name n st fit = Runs-next_stored h limit a name n (is_number (held_at (suc (suc (suc n))) st) 1) st fit
+
+Runs-next_kept : (h : Here) (limit : ℕ) (a : Answered) (name : List ℕ) (n : ℕ) (past : Bool) (before next : ℤ) (st : State) → Fit h limit st
+    → Runs h limit a (next_begun h name n (next_kept n past before next st)) (next_begun h name n (next_kept n past before next (pushed a st)))
+Runs-next_kept h limit a name n true before next st fit = Runs-next_begun h limit a name n (next_kept n true before next st) fit
+Runs-next_kept h limit a name n false before next st fit = Runs-next_begun h limit a name n (next_kept n false before next st) fit
 
 -- the next value of DO FOR
-pub Runs-next : (h : Here) (limit : ℕ) (a : Answered) (name : List ℕ) (m : ℕ) (st : State) → Fit h limit st → Runs h limit a (next_stepping h name m st) (next_stepping h name m (pushed a st))
-Runs-next h limit a name m st fit =
+pub Runs-next : (h : Here) (limit : ℕ) (a : Answered) (name : List ℕ) (n : ℕ) (st : State) → Fit h limit st → Runs h limit a (next_stepping h name n st) (next_stepping h name n (pushed a st))
+Runs-next h limit a name n st fit =
     seq h limit a _ _ _ _ (Runs-read h limit a name st fit)
-    (λ v later known. Runs-next_stored h limit a name
-    (is_past (integer_of (held_in (slice_get later.kept.places (suc m)))) (integer_of (held_in (slice_get later.kept.places m))) (integer_of v +ℤ integer_of (held_in (slice_get later.kept.places (suc m)))))
-    (value.Int (integer_of v +ℤ integer_of (held_in (slice_get later.kept.places (suc m))))) later known)
+    (λ v later known. let by = integer_of (held_at (suc n) later) in let next = integer_of v +ℤ by in
+    Runs-next_kept h limit a name n (is_past by (integer_of (held_at n later)) next) (integer_of v) next later known)
 
 Runs-waited : (h : Here) (limit : ℕ) (a : Answered) (xs : List ℕ) (st : State) → EachStated (length h.set.tables.expressions) xs → Fit h limit st → Runs h limit a (waited xs st) (waited xs (pushed a st))
 Runs-waited h limit a [] st each fit = (fit, refl)
@@ -258,11 +268,18 @@ module _ (n : ℕ) (a : Answered) (rec after : Meaning) where
   Runs-begins h limit ready first g false st fit = (fit, refl)
   Runs-begins h limit ready first g true st fit = Runs-span_holds h limit ready first g st fit
 
-  pub Runs-listed : (h : Here) (limit : ℕ) → Ready h limit n a rec after → (name : List ℕ) (first : Bool) (tree : Expression) (g : Option Guard) (st : State) → Fit h limit st
-      → Runs h limit a (listed rec h name first tree g st) (listed after h name first tree g (pushed a st))
-  Runs-listed h limit ready name first tree g st fit =
+  Runs-listed : (h : Here) (limit : ℕ) → Ready h limit n a rec after → (name : List ℕ) (place k : ℕ) (first : Bool) (tree : Expression) (g : Option Guard) (st : State) → Fit h limit st
+      → Runs h limit a (listed rec h name place k first tree g st) (listed after h name place k first tree g (pushed a st))
+  Runs-listed h limit ready name place k first tree g st fit =
       seq h limit a _ _ _ _ (Runs-expression h limit n a rec after ready tree st fit)
-      (λ v st1 fit1. seq h limit a _ _ _ _ (Runs-stored h limit a name v st1 fit1) (λ done st2 fit2. Runs-span_holds h limit ready first g st2 fit2))
+      (λ v st1 fit1. seq h limit a _ _ _ _ (Runs-stored h limit a name v st1 fit1) (λ done st2 fit2. Runs-span_holds h limit ready first g (kept_at place (value.Int (pos k)) st2) fit2))
+
+  pub Runs-next_listed : (h : Here) (limit : ℕ) → Ready h limit n a rec after → (name : List ℕ) (place k : ℕ) (values : Expressions) (g : Option Guard) (st : State) → Fit h limit st
+      → Runs h limit a (next_listed rec h name place k values g st) (next_listed after h name place k values g (pushed a st))
+  Runs-next_listed h limit ready name place k NoExpressions g st fit = (fit, refl)
+  Runs-next_listed h limit ready name place k (MoreExpressions tree others) g st fit =
+      Goes-if h.set.tables h.set.turns limit a (Fine h.set.tables h.set.turns limit) (is_number (held_at place st) k) _ _ _ _ (λ is. Runs-listed h limit ready name place (suc k) false tree g st fit)
+      (λ is. Runs-next_listed h limit ready name place (suc k) others g st fit)
 
   Runs-step : (h : Here) (limit : ℕ) → Ready h limit n a rec after → (step : Option Expression) (st : State) → Fit h limit st → Runs h limit a (step_of rec h step st) (step_of after h step (pushed a st))
   Runs-step h limit ready None st fit = (fit, refl)
@@ -274,7 +291,7 @@ module _ (n : ℕ) (a : Answered) (rec after : Meaning) where
       seq h limit a _ _ _ _ (Runs-expression h limit n a rec after ready first st fit)
       (λ from st1 fit1. seq h limit a _ _ _ _ (Runs-expression h limit n a rec after ready last st1 fit1)
       (λ to st2 fit2. seq h limit a _ _ _ _ (Runs-step h limit ready step st2 fit2)
-      (λ by st3 fit3. Runs-mapped h limit a _ _ (λ done. not (is_past (integer_of by) (integer_of to) (integer_of from))) (Runs-stored h limit a name from (kept_at (suc m) by (kept_at m to st3)) fit3))))
+      (λ by st3 fit3. seq h limit a _ _ _ _ (Runs-kept h limit a name m (bounds_kept m from to by st3) fit3) (λ done st4 fit4. (fit4, refl)))))
 
   Runs-spanned : (h : Here) (limit : ℕ) → Ready h limit n a rec after → (m : ℕ) (loop : Looping) (name : List ℕ) (span : Span) (g : Option Guard) (body body' : State → Evaluated Flow) (st : State) → Bodies h limit a body body' → Fit h limit st
       → Runs h limit a (spanned rec h m loop name span g body st) (spanned after h m loop name span g body' (pushed a st))
@@ -285,9 +302,9 @@ module _ (n : ℕ) (a : Answered) (rec after : Meaning) where
       (λ later is. task_begun h limit n a rec after (Stepping h m loop name g) later ready (same h limit n a rec after ready) is) fit2))
   Runs-spanned h limit ready m loop name (Listed NoExpressions) g body body' st bodies fit = (fit, refl)
   Runs-spanned h limit ready m loop name (Listed (MoreExpressions first others)) g body body' st bodies fit =
-      seq h limit a _ _ _ _ (Runs-listed h limit ready name true first g st fit)
-      (λ held st1 fit1. Runs-turn_if h limit a loop.labels body body' (rec (Listing h loop name g others)) (after (Listing h loop name g others)) held st1 bodies
-      (λ later is. task_begun h limit n a rec after (Listing h loop name g others) later ready (same h limit n a rec after ready) is) fit1)
+      seq h limit a _ _ _ _ (Runs-listed h limit ready name m 1 true first g st fit)
+      (λ held st1 fit1. Runs-turn_if h limit a loop.labels body body' (rec (Listing h m loop name g others)) (after (Listing h m loop name g others)) held st1 bodies
+      (λ later is. task_begun h limit n a rec after (Listing h m loop name g others) later ready (same h limit n a rec after ready) is) fit1)
 
   Runs-returned : (h : Here) (limit : ℕ) → Ready h limit n a rec after → (tree : Option Expression) (st : State) → Fit h limit st → Runs h limit a (returned rec h tree st) (returned after h tree (pushed a st))
   Runs-returned h limit ready None st fit = (fit, refl)
@@ -335,7 +352,7 @@ module _ (n : ℕ) (a : Answered) (rec after : Meaning) where
     Runs-basic h limit ready m labels (DoCase place selects alternative group) st fit =
         seq h limit a _ _ _ _ (Runs-expression h limit n a rec after ready selects st fit)
         (λ v later known. Runs-mapped h limit a _ _ (group_left labels)
-        (Runs-case h limit ready (after_alternative (suc m) alternative) (integer_of v) (λ before. without_case rec h (suc m) alternative before) (λ before. without_case after h (suc m) alternative before) group later known
+        (Runs-case h limit ready (after_alternative (suc m) alternative) (loop_place h m) (λ before. without_case rec h (suc m) alternative before) (λ before. without_case after h (suc m) alternative before) group (kept_at (loop_place h m) v later) known
         (λ last more. Runs-without h limit ready (suc m) alternative last more)))
     Runs-basic h limit ready m labels (DoLoop place g group) st fit =
         seq h limit a _ _ _ _ (Runs-first h limit ready g st fit)
@@ -393,16 +410,16 @@ module _ (n : ℕ) (a : Answered) (rec after : Meaning) where
     Runs-without h limit ready m NoAlternative st fit = Runs-mapped h limit a _ _ (λ ignored. Normal) (Goes-raise h h.set.turns limit a (error 1 6) st fit)
     Runs-without h limit ready m (Otherwise one) st fit = Runs-statement h limit ready m one st fit
 
-    Runs-case : (h : Here) (limit : ℕ) → Ready h limit n a rec after → (m : ℕ) (i : ℤ) (none none' : State → Evaluated Flow) (group : Group) (st : State) → Fit h limit st
-        → ((later : State) → Fit h limit later → Runs h limit a (none later) (none' (pushed a later))) → Runs h limit a (case_of rec h m i none group st) (case_of after h m i none' group (pushed a st))
-    Runs-case h limit ready m i none none' (Groups list close) st fit nones = Runs-selected h limit ready m i none none' list st fit nones
+    Runs-case : (h : Here) (limit : ℕ) → Ready h limit n a rec after → (m place : ℕ) (none none' : State → Evaluated Flow) (group : Group) (st : State) → Fit h limit st
+        → ((later : State) → Fit h limit later → Runs h limit a (none later) (none' (pushed a later))) → Runs h limit a (case_of rec h m place none group st) (case_of after h m place none' group (pushed a st))
+    Runs-case h limit ready m place none none' (Groups list close) st fit nones = Runs-selected h limit ready m 1 (held_at place st) none none' list st fit nones
 
-    Runs-selected : (h : Here) (limit : ℕ) → Ready h limit n a rec after → (m : ℕ) (i : ℤ) (none none' : State → Evaluated Flow) (list : Statements) (st : State) → Fit h limit st
-        → ((later : State) → Fit h limit later → Runs h limit a (none later) (none' (pushed a later))) → Runs h limit a (selected rec h m i none list st) (selected after h m i none' list (pushed a st))
-    Runs-selected h limit ready m i none none' NoStatements st fit nones = nones st fit
-    Runs-selected h limit ready m i none none' (MoreStatements first others) st fit nones =
-        Goes-if h.set.tables h.set.turns limit a (Fine h.set.tables h.set.turns limit) (is_one i) _ _ _ _ (λ is. Runs-statement h limit ready m first st fit)
-        (λ is. Runs-selected h limit ready (after_statement m first) (i -ℤ pos 1) none none' others st fit nones)
+    Runs-selected : (h : Here) (limit : ℕ) → Ready h limit n a rec after → (m k : ℕ) (v : Value) (none none' : State → Evaluated Flow) (list : Statements) (st : State) → Fit h limit st
+        → ((later : State) → Fit h limit later → Runs h limit a (none later) (none' (pushed a later))) → Runs h limit a (selected rec h m k v none list st) (selected after h m k v none' list (pushed a st))
+    Runs-selected h limit ready m k v none none' NoStatements st fit nones = nones st fit
+    Runs-selected h limit ready m k v none none' (MoreStatements first others) st fit nones =
+        Goes-if h.set.tables h.set.turns limit a (Fine h.set.tables h.set.turns limit) (is_number v k) _ _ _ _ (λ is. Runs-statement h limit ready m first st fit)
+        (λ is. Runs-selected h limit ready (after_statement m first) (suc k) v none none' others st fit nones)
 
     pub Runs-grouped : (h : Here) (limit : ℕ) → Ready h limit n a rec after → (m : ℕ) (group : Group) (st : State) → Fit h limit st → Runs h limit a (grouped rec h m group st) (grouped after h m group (pushed a st))
     Runs-grouped h limit ready m (Groups list close) st fit = Runs-statements h limit ready m list st fit

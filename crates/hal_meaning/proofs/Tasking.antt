@@ -2,7 +2,6 @@
 use Rattle.std.specs.Prelude.{ℕ, zero, suc, ◌+◌, ◌≤◌, ◌<◌, ◌≡◌, ◌++◌, length, List, [], ◌∷◌, Bool, true, false, Option, Some, None}
 use Rattle.std.proofs.Common.{refl, sym, ap, subst, inl, inr, arith}
 use Rattle.std.proofs.lemmas.List.Elements.{All-nil}
-use Rattle.hal_grammar.specs.Expressions.{NoExpressions, MoreExpressions}
 use Rattle.hal_values.specs.declared.environment.Entry.{Entry}
 use Rattle.hal_values.specs.declared.request.Request.{Request}
 use Rattle.hal_values.specs.declared.request.Request.TheVariants as request
@@ -23,7 +22,7 @@ use Rattle.hal_meaning.proofs.Going.{weight, turns_in, spare, pushed, IsRight, T
 use Rattle.hal_meaning.proofs.Accessing.{Goes-request, Goes-raise}
 use Rattle.hal_meaning.proofs.Able.{here_of, IsIn, Able, Ready, Runs, Fit, seq, begun as task_begun, same}
 use Rattle.hal_meaning.proofs.Expressing.{Runs-mapped}
-use Rattle.hal_meaning.proofs.Stating.{Runs-behind, Runs-settled, Runs-guard, Runs-begins, Runs-listed, Runs-next, Runs-turn_if, Runs-grouped, Runs-statement, Runs-statements}
+use Rattle.hal_meaning.proofs.Stating.{Runs-behind, Runs-settled, Runs-guard, Runs-begins, Runs-next_listed, Runs-next, Runs-turn_if, Runs-grouped, Runs-statement, Runs-statements}
 
 Runs-ended : (h : Here) (limit : ℕ) (a : Answered) (function : Bool) (flow : Flow) (st : State) → Fit h limit st → Runs h limit a (ended h function flow st) (ended h function flow (pushed a st))
 Runs-ended h limit a true Normal st fit = Runs-mapped h limit a _ _ (λ ignored. Returned None) (Goes-raise h h.set.turns limit a (error 1 7) st fit)
@@ -131,20 +130,19 @@ module _ (n : ℕ) (a : Answered) (rec after : Meaning) where
       (rec (Tested h loop g)) (after (Tested h loop g)) held later
       (λ low less begun begun_fit. Runs-grouped n a rec after h low (lower h low limit ready less) (suc loop.mark) loop.group begun begun_fit)
       (λ last is. task_begun h limit n a rec after (Tested h loop g) last ready (same h limit n a rec after ready) is) known)
-  Runs-task (Stepping h end loop name g) limit ready st fit =
-      seq h limit a _ _ _ _ (Runs-next h limit a name end st fit)
+  Runs-task (Stepping h k loop name g) limit ready st fit =
+      seq h limit a _ _ _ _ (Runs-next h limit a name k st fit)
       (λ begins st1 fit1. seq h limit a _ _ _ _ (Runs-begins n a rec after h limit ready false g begins st1 fit1)
       (λ held st2 fit2. Runs-turn_if h limit a loop.labels (λ begun. grouped rec h (suc loop.mark) loop.group begun) (λ begun. grouped after h (suc loop.mark) loop.group begun)
-      (rec (Stepping h end loop name g)) (after (Stepping h end loop name g)) held st2
+      (rec (Stepping h k loop name g)) (after (Stepping h k loop name g)) held st2
       (λ low less begun begun_fit. Runs-grouped n a rec after h low (lower h low limit ready less) (suc loop.mark) loop.group begun begun_fit)
-      (λ last is. task_begun h limit n a rec after (Stepping h end loop name g) last ready (same h limit n a rec after ready) is) fit2))
-  Runs-task (Listing h loop name g NoExpressions) limit ready st fit = (fit, refl)
-  Runs-task (Listing h loop name g (MoreExpressions first others)) limit ready st fit =
-      seq h limit a _ _ _ _ (Runs-listed n a rec after h limit ready name false first g st fit)
+      (λ last is. task_begun h limit n a rec after (Stepping h k loop name g) last ready (same h limit n a rec after ready) is) fit2))
+  Runs-task (Listing h k loop name g values) limit ready st fit =
+      seq h limit a _ _ _ _ (Runs-next_listed n a rec after h limit ready name k 1 values g st fit)
       (λ held st1 fit1. Runs-turn_if h limit a loop.labels (λ begun. grouped rec h (suc loop.mark) loop.group begun) (λ begun. grouped after h (suc loop.mark) loop.group begun)
-      (rec (Listing h loop name g others)) (after (Listing h loop name g others)) held st1
+      (rec (Listing h k loop name g values)) (after (Listing h k loop name g values)) held st1
       (λ low less begun begun_fit. Runs-grouped n a rec after h low (lower h low limit ready less) (suc loop.mark) loop.group begun begun_fit)
-      (λ last is. task_begun h limit n a rec after (Listing h loop name g others) last ready (same h limit n a rec after ready) is) fit1)
+      (λ last is. task_begun h limit n a rec after (Listing h k loop name g values) last ready (same h limit n a rec after ready) is) fit1)
   Runs-task (Entering h) limit ready st fit = Runs-end h limit ready _ _ (Runs-statements n a rec after h limit ready 0 h.body st fit)
   Runs-task (Resuming h place) limit ready st fit = Runs-end h limit ready _ _ (Runs-handled h limit ready (handling_in place h.first h.body) st fit)
   Runs-task (Cycling h) limit ready st fit = Runs-restarted h limit ready _ _ (Runs-cycle h limit ready st fit)

@@ -1,5 +1,5 @@
 -- Calls of blocks: parameters, turns, and what comes back.
-use Rattle.std.specs.Prelude.{ℕ, zero, suc, ◌==◌, Bool, true, false, ◌&&◌, List, [], ◌∷◌, pos, Some, None, slice_get, slice_set, if◌then◌else◌}
+use Rattle.std.specs.Prelude.{ℕ, zero, suc, ◌==◌, Bool, true, false, ◌&&◌, List, [], ◌∷◌, ◌++◌, take, drop, pos, Some, None, slice_get, slice_set, if◌then◌else◌}
 use Rattle.std.specs.Option.{option_and_then}
 use Rattle.hal_grammar.specs.Leaves.{Naming}
 use Rattle.hal_grammar.specs.Declarations as declarations
@@ -82,8 +82,8 @@ abbrev pub is_automatic_in : Set → ℕ → Place → Bool
 is_automatic_in s unit place = place.automatic && elim (slice_get s.phrases place.owner) [ None ↦ false | Some p ↦ p.around.home == unit ]
 
 abbrev pub begun : Set → ℕ → List Place → List Held → List Held
-begun s unit (place ∷ places) (one ∷ others) = (if is_automatic_in s unit place then Holds place.initial else one) ∷ begun s unit places others
-begun s unit places others = others
+begun s unit [] held = held
+begun s unit (place ∷ places) held = (if is_automatic_in s unit place then Holds place.initial ∷ [] else take 1 held) ++ begun s unit places (drop 1 held)
 
 -- the result of a type that nothing was returned for
 abbrev pub zero_of_type : declarations.Kind → Value

@@ -27,7 +27,7 @@ use Rattle.hal_values.specs.Answers.{error}
 use Rattle.hal_values.specs.Tables.{event_count}
 use Rattle.hal_states.specs.Spots.{Spot, Nowhere, Held, further}
 use Rattle.hal_states.specs.OfKinds.{told}
-use Rattle.hal_states.specs.Numbers.{integer_of, holds, one_bit}
+use Rattle.hal_states.specs.Numbers.{integer_of}
 use Rattle.hal_meaning.specs.Elements.{Shape, copy_size, chosen, offset}
 use Rattle.hal_meaning.specs.Sets.{Set, body_at}
 use Rattle.hal_meaning.specs.States.{State, Evaluated, Gives, bind}
@@ -83,9 +83,13 @@ abbrev mutual
 abbrev pub becomes_condition : Bool → Expression → Bool
 becomes_condition beside_condition operand = beside_condition && not (is_condition operand)
 
+-- bits as a condition: they are compared with a zero, so that one bit tells whether they aren't all zeros. No error arises there
+abbrev pub as_condition : Value → Value
+as_condition v = mended_of_two op2.NotEqual v (value.Bits 1 0)
+
 -- an operand of AND or OR: bits that become a condition are one bit
 abbrev pub as_operand : Bool → Value → Value
-as_operand true v = one_bit (holds v)
+as_operand true v = as_condition v
 as_operand false v = v
 
 -- an operation with one operand

@@ -1,6 +1,5 @@
 -- What a process asks for next, after the answers that it got so far.
 use Rattle.std.specs.Prelude.{ℕ, zero, suc, Bool, true, false, List, [], ◌∷◌, ◌++◌, map, Option, Some, None, slice_get, if◌then◌else◌}
-use Rattle.hal_grammar.specs.Expressions.{NoExpressions, MoreExpressions}
 use Rattle.hal_values.specs.declared.request.Request.{Request}
 use Rattle.hal_values.specs.declared.request.Request.TheVariants as request
 use Rattle.hal_values.specs.declared.value.Value.{Value}
@@ -16,7 +15,7 @@ use Rattle.hal_meaning.specs.Sets.{Set, body_at}
 use Rattle.hal_meaning.specs.States.{State, state, Evaluated, Gives, Asks, Caught, Restarts, Lost, bind, Flow, Normal, Returned}
 use Rattle.hal_meaning.specs.Access.{Here, raise, request_made}
 use Rattle.hal_meaning.specs.Calls.{is_function}
-use Rattle.hal_meaning.specs.Statements.{statement, statements, grouped, settled, turn_if, goes_behind, guard_holds, span_begins, listed, next_stepping}
+use Rattle.hal_meaning.specs.Statements.{statement, statements, grouped, settled, turn_if, goes_behind, guard_holds, span_begins, next_listed, next_stepping}
 use Rattle.hal_meaning.specs.Tasks.{Meaning, Tested, Stepping, Listing, Entering, Resuming, Cycling}
 
 -- the unit of a block that isn't an UPDATE block is a FUNCTION
@@ -66,14 +65,13 @@ abbrev pub task : Meaning → Meaning
 task rec (Tested h loop g) st =
     bind (guard_holds rec h g st)
     (λ held after. turn_if h loop.labels (λ begun. grouped rec h (suc loop.mark) loop.group begun) (rec (Tested h loop g)) held after)
-task rec (Stepping h end loop name g) st =
-    bind (next_stepping h name end st)
+task rec (Stepping h n loop name g) st =
+    bind (next_stepping h name n st)
     (λ begins st1. bind (span_begins rec h false g begins st1)
-    (λ held st2. turn_if h loop.labels (λ begun. grouped rec h (suc loop.mark) loop.group begun) (rec (Stepping h end loop name g)) held st2))
-task rec (Listing h loop name g NoExpressions) st = Gives Normal st
-task rec (Listing h loop name g (MoreExpressions first others)) st =
-    bind (listed rec h name false first g st)
-    (λ held st1. turn_if h loop.labels (λ begun. grouped rec h (suc loop.mark) loop.group begun) (rec (Listing h loop name g others)) held st1)
+    (λ held st2. turn_if h loop.labels (λ begun. grouped rec h (suc loop.mark) loop.group begun) (rec (Stepping h n loop name g)) held st2))
+task rec (Listing h n loop name g values) st =
+    bind (next_listed rec h name n 1 values g st)
+    (λ held st1. turn_if h loop.labels (λ begun. grouped rec h (suc loop.mark) loop.group begun) (rec (Listing h n loop name g values)) held st1)
 task rec (Entering h) st = to_end rec h (statements rec h 0 h.body st)
 task rec (Resuming h place) st = to_end rec h (handled rec h (handling_in place h.first h.body) st)
 task rec (Cycling h) st = restarted rec h (cycle rec h st)

@@ -1,12 +1,15 @@
 -- What statements come to.
-use Rattle.std.specs.Prelude.{ℕ, zero, suc, ◌==◌, nat_lt, Bool, true, false, not, List, [], ◌∷◌, length, take, ℤ, pos, negsuc, ◌+ℤ◌, ◌-ℤ◌, bytes_eq, Option, Some, None, slice_get, slice_set, Ok, Err, if◌then◌else◌}
+use Rattle.std.specs.Prelude.{ℕ, zero, suc, nat_lt, Bool, true, false, not, List, [], ◌∷◌, length, take, ℤ, pos, ◌+ℤ◌, bytes_eq, Option, Some, None, slice_get, slice_set, Ok, Err, if◌then◌else◌}
 use Rattle.std.specs.List.{list_any}
 use Rattle.hal_base.specs.declared.limits.TheConstants.{LINE_LIMIT}
 use Rattle.hal_grammar.specs.Leaves.{Naming}
 use Rattle.hal_grammar.specs.Expressions.{Expression, Expressions, NoExpressions, MoreExpressions, Reference, Refers, Subscript, ByName, ByInteger, ByParts, Subscripts, NoSubscripts, MoreSubscripts}
 use Rattle.hal_grammar.specs.Statements.{Guard, While, Until, Span, Stepped, Listed, Selector, EveryError, GroupErrors, OneError, Response, System, Ignore, Statement, Labelled, Basic, Null, Assignment, If, Do, DoCase, DoLoop, DoFor, Exit, Repeat, Return, Call, Read, Write, Update, Scheduled, Cancel, Terminate, Wait, WaitUntil, WaitForDependent, WaitFor, Event, UpdatePriority, OnErrorStatement, OnErrorResponse, OffError, SendError, Alternative, NoAlternative, Otherwise, Group, Groups, Statements, NoStatements, MoreStatements}
+use Rattle.hal_operations.specs.declared.operation.Op2.{Op2}
+use Rattle.hal_operations.specs.declared.operation.Op2.TheVariants as op2
 use Rattle.hal_operations.specs.declared.part.Part.{Part}
 use Rattle.hal_operations.specs.declared.part.Part.TheVariants as part
+use Rattle.hal_operations.specs.Mended.{mended_of_two}
 use Rattle.hal_operations.specs.Parts.{patched, mended_patch, place_count}
 use Rattle.hal_constants.specs.Constants.{is_none}
 use Rattle.hal_values.specs.declared.environment.Act.{Act}
@@ -211,12 +214,22 @@ span_holds rec h first None st = Gives true st
 span_holds rec h true (Some g) st = first_holds rec h g st
 span_holds rec h false (Some g) st = guard_holds rec h g st
 
--- a DO FOR group's own places: its end, its step; a TEMPORARY stands before them
+-- where the own places of a DO FOR or a DO CASE group begin, of which there are four; a TEMPORARY stands before them
 abbrev pub loop_place : Here → ℕ → ℕ
 loop_place h m = elim (slice_get h.marks m) [ None ↦ 0 | Some k ↦ first_place h.places k ]
 
 abbrev pub kept_at : ℕ → Value → State → State
 kept_at n v st = with_places (slice_set st.kept.places n (Holds v)) st
+
+abbrev pub held_at : ℕ → State → Value
+held_at n st = held_in (slice_get st.kept.places n)
+
+-- whether a comparison of two values holds
+abbrev pub compares : Op2 → Value → Value → Bool
+compares op v w = holds (mended_of_two op v w)
+
+abbrev pub is_number : Value → ℕ → Bool
+is_number v k = compares op2.Equal v (value.Int (pos k))
 
 -- a DO FOR group's variable
 abbrev pub variable_spot : Meant → Spot
@@ -234,7 +247,7 @@ abbrev pub group_here : Here → Bool → ℕ → Here
 group_here h false m = h
 group_here h true m = elim (slice_get h.marks m) [ None ↦ h | Some k ↦ within k h ]
 
--- the places of the end and the step
+-- the first place of a DO FOR group that is no TEMPORARY
 abbrev pub end_place : Here → Bool → ℕ → ℕ
 end_place h false m = loop_place h m
 end_place h true m = suc (loop_place h m)
@@ -279,52 +292,77 @@ abbrev pub label_name : Option Naming → Option (List ℕ)
 label_name None = None
 label_name (Some l) = Some l.name
 
--- where a DO FOR group with TO begins: its start is stored, its end and step are kept; a turn begins unless the start is past the end
+-- the step of a DO FOR group with TO
 abbrev pub step_of : Meaning → Here → Option Expression → State → Evaluated Value
 step_of rec h None st = Gives (value.Int (pos 1)) st
 step_of rec h (Some tree) st = expression rec h tree st
 
+-- its end is kept in its first place, its step in the second one, and in the third one the value that its variable gets
+abbrev pub bounds_kept : ℕ → Value → Value → Value → State → State
+bounds_kept n from to by st = kept_at (suc (suc n)) from (kept_at n to (kept_at (suc n) by st))
+
+abbrev pub variable_kept : Here → List ℕ → ℕ → State → Evaluated (Unit {0})
+variable_kept h name n st = variable_stored h name (held_at (suc (suc n)) st) st
+
+-- whether a value is past the end, by the sign of the step
+abbrev pub has_passed : Value → Value → Value → Bool
+has_passed by to v = if compares op2.Less by (value.Int (pos 0)) then compares op2.Less v to else compares op2.Less to v
+
+abbrev pub is_over : ℕ → State → Bool
+is_over n st = has_passed (held_at (suc n) st) (held_at n st) (held_at (suc (suc n)) st)
+
+-- where the group begins: its bounds are kept, its start is stored, and a turn begins unless the start is past the end
 abbrev pub begun_stepping : Meaning → Here → List ℕ → ℕ → Expression → Expression → Option Expression → State → Evaluated Bool
 begun_stepping rec h name n first last step st =
     bind (expression rec h first st)
     (λ from st1. bind (expression rec h last st1)
     (λ to st2. bind (step_of rec h step st2)
-    (λ by st3. bind (variable_stored h name from (kept_at (suc n) by (kept_at n to st3)))
-    (λ done st4. Gives (not (is_past (integer_of by) (integer_of to) (integer_of from))) st4))))
+    (λ by st3. bind (variable_kept h name n (bounds_kept n from to by st3))
+    (λ done st4. Gives (not (is_over n st4)) st4))))
 
 -- whether a turn begins: the bounds let it, and the guard does
 abbrev pub span_begins : Meaning → Here → Bool → Option Guard → Bool → State → Evaluated Bool
 span_begins rec h first g false st = Gives false st
 span_begins rec h first g true st = span_holds rec h first g st
 
--- the next value of a DO FOR group with TO is stored, unless it is past the end
-abbrev pub next_stored : Here → List ℕ → Bool → Value → State → Evaluated Bool
-next_stored h name true v st = Gives false st
-next_stored h name false v st = bind (variable_stored h name v st) (λ done after. Gives true after)
+-- the next value of a DO FOR group with TO is kept, and in the last place whether it isn't past the end
+abbrev pub next_kept : ℕ → Bool → ℤ → ℤ → State → State
+next_kept n true before next st = kept_at (suc (suc n)) (value.Int before) (kept_at (suc (suc (suc n))) (value.Int (pos 0)) st)
+next_kept n false before next st = kept_at (suc (suc n)) (value.Int next) (kept_at (suc (suc (suc n))) (value.Int (pos 1)) st)
+
+abbrev pub counted : ℕ → ℤ → ℤ → ℤ → State → State
+counted n before by to st = next_kept n (is_past by to (before +ℤ by)) before (before +ℤ by) st
+
+-- it is stored, unless it is past the end
+abbrev pub next_stored : Here → List ℕ → ℕ → Bool → State → Evaluated Bool
+next_stored h name n false st = Gives false st
+next_stored h name n true st = bind (variable_kept h name n st) (λ done after. Gives true after)
+
+abbrev pub next_begun : Here → List ℕ → ℕ → State → Evaluated Bool
+next_begun h name n st = next_stored h name n (is_number (held_at (suc (suc (suc n))) st) 1) st
 
 abbrev pub next_stepping : Here → List ℕ → ℕ → State → Evaluated Bool
 next_stepping h name n st =
-    bind (variable_read h name st)
-    (λ v after. let next = integer_of v +ℤ integer_of (held_in (slice_get after.kept.places (suc n))) in
-    next_stored h name (is_past (integer_of (held_in (slice_get after.kept.places (suc n)))) (integer_of (held_in (slice_get after.kept.places n))) next) (value.Int next) after)
+    bind (variable_read h name st) (λ v after. next_begun h name n (counted n (integer_of v) (integer_of (held_at (suc n) after)) (integer_of (held_at n after)) after))
 
 abbrev pub looping : List Naming → ℕ → Group → Looping
 looping labels m group = record { labels = labels; mark = m; group = group }
 
--- the next value of a list is stored, and the guard lets a turn begin
-abbrev pub listed : Meaning → Here → List ℕ → Bool → Expression → Option Guard → State → Evaluated Bool
-listed rec h name first tree g st =
-    bind (expression rec h tree st) (λ v st1. bind (variable_stored h name v st1) (λ done st2. span_holds rec h first g st2))
+-- a value of a list is stored, the group's first place keeps how many were, and the guard lets a turn begin
+abbrev pub listed : Meaning → Here → List ℕ → ℕ → ℕ → Bool → Expression → Option Guard → State → Evaluated Bool
+listed rec h name n k first tree g st =
+    bind (expression rec h tree st) (λ v st1. bind (variable_stored h name v st1) (λ done st2. span_holds rec h first g (kept_at n (value.Int (pos k)) st2)))
+
+-- the same of the value behind as many as this place says, among those that stand behind so many; behind the last one no turn begins
+abbrev pub next_listed : Meaning → Here → List ℕ → ℕ → ℕ → Expressions → Option Guard → State → Evaluated Bool
+next_listed rec h name n k NoExpressions g st = Gives false st
+next_listed rec h name n k (MoreExpressions tree others) g st =
+    if is_number (held_at n st) k then listed rec h name n (suc k) false tree g st else next_listed rec h name n (suc k) others g st
 
 -- WAIT FOR an event expression
 abbrev pub waited : List ℕ → State → Evaluated (Unit {0})
 waited [] st = Gives tt st
 waited (x ∷ xs) st = request_made (request.Wait (pause.Event x)) st
-
--- whether a number is 1
-abbrev pub is_one : ℤ → Bool
-is_one (pos n) = n == 1
-is_one (negsuc n) = false
 
 -- what stands behind a statement is done where control goes on there
 abbrev pub goes_behind : Flow → (State → Evaluated Flow) → State → Evaluated Flow
@@ -338,14 +376,14 @@ abbrev pub one_of : Bool → (State → Evaluated Flow) → (State → Evaluated
 one_of true held failed st = held st
 one_of false held failed st = failed st
 
--- a DO FOR group with these statements; names are looked up within it
+-- a DO FOR group with these statements and this first place; names are looked up within it
 abbrev pub spanned : Meaning → Here → ℕ → Looping → List ℕ → Span → Option Guard → (State → Evaluated Flow) → State → Evaluated Flow
-spanned rec h end loop name (Stepped first last step) g body st =
-    bind (begun_stepping rec h name end first last step st)
-    (λ begins st1. bind (span_begins rec h true g begins st1) (λ held st2. turn_if h loop.labels body (rec (Stepping h end loop name g)) held st2))
-spanned rec h end loop name (Listed NoExpressions) g body st = Gives Normal st
-spanned rec h end loop name (Listed (MoreExpressions first others)) g body st =
-    bind (listed rec h name true first g st) (λ held st1. turn_if h loop.labels body (rec (Listing h loop name g others)) held st1)
+spanned rec h n loop name (Stepped first last step) g body st =
+    bind (begun_stepping rec h name n first last step st)
+    (λ begins st1. bind (span_begins rec h true g begins st1) (λ held st2. turn_if h loop.labels body (rec (Stepping h n loop name g)) held st2))
+spanned rec h n loop name (Listed NoExpressions) g body st = Gives Normal st
+spanned rec h n loop name (Listed (MoreExpressions first others)) g body st =
+    bind (listed rec h name n 1 true first g st) (λ held st1. turn_if h loop.labels body (rec (Listing h n loop name g others)) held st1)
 
 abbrev mutual
   pub statement : Meaning → Here → ℕ → Statement → State → Evaluated Flow
@@ -361,7 +399,7 @@ abbrev mutual
   basic_statement rec h m labels (Do place group) st = bind (grouped rec h (suc m) group st) (λ flow after. Gives (group_left labels flow) after)
   basic_statement rec h m labels (DoCase place selects alternative group) st =
       bind (expression rec h selects st)
-      (λ v after. bind (case_of rec h (after_alternative (suc m) alternative) (integer_of v) (λ before. without_case rec h (suc m) alternative before) group after)
+      (λ v after. bind (case_of rec h (after_alternative (suc m) alternative) (loop_place h m) (λ before. without_case rec h (suc m) alternative before) group (kept_at (loop_place h m) v after))
       (λ flow later. Gives (group_left labels flow) later))
   basic_statement rec h m labels (DoLoop place g group) st =
       bind (first_holds rec h g st)
@@ -402,14 +440,15 @@ abbrev mutual
   without_case rec h m NoAlternative st = bind (raise h (error 1 6) st) (λ ignored after. Gives Normal after)
   without_case rec h m (Otherwise one) st = statement rec h m one st
 
-  -- the statement of a DO CASE group that a number selects
-  pub case_of : Meaning → Here → ℕ → ℤ → (State → Evaluated Flow) → Group → State → Evaluated Flow
-  case_of rec h m i none (Groups list close) st = selected rec h m i none list st
+  -- the statement of a DO CASE group that the number selects which this place keeps
+  pub case_of : Meaning → Here → ℕ → ℕ → (State → Evaluated Flow) → Group → State → Evaluated Flow
+  case_of rec h m n none (Groups list close) st = selected rec h m 1 (held_at n st) none list st
 
-  pub selected : Meaning → Here → ℕ → ℤ → (State → Evaluated Flow) → Statements → State → Evaluated Flow
-  selected rec h m i none NoStatements st = none st
-  selected rec h m i none (MoreStatements first others) st =
-      if is_one i then statement rec h m first st else selected rec h (after_statement m first) (i -ℤ pos 1) none others st
+  -- among statements of which the first one has this number
+  pub selected : Meaning → Here → ℕ → ℕ → Value → (State → Evaluated Flow) → Statements → State → Evaluated Flow
+  selected rec h m k v none NoStatements st = none st
+  selected rec h m k v none (MoreStatements first others) st =
+      if is_number v k then statement rec h m first st else selected rec h (after_statement m first) (suc k) v none others st
 
   -- the statements of a group
   pub grouped : Meaning → Here → ℕ → Group → State → Evaluated Flow

@@ -8,7 +8,7 @@ use Rattle.hal_values.specs.declared.value.Value.{Value}
 use Rattle.hal_values.specs.Answers.{Answered}
 use Rattle.hal_values.specs.Answers as answered
 use Rattle.hal_states.specs.Spots.{Held, Kept, kept}
-use Rattle.hal_states.specs.Modes.{Mode, mode}
+use Rattle.hal_states.specs.Modes.{Mode}
 
 -- what is kept; the error entries of the latest entered block; how shared data are reached; and the answers that are still to be taken
 pub record State : Type 0 where

@@ -15,10 +15,10 @@ pub record Looping : Type 0 where
 pub data Task : Type 0 where
   -- a group with WHILE or UNTIL, from its test on
   Tested : (here : Here) (loop : Looping) (guard : Guard) → Task
-  -- a DO FOR group with TO, after a turn; its end and its step are kept from this place on
-  Stepping : (here : Here) (end : ℕ) (loop : Looping) (variable : List ℕ) (guard : Option Guard) → Task
-  -- a DO FOR group with a list, after a turn: these values are still to come
-  Listing : (here : Here) (loop : Looping) (variable : List ℕ) (guard : Option Guard) (values : Expressions) → Task
+  -- a DO FOR group with TO, after a turn; its end, its step and its next value are kept from this place on
+  Stepping : (here : Here) (first : ℕ) (loop : Looping) (variable : List ℕ) (guard : Option Guard) → Task
+  -- a DO FOR group with a list, after a turn: these are its values behind the first one, and this place keeps how many were stored
+  Listing : (here : Here) (first : ℕ) (loop : Looping) (variable : List ℕ) (guard : Option Guard) (values : Expressions) → Task
   -- a block that is called, from its beginning on
   Entering : (here : Here) → Task
   -- a block in which a statement of ON ERROR is entered, of this mark

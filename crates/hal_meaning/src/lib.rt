@@ -4,4 +4,4 @@
 
 mod laws;
 
-pub use laws::a_set_is_a_load;
+pub use laws::{a_set_is_a_load, bits_become_a_condition};

@@ -1,3 +1,5 @@
+pub mod Channels
+pub mod DataPieces
 pub mod FirstWord
 pub mod Limits
 pub mod OneReading

@@ -1,5 +1,5 @@
 -- Which lines are a script, and which of them is the first faulty one.
-use Rattle.std.specs.Prelude.{◌≡◌, ℕ, ◌+◌, ◌⊎◌, List, [], ◌∷◌, ◌++◌, Option}
+use Rattle.std.specs.Prelude.{◌≡◌, ℕ, ◌+◌, ◌⊎◌, false, List, [], ◌∷◌, ◌++◌, Option}
 use Rattle.std.specs.Option.{option_to_list}
 use Rattle.exec_model.specs.declared.script.ScriptLine.{ScriptLine}
 use Rattle.hal_script.specs.declared.fault.ScriptFault.{ScriptFault}
@@ -11,7 +11,7 @@ use Rattle.hal_script.specs.Readings.{reading, past}
 
 -- before the first line
 abbrev pub opening : SoFar
-opening = record { line_count = 0; events = 0; time = 0 }
+opening = record { line_count = 0; begun = false; events = 0; time = 0 }
 
 -- the lines from here on are this script: each is good where it stands, and the empty ones are left out
 abbrev pub IsScriptFrom : SoFar → List (List ℕ) → List ScriptLine → Type 0

@@ -3,12 +3,15 @@
 #![tactic(auto)]
 
 mod fault;
+mod given;
 mod journal;
 mod law;
 mod number;
+mod piece;
 mod read;
 mod reading;
 mod word;
+mod worked;
 
 pub use fault::{ScriptError, ScriptFault};
 pub use journal::write_journal;
@@ -17,3 +20,7 @@ pub use law::{
     every_text_is_a_script_or_faulty,
 };
 pub use read::read_script;
+pub use worked::{
+    data_are_read, input_behind_run_is_faulty, input_is_a_script, quotes_are_read,
+    reasons_have_an_order,
+};

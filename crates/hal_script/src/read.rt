@@ -4,13 +4,20 @@ ghost use Rattle.std.specs.Str.Lines.{lines};
 ghost use Rattle.hal_script.specs.Readings.{past};
 ghost use Rattle.hal_script.specs.ScriptTexts.{IsScriptOf, IsFaultTold};
 ghost use Rattle.hal_script.specs.Fits.{Fits};
-ghost use Rattle.exec_model.specs.Scripts.{IsScript};
+ghost use Rattle.exec_model.specs.Scripts.{IsScript, is_input as is_input_line};
 
 use crate::fault::{ScriptError, ScriptFault};
 use crate::reading::{Reading, SoFar, read_line};
 use exec_model::{Script, ScriptLine};
 use hal_base::first_line;
 use std::alloc::{AllocError, Global};
+
+/// Whether a line gives data to a channel.
+fn is_input(line: &ScriptLine) -> bool
+    ensures { result ≡ is_input_line line.now }
+{
+    matches!(line, ScriptLine::Input(..))
+}
 
 /// Adds what a good line asks for, and tells how far the script has come after it.
 fn add(
@@ -31,15 +38,17 @@ fn add(
                 ScriptLine::Tick(time) => next.time += time,
                 _ => {}
             }
+            next.begun = next.begun || !is_input(&line);
             script.push(line)?;
             Ok(next)
         }
     }
 }
 
-/// Reads a script of RUN, TICK and PREEMPT lines. A fault is the first faulty line, with its first reason:
-/// 6 too many lines or a sum above its limit, 1 unknown first word, 2 operand missing, malformed or
-/// followed by more, 3 number out of range, 5 a byte outside 32 to 126.
+/// Reads a script of INPUT lines and, behind them, RUN, TICK and PREEMPT lines. A fault is the first faulty line, with
+/// its first reason: 6 too many lines or a sum above its limit, 1 unknown first word, 4 an INPUT behind another
+/// kind, 2 operand missing, malformed or followed by more, 3 number out of range, 5 an open quote or a byte
+/// outside 32 to 126.
 pub fn read_script(alloc: Global, bytes: &[u8]) -> Result<Script, ScriptError>
     ensures found { IfOk result (λ script. IsScriptOf (lines bytes.now) script) }
     ensures limits { IfOk result (λ script. IsScript script) }
@@ -49,6 +58,7 @@ pub fn read_script(alloc: Global, bytes: &[u8]) -> Result<Script, ScriptError>
     let mut rest = bytes;
     let mut so_far = SoFar {
         line_count: 0,
+        begun: false,
         events: 0,
         time: 0,
     };

@@ -1,11 +1,14 @@
 ghost use Rattle.std.specs.Prelude.{◌≡◌, ◌<◌, ◌≤◌, IfOk};
-ghost use Rattle.hal_script.specs.Words.{words};
-ghost use Rattle.hal_script.specs.Readings.{keyword_of, alone as alone_of, of_number as of_number_of, counted as counted_of, run_of, tick_of, preempt_of, of_words, of_bytes, reading};
+ghost use Rattle.hal_script.specs.Words.{words, behind_word};
+ghost use Rattle.hal_script.specs.Readings.{keyword_of, alone as alone_of, of_number as of_number_of, counted as counted_of, run_of, tick_of, preempt_of, given_to as given_to_of, input_of, of_words, of_bytes, reading};
 
+use crate::given::{Given, read_data};
 use crate::number::{NUMBER_CAP, is_number, value};
 use crate::word::{first_word, is_printable};
 use exec_model::ScriptLine;
-use hal_base::{RUN_LIMIT, RUN_SUM_LIMIT, SCRIPT_LINE_LIMIT, TICK_LIMIT, TICK_SUM_LIMIT};
+use hal_base::{
+    CHANNEL_COUNT, RUN_LIMIT, RUN_SUM_LIMIT, SCRIPT_LINE_LIMIT, TICK_LIMIT, TICK_SUM_LIMIT,
+};
 use hal_values::Listing;
 use std::alloc::{AllocError, Global};
 
@@ -14,6 +17,8 @@ use std::alloc::{AllocError, Global};
 pub struct SoFar {
     /// How many lines stand before.
     pub line_count: u32,
+    /// Whether one of them is a RUN, TICK or PREEMPT, so that no INPUT may follow.
+    pub begun: bool,
     /// How many events their RUNs ask for together.
     pub events: u32,
     /// How far their TICKs move the clock together, in milliseconds.
@@ -26,6 +31,7 @@ pub enum Keyword {
     Runs,
     Ticks,
     Preempts,
+    Inputs,
 }
 
 /// What a line is.
@@ -49,6 +55,9 @@ fn keyword_at(word: &[u8]) -> Option<Keyword>
     }
     if word == b"PREEMPT".as_slice() {
         return Some(Keyword::Preempts);
+    }
+    if word == b"INPUT".as_slice() {
+        return Some(Keyword::Inputs);
     }
     None
 }
@@ -124,9 +133,42 @@ fn preempt(alloc: Global, operands: &[u8]) -> Result<Reading, AllocError>
     Ok(Reading::Good(Some(ScriptLine::Preempt(name))))
 }
 
+/// An INPUT of what a text gives to the channel of this number.
+fn given_to(channel: u64, gift: Given) -> Reading
+    ensures { result ≡ given_to_of channel gift }
+{
+    match gift {
+        Given::Malformed => Reading::Faults(2),
+        _ if channel >= CHANNEL_COUNT as u64 => Reading::Faults(3),
+        Given::Open => Reading::Faults(5),
+        Given::Data(data) => Reading::Good(Some(ScriptLine::Input(channel as u8, data))),
+    }
+}
+
+/// An INPUT with these operands.
+#[tactic(auto, using(crate::proofs::Channels::given_to_capped))]
+fn input(alloc: Global, begun: bool, operands: &[u8]) -> Result<Reading, AllocError>
+    ensures { IfOk result (λ line. line ≡ input_of begun (words operands.now) (behind_word operands.now)) }
+{
+    if begun {
+        return Ok(Reading::Faults(4));
+    }
+    let Some((channel, text)) = first_word(operands) else {
+        return Ok(Reading::Faults(2));
+    };
+    if first_word(text).is_none() {
+        return Ok(Reading::Faults(2));
+    }
+    if !is_number(channel) {
+        return Ok(Reading::Faults(2));
+    }
+    let gift = read_data(alloc, text)?;
+    Ok(given_to(value(channel), gift))
+}
+
 /// What a line's words say.
 fn read_words(alloc: Global, so_far: SoFar, line: &[u8]) -> Result<Reading, AllocError>
-    ensures { IfOk result (λ line_read. line_read ≡ of_words so_far (words line.now)) }
+    ensures { IfOk result (λ line_read. line_read ≡ of_words so_far (words line.now) (behind_word (behind_word line.now))) }
 {
     let Some((first, operands)) = first_word(line) else {
         return Ok(Reading::Good(None));
@@ -136,6 +178,7 @@ fn read_words(alloc: Global, so_far: SoFar, line: &[u8]) -> Result<Reading, Allo
         Some(Keyword::Runs) => Ok(run(so_far.events, operands)),
         Some(Keyword::Ticks) => Ok(tick(so_far.time, operands)),
         Some(Keyword::Preempts) => preempt(alloc, operands),
+        Some(Keyword::Inputs) => input(alloc, so_far.begun, operands),
     }
 }
 

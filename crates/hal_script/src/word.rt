@@ -1,11 +1,12 @@
 ghost use Rattle.std.specs.Prelude.{◌≡◌, ◌∷◌, [], ◌<◌, length, IfNone, IfSome, position};
-ghost use Rattle.hal_script.specs.Words.{words, is_blank, is_printable as is_printable_line};
+ghost use Rattle.hal_script.specs.Words.{words, behind_word, is_blank, is_printable as is_printable_line};
 
 /// A line's first word, which ends at a blank or at the line's end, and the text after it. None where
 /// there are blanks alone.
 pub fn first_word(line: &[u8]) -> Option<(&[u8], &[u8])>
     ensures none { IfNone result (words line.now ≡ []) }
     ensures first { IfSome result (λ cut. words line.now ≡ cut.0.now ∷ words cut.1.now) }
+    ensures behind { IfSome result (λ cut. cut.1.now ≡ behind_word line.now) }
 {
     let mut rest = line;
     while let Some(end) = blank_at(rest) {

@@ -22,7 +22,7 @@ use Rattle.hal_code.proofs.Loading.{image_is_load}
 use Rattle.hal_code.proofs.RightTables.{right_tables}
 use Rattle.hal_agreement.proofs.Agreeing.{files_agree}
 use Rattle.hal_link.proofs.Linked.{image_placed}
-use Rattle.hal_link.specs.Views.{views_of}
+use Rattle.hal_link.specs.CalledViews.{views_of}
 use Rattle.exec_model.specs.declared.script.ScriptLine.{ScriptLine}
 use Rattle.exec_model.specs.declared.event.Event.{Event}
 use Rattle.exec_model.specs.Scripts.{IsScript}

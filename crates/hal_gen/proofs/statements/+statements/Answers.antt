@@ -1,16 +1,16 @@
-use Rattle.std.proofs.Common.{rules, ◌≡◌, ◌∙◌, ◌+◌, suc, [], ◌∷◌, ◌++◌, length, map, Ok, Err, sym, ap, subst}
+use Rattle.std.proofs.Common.{rules, ◌≡◌, ◌∙◌, ◌+◌, suc, [], ◌∷◌, ◌++◌, length, map, Some, Ok, Err, sym, ap, subst}
 use Rattle.std.specs.Option.{option_map}
 use Rattle.std.proofs.lemmas.Result.{err_from_is_err_and}
-use Rattle.hal_grammar.specs.Statements.{If, Update}
+use Rattle.hal_grammar.specs.Statements.{If, DoFor, Update}
 use Rattle.hal_tree.specs.Rows.{statements}
 use Rattle.hal_tree.specs.SeenExpressions.{seen_expression}
 use Rattle.hal_tree.specs.SeenLeaves.{seen_name}
-use Rattle.hal_tree.specs.SeenStatements.{seen_alternative, seen_basic, seen_statement}
-use Rattle.hal_tree.proofs.MadeStatements.{made_if, made_update}
+use Rattle.hal_tree.specs.SeenStatements.{seen_alternative, seen_basic, seen_group, seen_guard, seen_span, seen_statement}
+use Rattle.hal_tree.proofs.MadeStatements.{made_if, made_do_for, made_update}
 use Rattle.hal_code.specs.declared.instr.Instr.TheVariants as instr
 use Rattle.hal_meaning.specs.Marks.{after_statement}
 use Rattle.hal_meaning.specs.Statements.{update_groups}
-use Rattle.hal_agreement.specs.PlacedStatements.{NoReturn}
+use Rattle.hal_agreement.specs.PlacedStatements.{NoReturn, opened, within_group}
 use Rattle.hal_agreement.specs.Sites.{here_at}
 use Rattle.hal_gen_expr.specs.Emits.{Emits}
 use Rattle.hal_gen_expr.specs.Emitting.{emit}
@@ -18,10 +18,12 @@ use Rattle.hal_gen_expr.specs.ExpressionCode.{expression_code}
 use Rattle.hal_gen_expr.specs.Numbering.{below}
 use Rattle.hal_gen_expr.specs.SeenSites.{seen_site, seen_numbering}
 use Rattle.hal_gen.specs.SeenExits.{seen_exits}
-use Rattle.hal_gen.specs.Sizes.{statement_size, statements_size, jump_size}
-use Rattle.hal_gen.specs.StatementCode.{statement_code, statements_code, basic_code, alternative_code}
+use Rattle.hal_gen.specs.KeptCode.{cells_of}
+use Rattle.hal_gen.specs.Sizes.{basic_size, group_size, statement_size, statements_size, jump_size}
+use Rattle.hal_gen.specs.StatementCode.{span_start_code, span_end_code, group_code, statement_code, statements_code, basic_code, alternative_code}
 use Rattle.hal_gen.proofs.Branched.{branched}
 use Rattle.hal_gen.proofs.Ended.{ended}
+use Rattle.hal_gen.proofs.Ranged.{ranged}
 use Rattle.hal_gen.proofs.Updated.{updated, update_stopped}
 use Rattle.hal_gen.proofs.statements.+statements.Goals as goal
 
@@ -56,3 +58,14 @@ emit_basic-returns-in_err-emit_updating-in-Update t c =
     let same : c.from_residual-in_err-emit_updating-in-Update.result ≡ Err c.in_err-emit_updating-in-Update.field-0.0 = search (rules, p.1, p.2) in
     rw shape (update_stopped (seen_numbering c.args.site.now) (seen_site c.args.site.now) c.args.code.now.items c.emit_open.new.code.items (seen_exits c.args.exits.now) c.args.mark (map seen_name c.args.labels.now) c.in-Update.place (statements (map seen_statement c.in-Update.body.items)) (option_map seen_name c.in-Update.close) opened
     c.emit_updating.new.code.items c.in_err-emit_updating-in-Update.field-0.0 c.emit_updating.result c.from_residual-in_err-emit_updating-in-Update.result failed same c.emit_updating.ensures)
+
+pub emit_basic-returns-in_ok-emit_group-in-DoFor : goal.emit_basic-returns-in_ok-emit_group-in-DoFor
+emit_basic-returns-in_ok-emit_group-in-DoFor t c =
+    let shape : seen_basic c.args.tree.now ≡ (DoFor c.in-DoFor.place c.in-DoFor.temporary (seen_name c.in-DoFor.variable) (seen_span c.in-DoFor.span) (option_map seen_guard c.in-DoFor.guard) (seen_group c.in-DoFor.group)) = ap seen_basic c.in-DoFor.is ∙ made_do_for c.in-DoFor.place c.in-DoFor.temporary c.in-DoFor.variable c.in-DoFor.span c.in-DoFor.guard c.in-DoFor.group in
+    let given : cells_of (seen_numbering c.args.site.now) (seen_site c.args.site.now) c.in-DoFor.temporary c.args.mark ≡ Some c.in-Some-cells_of.cells = search (rules, c.cells_of.ensures, c.in-Some-cells_of.is) in
+    let same : c.in_ok-exit-in-DoFor.exit ≡ length c.args.code.now.items + basic_size (seen_numbering c.args.site.now) (seen_site c.args.site.now) (DoFor c.in-DoFor.place c.in-DoFor.temporary (seen_name c.in-DoFor.variable) (seen_span c.in-DoFor.span) (option_map seen_guard c.in-DoFor.guard) (seen_group c.in-DoFor.group)) = search (rules, c.in_ok-exit-in-DoFor.ensures, c.in_ok-spanned_size-in-DoFor.ensures) in
+    let first : span_start_code (seen_numbering c.args.site.now) (seen_site c.args.site.now) c.args.code.now.items c.in-DoFor.place c.in-DoFor.variable.name c.in-Some-cells_of.cells c.in_ok-exit-in-DoFor.exit (seen_span c.in-DoFor.span) (option_map seen_guard c.in-DoFor.guard) ≡ Ok c.emit_span_start.new.code.items = search (rules, c.in_ok-emit_span_start-in-DoFor.ensures) in
+    let second : group_code (seen_numbering c.args.site.now) (seen_site c.args.site.now) (c.emit_span_start.new.code.items ++ (instr.Turn c.in_ok-exit-in-DoFor.exit ∷ [])) (within_group (opened (map seen_name c.args.labels.now) c.in_ok-exit-in-DoFor.exit (Some (suc (length c.emit_span_start.new.code.items) + group_size (seen_numbering c.args.site.now) (seen_site c.args.site.now) (seen_group c.in-DoFor.group)))) (seen_exits c.args.exits.now)) (suc c.args.mark) (seen_group c.in-DoFor.group) ≡ Ok c.emit_group-in-DoFor.new.code.items = search (rules, c.in_ok-emit_group-in-DoFor.ensures, c.in_ok-inner-in-DoFor.ensures, c.in_ok-next-in-DoFor.ensures) in
+    let third : Emits (span_end_code (seen_numbering c.args.site.now) (seen_site c.args.site.now) c.emit_group-in-DoFor.new.code.items c.in-DoFor.place c.in-DoFor.variable.name c.in-Some-cells_of.cells c.in_ok-exit-in-DoFor.exit (seen_span c.in-DoFor.span) (option_map seen_guard c.in-DoFor.guard) (length c.emit_span_start.new.code.items)) c.emit_span_end.result c.emit_span_end.new.code.items = search (rules, c.emit_span_end.ensures) in
+    subst (λ b. Emits (basic_code (seen_numbering c.args.site.now) (seen_site c.args.site.now) c.args.code.now.items (seen_exits c.args.exits.now) c.args.mark (map seen_name c.args.labels.now) b) c.emit_span_end.result c.emit_span_end.new.code.items) (sym shape)
+    (ranged (seen_numbering c.args.site.now) (seen_site c.args.site.now) c.args.code.now.items c.emit_span_start.new.code.items c.emit_group-in-DoFor.new.code.items c.emit_span_end.new.code.items (seen_exits c.args.exits.now) c.args.mark (map seen_name c.args.labels.now) c.emit_span_end.result c.in-DoFor.place c.in-DoFor.temporary (seen_name c.in-DoFor.variable) (seen_span c.in-DoFor.span) (option_map seen_guard c.in-DoFor.guard) (seen_group c.in-DoFor.group) c.in-Some-cells_of.cells c.in_ok-exit-in-DoFor.exit given same first second third)

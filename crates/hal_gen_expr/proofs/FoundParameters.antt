@@ -1,0 +1,18 @@
+-- The parameters of units, as the program finds them.
+use Rattle.std.specs.Prelude.{ℕ, [], Option, None, Some}
+use Rattle.std.proofs.Common.{◌≡◌, refl}
+use Rattle.hal_grammar.specs.Leaves.{Naming}
+use Rattle.hal_phrases.specs.Phrases.{Phrase}
+use Rattle.hal_meaning.specs.Calls.{parameter_named, parameter_shape}
+use Rattle.hal_meaning.specs.Sets.{Set}
+use Rattle.hal_gen_expr.specs.Parameters.{parameter_with, as_parameter, parameter_at, declaration}
+
+-- the parameter of a declaration that was found or not
+pub parameter_found : (s : Set) (unit : ℕ) (name : Naming)
+    → as_parameter (parameter_named s unit name)
+    ≡ (elim (declaration s unit name) [ None ↦ parameter_with 0 (record { copies = None; components = [] }) | Some p ↦ parameter_at s p ])
+parameter_found s unit name = by (declaration s unit name) where
+  by : (o : Option Phrase) → as_parameter (elim o [ None ↦ record { number = 0; shape = record { copies = None; components = [] } } | Some p ↦ record { number = p.number; shape = parameter_shape s p p.node } ])
+      ≡ (elim o [ None ↦ parameter_with 0 (record { copies = None; components = [] }) | Some p ↦ parameter_at s p ])
+  by None = refl
+  by (Some p) = refl

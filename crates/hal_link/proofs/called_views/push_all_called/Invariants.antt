@@ -1,0 +1,8 @@
+use Rattle.std.proofs.Common.{◌≡◌, drop}
+use Rattle.hal_set.specs.SeenSets.{seen_set}
+use Rattle.hal_link.specs.CalledViews.{with_all_called}
+use Rattle.hal_link.proofs.called_views.push_all_called.Given as goal
+
+abbrev pub invariant-loop-unit : goal.invariant-loop-unit
+invariant-loop-unit l =
+    with_all_called (seen_set l.whole.set.now) l.process l.into.items (drop l.unit-index l.units) ≡ with_all_called (seen_set l.whole.set.now) l.process l.fn.into.items l.units

@@ -1,0 +1,9 @@
+use Rattle.std.proofs.Common.{◌≡◌, map, drop}
+use Rattle.hal_set.specs.SeenSets.{seen_set}
+use Rattle.hal_link.specs.CalledViews.{with_outlines}
+use Rattle.hal_link.specs.SeenOutlines.{seen_outline}
+use Rattle.hal_link.proofs.called_views.push_outlines.Given as goal
+
+abbrev pub invariant-loop-outline : goal.invariant-loop-outline
+invariant-loop-outline l =
+    with_outlines (seen_set l.whole.set.now) l.into.items (map seen_outline (drop l.outline-index l.list)) ≡ with_outlines (seen_set l.whole.set.now) l.fn.into.items (map seen_outline l.list)
