@@ -20,12 +20,13 @@ MACHINE = re.compile(r'(?<![\w.])/(?:work|opt|home|root|tmp|mnt|Users)/\w')
 # The part of docs/CLAIMS.md that lists the wrong bodies, and a row of its table: crate, edit, and whether the gate tries it.
 WRONG_BODIES = re.compile(r'^## Wrong bodies that are refused\n(.*?)^## ', re.MULTILINE | re.DOTALL)
 WRONG_BODY = re.compile(r'^\| `(\w+)` \| `(\w+)` \| .*?(\(tried by the gate\) )?\|$', re.MULTILINE)
-# The part of docs/LANGUAGE.md on names, and a row of its table of units: the unit, and the rule and the place, or that it is right.
+# The part of docs/LANGUAGE.md on names, and a row of its table of units: the unit, and the rule and the place, with the number of the unit where that isn't 0, or that it is right.
 NAMES = re.compile(r'^## Names\n(.*?)^## ', re.MULTILINE | re.DOTALL)
 KINDS = re.compile(r'^## Kinds\n(.*?)^## ', re.MULTILINE | re.DOTALL)
 LOCKS = re.compile(r'^## Locks\n(.*?)^## ', re.MULTILINE | re.DOTALL)
 CALLS = re.compile(r'^## Calls\n(.*?)^## ', re.MULTILINE | re.DOTALL)
-NAMED_UNIT = re.compile(r'^\| `( [^`]*;)` \| (?:(\d+), (\d+:\d+)|right) \|$', re.MULTILINE)
+TEMPLATES = re.compile(r'^## Templates\n(.*?)^## ', re.MULTILINE | re.DOTALL)
+NAMED_UNIT = re.compile(r'^\| `([ D][^`]*;)` \| (?:(\d+), (\d+:\d+)(?: of unit (\d+))?|right) \|$', re.MULTILINE)
 
 
 def own_files():
@@ -59,7 +60,7 @@ def wrong_body_faults():
 def named_unit_faults(section, name):
     """Units of this section of docs/LANGUAGE.md that are no row of the file of rows, and rows that it leaves out."""
     table = section.search((ROOT / 'docs/LANGUAGE.md').read_text())[1]
-    told = {f'{unit} => {f"rule {rule} 0 {place}" if rule else "right"}' for unit, rule, place in NAMED_UNIT.findall(table)}
+    told = {f'{unit} => {f"rule {rule} {number or 0} {place}" if rule else "right"}' for unit, rule, place, number in NAMED_UNIT.findall(table)}
     rows = {line for line in (ROOT / 'crates/name_rows/data' / name).read_text().splitlines() if ' => ' in line}
     for row in sorted(told ^ rows):
         yield f'{"no row" if row in told else "not told"}: {row}'
@@ -80,7 +81,8 @@ def main():
     for folder in sorted((ROOT / 'examples').iterdir()):
         faults += [f'{folder.relative_to(ROOT)}: {fault}' for fault in example_faults(folder)]
     faults += [f'docs/CLAIMS.md: {fault}' for fault in wrong_body_faults()]
-    for section, name in (NAMES, 'language.rows'), (KINDS, 'kinds.rows'), (LOCKS, 'lock_rules.rows'), (CALLS, 'call_rules.rows'):
+    sections = (NAMES, 'language.rows'), (KINDS, 'kinds.rows'), (LOCKS, 'lock_rules.rows'), (CALLS, 'call_rules.rows'), (TEMPLATES, 'template_rules.rows')
+    for section, name in sections:
         faults += [f'docs/LANGUAGE.md: {fault}' for fault in named_unit_faults(section, name)]
     for path in own_files():
         text = path.read_text(errors='replace')

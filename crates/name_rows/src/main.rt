@@ -1,4 +1,4 @@
-//! The rules of names, types, locks and calls, tried on rows: sets of units, and the rule that each breaks or that it breaks none.
+//! The rules of names, types, locks, calls and templates, tried on rows: sets of units, and the rule that each breaks or that it breaks none.
 #![tactic(auto)]
 
 mod name_rows;

@@ -1,13 +1,17 @@
-//! Rows of names, types, locks and calls. `UNIT ~~ UNIT => rule 601 0 3:7` is a set of units that breaks a rule in unit 0 at a line and a column, and `UNIT => right` one
+//! Rows of names, types, locks, calls and templates. `UNIT ~~ UNIT => rule 601 0 3:7` is a set of units that breaks a rule in unit 0 at a line and a column, and `UNIT => right` one
 //! that breaks none: no rule of names where it is tried as `names`, none of types either where it is tried as `types`, none of locks either where it is tried as
-//! `locks`, and none of calls either where it is tried as `calls`. A newline in a unit is written `\n`.
+//! `locks`, and none of calls either where it is tried as `calls`. Where it is tried as `templates` the rules of templates come first, and one that is `right` breaks none of
+//! all these. A newline in a unit is written `\n`.
 
 use hal_base::{Fault, Place, Refusal, Rule};
 use hal_calls::{check_calls, check_program};
 use hal_lexer::tokens;
 use hal_locks::check_locks;
+use hal_names::Names;
 use hal_parse::parse;
+use hal_phrases::phrases_of;
 use hal_scope::resolve;
+use hal_templates::match_templates;
 use hal_tree::File;
 use hal_types::check_types;
 use row_files::{Rows, bytes_of};
@@ -33,6 +37,7 @@ impl Rows for NameRows {
             "types" => types_of(alloc, units),
             "locks" => locks_of(alloc, units),
             "calls" => calls_of(alloc, units),
+            "templates" => templates_of(alloc, units),
             _ => return String::from_str(alloc, "a way in which nothing is tried"),
         };
         let came = match outcome {
@@ -105,4 +110,25 @@ fn calls_of(alloc: Global, units: &str) -> Result<(), Fault> {
     check_locks(alloc, &names)?;
     check_program(&names)?;
     check_calls(alloc, &names)
+}
+
+/// The names of a set of files, whatever rules it breaks.
+fn any_names<'a>(alloc: Global, files: &'a [File]) -> Result<Names<'a>, AllocError> {
+    Names::of(alloc, phrases_of(alloc, files)?)
+}
+
+/// Whether a set of units breaks no rule of templates.
+fn keeps_templates(alloc: Global, units: &str) -> Result<(), Fault> {
+    let files = files_of(alloc, units)?;
+    let names = match any_names(alloc, files.as_slice()) {
+        Ok(names) => names,
+        Err(error) => return Err(Fault::Memory(error)),
+    };
+    match_templates(alloc, &names)
+}
+
+/// Whether a set of units breaks no rule of templates, and none of the others.
+fn templates_of(alloc: Global, units: &str) -> Result<(), Fault> {
+    keeps_templates(alloc, units)?;
+    calls_of(alloc, units)
 }

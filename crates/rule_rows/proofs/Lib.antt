@@ -1,4 +1,5 @@
 pub mod Rules32
+pub mod Rules50
 pub mod Rules60
 pub mod Rules70
 pub mod Rules71

@@ -9,6 +9,7 @@ use Rattle.hal_locks.specs.Rules.{lock_rows}
 use Rattle.hal_calls.specs.Programs.{has_program}
 use Rattle.hal_calls.specs.Rules as calls
 use Rattle.hal_calls.specs.Rules.{call_rows}
+use Rattle.hal_templates.specs.Rules.{template_rows}
 
 -- it breaks this rule of names at this place
 abbrev pub BreaksNames : List File → ℕ → Place → Type 0
@@ -17,6 +18,14 @@ BreaksNames files rule place = Breaks rows (phrases_of files) rule place
 -- it breaks no rule of names
 abbrev pub IsNamed : List File → Type 0
 IsNamed files = IsSound rows (phrases_of files)
+
+-- it breaks this rule of templates at this place, whatever it breaks besides
+abbrev pub BreaksTemplates : List File → ℕ → Place → Type 0
+BreaksTemplates files rule place = Breaks template_rows (phrases_of files) rule place
+
+-- it breaks no rule of templates
+abbrev pub KeepsTemplates : List File → Type 0
+KeepsTemplates files = IsSound template_rows (phrases_of files)
 
 -- it breaks no rule of names, and this rule of types at this place
 abbrev pub BreaksTypes : List File → ℕ → Place → Type 0

@@ -1,2 +1,2 @@
-//! Rows of the rules of names, types, locks and calls, which the checker computes.
+//! Rows of the rules of names, types, locks, calls and templates, which the checker computes.
 #![tactic(auto)]

@@ -1,0 +1,5 @@
+pub mod Repeated
+pub mod Gathered
+pub mod Pairs
+pub mod Ends
+pub mod Tables

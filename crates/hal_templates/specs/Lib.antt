@@ -1,0 +1,16 @@
+pub mod Counts
+pub mod Entries
+pub mod Own
+pub mod Alike
+pub mod Traits
+pub mod Sizes
+pub mod Meanings
+pub mod Structures
+pub mod Leaves
+pub mod Kinds
+pub mod Values
+pub mod Items
+pub mod Heads
+pub mod Templates
+pub mod Rules
+pub mod Faults
