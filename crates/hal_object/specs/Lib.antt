@@ -1,0 +1,10 @@
+pub mod Numbers
+pub mod Fields
+pub mod Choices
+pub mod Kinds
+pub mod Rows
+pub mod Operands
+pub mod Instructions
+pub mod Images
+pub mod Reading
+pub mod Worked
