@@ -76,8 +76,28 @@ def document_faults(path, text):
             yield f'no file {name}'
 
 
+def crates_named(crate):
+    """What a crate's files name that may be a library."""
+    named = set()
+    for part in ('src', 'specs', 'proofs'):
+        for path in (ROOT / 'crates' / crate / part).rglob('*.*t'):
+            text = path.read_text()
+            named.update(re.findall(r'\bRattle\.(\w+)', text), re.findall(r'\b(\w+)::', text))
+    return named
+
+
+def library_faults():
+    """Crates of the repository that a crate lists in crates.txt and that no file of it names: `rt` follows every path through the list, so each costs the gate time."""
+    lines = [line.split(':') for line in (ROOT / 'crates.txt').read_text().splitlines() if ':' in line and not line.startswith('#')]
+    own = {words.split()[0] for words, _ in lines}
+    for words, below in lines:
+        crate = words.split()[0]
+        for library in sorted(own.intersection(below.split()) - crates_named(crate)):
+            yield f'{crate} lists {library}, which it names nowhere'
+
+
 def main():
-    faults = []
+    faults = [f'crates.txt: {fault}' for fault in library_faults()]
     for folder in sorted((ROOT / 'examples').iterdir()):
         faults += [f'{folder.relative_to(ROOT)}: {fault}' for fault in example_faults(folder)]
     faults += [f'docs/CLAIMS.md: {fault}' for fault in wrong_body_faults()]

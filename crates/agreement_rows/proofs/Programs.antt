@@ -165,7 +165,7 @@ process3 zero exists = record {
   block = only called3 0;
   units = one_unit image3 set3 (places_of_process set3 0) called3 0 _ _ refl refl (record { found = refl; clears = []; start = 0; begins = refl; cleared = λ held. begun_plain set3 called3 (places_of_process set3 0) held refl; handler = λ place. 12; finish = 12; statements = (9, (9, 6, 9, (5, (2, 4, (λ held. (record { number = 1; view = _; cell = refl; row = refl; plain = record { dimensions = refl; target = refl; base = refl } }, (refl, refl))), (λ held. (record { number = 2; view = _; cell = refl; row = refl; plain = record { dimensions = refl; target = refl; base = refl } }, (refl, refl))), (refl, refl)), (refl, refl)), (8, 8, (λ held. (record { number = 1; view = _; cell = refl; row = refl; plain = record { dimensions = refl; target = refl; base = refl } }, (refl, refl))), refl, refl, (refl, refl)), (refl, refl)), (12, (11, 11, (λ held. (record { number = 2; view = _; cell = refl; row = refl; plain = record { dimensions = refl; target = refl; base = refl } }, (refl, refl))), refl, refl, (refl, refl)), refl)); leads_out = λ place none. refl; ends = (refl, refl, refl, refl) });
   spot = λ place. 28;
-  code = record { finish = 28; statements = (28, (26, (λ held. (21, (20, refl, (18, 18, (λ held. (record { number = 0; view = _; cell = refl; row = refl; plain = record { dimensions = refl; target = refl; base = refl } }, (refl, refl))), refl, (19, (refl, refl), refl, refl)), (21, refl, (refl, refl), refl)), (record { number = 0; body = _; row = _; named = refl; found = refl; block = refl; gives = refl; outputs = refl; middle = 25; parameters = (23, (21, refl, (λ held. record { number = 2; view = _; cell = refl; row = refl; plain = record { dimensions = refl; target = refl; base = refl } }), (refl, refl)), (λ held. record { number = 1; view = _; cell = refl; row = refl; plain = record { dimensions = refl; target = refl; base = refl } }), (refl, refl)); call = (refl, refl) }))), (λ held. (record { number = 0; view = _; cell = refl; row = refl; plain = record { dimensions = refl; target = refl; base = refl } }, (refl, refl)))), refl); leads_out = λ place none. refl; last = refl };
+  code = record { finish = 28; statements = (28, (26, (λ held. (21, (20, (18, 18, (λ held. (record { number = 0; view = _; cell = refl; row = refl; plain = record { dimensions = refl; target = refl; base = refl } }, (refl, refl))), refl, (19, (refl, refl), refl, refl)), (21, (refl, refl), refl)), (record { number = 0; body = _; row = _; named = refl; found = refl; block = refl; gives = refl; bound = 21; middle = 25; references = refl; parameters = (23, (21, refl, ((λ held. record { number = 2; view = _; cell = refl; row = refl; plain = record { dimensions = refl; target = refl; base = refl } }), (refl, refl))), ((λ held. record { number = 1; view = _; cell = refl; row = refl; plain = record { dimensions = refl; target = refl; base = refl } }), (refl, refl))); call = (refl, refl) }))), (λ held. (record { number = 0; view = _; cell = refl; row = refl; plain = record { dimensions = refl; target = refl; base = refl } }, (refl, refl)))), refl); leads_out = λ place none. refl; last = refl };
 }
 process3 (suc p) exists = absurd (none_more3 p exists)
 

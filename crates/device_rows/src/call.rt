@@ -85,12 +85,10 @@ fn sink_of(alloc: Global, call: &Call) -> Result<MemSink, AllocError> {
 }
 
 /// Which file is told.
-fn file_told(file: Option<u32>) -> &'static str {
+fn file_told(alloc: Global, file: Option<u32>) -> Result<String, AllocError> {
     match file {
-        None => "no file",
-        Some(0) => "file 0",
-        Some(1) => "file 1",
-        Some(_) => "another file",
+        None => String::from_str(alloc, "no file"),
+        Some(number) => format!(in alloc; "file {number}"),
     }
 }
 
@@ -101,7 +99,7 @@ fn told(alloc: Global, outcome: &Outcome, taken: &[u8]) -> Result<String, AllocE
     }
     let taken = notation_of(alloc, taken)?;
     let status = outcome.status;
-    let file = file_told(outcome.file);
+    let file = file_told(alloc, outcome.file)?;
     let events = outcome.journal.as_slice().len();
     format!(in alloc; " status {status}, {file}, {events} events ({taken})")
 }

@@ -1,6 +1,7 @@
 -- The code of an expression leaves the value on the stack that the tree gives.
 use Rattle.std.specs.Prelude.{◌≡◌, ℕ, suc, nat_lt, length, Bool, true, false, ◌&&◌, ◌||◌, List, [], ◌∷◌, ◌++◌, ℤ, pos, Option, Some, None, slice_get, if◌then◌else◌}
 use Rattle.std.proofs.Common.{refl, sym, ap, subst, ◌∙◌}
+use Rattle.std.proofs.Math.Path.{fun_ext}
 use Rattle.hal_grammar.specs.Leaves.{Naming, Sign, Plus, Minus}
 use Rattle.hal_grammar.specs.Expressions.{Expression, Or, And, Compare, Cat, Sum, Product, Power, Not, Literal, Decimal, Referred, Called, Convert, Parenthesis, Expressions, NoExpressions, MoreExpressions, Terms, NoTerms, MoreTerms, Reference, Refers, Subscript, Unsubscripted, ByName, ByInteger, ByParts, Subscripts, NoSubscripts, MoreSubscripts, Sub, Every, Range, Portion, One as OnePlace, Position, FromBeginning, FromEnd}
 use Rattle.hal_phrases.specs.Phrases.{Node, Phrase}
@@ -30,33 +31,36 @@ use Rattle.hal_values.specs.Tables.{event_count}
 use Rattle.hal_states.specs.Spots.{Spot, Held, further}
 use Rattle.hal_states.specs.Numbers.{integer_of}
 use Rattle.hal_states.specs.OfKinds.{told}
-use Rattle.hal_meaning.specs.Elements.{Shape, chosen, offset}
+use Rattle.hal_meaning.specs.Elements.{Shape, chosen, offset, kinds_of}
 use Rattle.hal_meaning.specs.States.{State, Evaluated, Gives, Asks, Caught, Restarts, Lost, bind}
 use Rattle.hal_meaning.specs.Access.{Here, ask, read}
-use Rattle.hal_meaning.specs.Calls.{Passed, Plain, call}
+use Rattle.hal_meaning.specs.Calls.{Parameter, parameter_named, Passed, Plain, Whole, call}
 use Rattle.hal_meaning.specs.Bodies.{meant}
-use Rattle.hal_meaning.specs.Variables.{Meant, MeantData, MeantConstant, MeantEvent, MeantBlock, MeantBuiltin, MeantNothing, meant_by, declaration_meant, builtin_meant, name_meant, kind_of_first, Index, Single, Dimension, dimensions_of, is_arrayed}
-use Rattle.hal_meaning.specs.Expressions.{literal_value, is_condition, are_conditions, becomes_condition, as_condition, as_operand, apply_one, apply_two, signed, exponent_of, operation_of_relation, operation_of_sign, operation_of_conversion, event_value, alone_value, plain_value, built, is_size, size_value, size_argument, inputs_at, call_form, subscripted, expression, joined, folded, summed, values, argument, passed, chosen_by, referred, data_chosen, component, Located, located, named_value, sizes_named, copies_of, spoken, array_indexes, indexes, index, position, part_of, parts_of, part_chosen}
+use Rattle.hal_meaning.specs.Variables.{Meant, MeantData, MeantConstant, MeantEvent, MeantBlock, MeantBuiltin, MeantNothing, meant_by, declaration_meant, builtin_meant, name_meant, spot_meant, spot_named, kind_of_first, Index, Single, Dimension, dimensions_of, is_arrayed, is_whole}
+use Rattle.hal_meaning.specs.Expressions.{literal_value, is_condition, are_conditions, becomes_condition, as_condition, as_operand, apply_one, apply_two, signed, exponent_of, operation_of_relation, operation_of_sign, operation_of_conversion, event_value, alone_value, plain_value, built, is_size, size_value, size_argument, inputs_at, call_form, subscripted, meant_chosen, expression, joined, folded, summed, values, argument, passed, chosen_by, referred, chosen_data, data_chosen, component, Located, located, named_value, sizes_named, copies_of, spoken, array_indexes, indexes, index, position, part_of, parts_of, part_chosen}
 use Rattle.hal_meaning.specs.Tasks.{Meaning}
 use Rattle.hal_code.specs.declared.choice.Choice.TheVariants as choice
 use Rattle.hal_code.specs.declared.instr.Instr.{Instr}
 use Rattle.hal_code.specs.declared.instr.Instr.TheVariants as instr
 use Rattle.hal_code.specs.declared.operand.Places.{Places}
 use Rattle.hal_code.specs.declared.operand.Places.TheVariants as places
-use Rattle.hal_code.specs.Cores.{Operand, Val, At, Pushes, Step, Waits, Moves}
-use Rattle.hal_code.specs.Addressing.{pushed}
+use Rattle.hal_code.specs.declared.row.Target.{Target}
+use Rattle.hal_code.specs.declared.row.Target.TheVariants as target
+use Rattle.hal_code.specs.Cores.{Operand, Val, At, Area, Pushes, Step, Waits, Moves}
+use Rattle.hal_code.specs.Images as machine
+use Rattle.hal_code.specs.Addressing.{operand_of, pushed}
 use Rattle.hal_code.specs.Raising.{stuck}
 use Rattle.hal_code.specs.Computing.{part_taken, part_picked}
 use Rattle.hal_code.specs.Machine.{act}
 use Rattle.hal_agreement.specs.Codes.{Code}
 use Rattle.hal_agreement.specs.Sites.{site_of, here_at}
-use Rattle.hal_agreement.specs.PlacedExpressions.{One, pushes, two, AddressAt, BehindAt, AloneAt, ValueAt, NameAt, EitherAt, PlaceAt, ArrayAt, SubscriptedAt, SignAt, OperandAt, ExpressionAt, JoinedAt, FoldedAt, TermsAt, CalledAt, BuiltAt, ArgumentsAt, ReferenceAt, ChosenAt, IndexesAt, PositionAt, ComponentAt, PartsAt, PartAt, picks, places_of}
-use Rattle.hal_agreement.proofs.Calling.{args_step, inputs_same, call_reaches, function_reaches}
+use Rattle.hal_agreement.specs.PlacedExpressions.{One, pushes, two, AddressAt, ElementAt, AloneAt, CallAt, ValueAt, NameAt, EitherAt, PlaceAt, ArrayAt, array_spoken, DataAt, SubscriptedAt, SignAt, OperandAt, ExpressionAt, JoinedAt, FoldedAt, TermsAt, CalledAt, BuiltAt, ArgumentsAt, WholeArgumentAt, WholeAt, ReferenceAt, ChosenAt, IndexesAt, PositionAt, ComponentAt, PartsAt, PartAt, picks, places_of}
+use Rattle.hal_agreement.proofs.Calling.{IsArgument, AreArguments, function_reaches}
 use Rattle.hal_agreement.proofs.Knowing.{Sound}
 use Rattle.hal_agreement.proofs.Leading.{stays}
-use Rattle.hal_agreement.proofs.Reaching.{Nest, setting, core_at, Arrives, Reaches, OnStep, bind_reaches, bind_on, acts}
+use Rattle.hal_agreement.proofs.Reaching.{Nest, setting, core_at, Reaches, bind_reaches, acts}
 use Rattle.hal_agreement.proofs.Viewing.{further_none, address_reaches}
-use Rattle.hal_agreement.proofs.Indexing.{laid, single, singles, laid_both, singles_both, lengths_both, none_first, none_behind, element_reaches}
+use Rattle.hal_agreement.proofs.Indexing.{laid, single, singles, laid_both, singles_both, lengths_both, located_same, element_reaches}
 use Rattle.hal_agreement.proofs.Raising.{Standing, bind_bind, asks_then, tested_reaches, read_reaches}
 
 -- what a declaration means goes by the site alone
@@ -80,6 +84,10 @@ named_same h held name (Some k) = declared_same h held (slice_get h.set.phrases 
 -- and so does what a name means
 pub name_same : (h : Here) (name : List ℕ) (held : List Held) → name_meant (here_at (site_of h)) name held ≡ name_meant h name held
 name_same h name held = named_same h held name (meant h.set.phrases h.block name)
+
+-- and where its data begin
+pub spot_same : (h : Here) (name : List ℕ) → spot_named (here_at (site_of h)) name ≡ spot_named h name
+spot_same h name = fun_ext (λ held. ap spot_meant (name_same h name held))
 
 -- SIZE goes by the site alone
 size_same : (h : Here) (arguments : Expressions) (held : List Held) → size_argument (here_at (site_of h)) arguments held ≡ size_argument h arguments held
@@ -212,6 +220,11 @@ module _ (code : Code) (begin : ℕ) (rec : Meaning) (sound : Sound code begin r
       (λ a rest. record { holds = stays (setting code begin h) _ rest }))
   alone_reaches other from to stack line st one = absurd one
 
+  -- a FUNCTION without arguments
+  plain_call : (unit from to : ℕ) (stack : List Operand) (line : List ℕ) (st : State) → inputs_at h.set unit ≡ [] → CallAt code (site_of h) unit true from to → ValuesAt to stack line (From from stack line st) st.left (call rec h unit [] [] st)
+  plain_call unit from to stack line st none here =
+      function_reaches code begin rec sound h n standing unit [] from to stack stack line st here (subst (λ names. AreArguments code begin rec sound h n standing unit names [] stack stack) (sym none) refl)
+
   -- what a name means, without subscripts
   value_reaches : (path : List Naming) (m : Meant) (from to : ℕ) (stack : List Operand) (line : List ℕ) (st : State) → ValueAt code (site_of h) path st.kept.places m from to
       → ValuesAt to stack line (From from stack line st) st.left (plain_value rec h path m st)
@@ -219,7 +232,7 @@ module _ (code : Code) (begin : ℕ) (rec : Meaning) (sound : Sound code begin r
       data_reaches (kind_of_first (chosen path shape.components)) (further (offset path shape.components) at) from to stack line st here.0 here.1
   value_reaches path (MeantConstant v) from to stack line st here = constant_reaches v from to stack line st here
   value_reaches path (MeantEvent e) from to stack line st here = event_reaches e from to stack line st here
-  value_reaches path (MeantBlock unit) from to stack line st here = function_reaches code begin rec sound h n standing unit from to stack line st here.0 here.1
+  value_reaches path (MeantBlock unit) from to stack line st here = plain_call unit from to stack line st here.0 here.1
   value_reaches path (MeantBuiltin b) from to stack line st here = alone_reaches b from to stack line st here
   value_reaches path MeantNothing from to stack line st here = absurd here
 
@@ -227,16 +240,17 @@ module _ (code : Code) (begin : ℕ) (rec : Meaning) (sound : Sound code begin r
   kept_reaches : (to : ℕ) (stack : List Operand) (line : List ℕ) (step : Step) (left : List Answered) (r : Evaluated Value) → ValuesAt to stack line step left r → ValuesAt to stack line step left (bind r (λ v after. Gives v after))
   kept_reaches to stack line step left r is = then_reaches to to stack stack line step left r (λ v after. Gives v after) is (λ v after. gives to stack line v after)
 
-  meant_reaches : (path : List Naming) (m : Meant) (from to : ℕ) (stack : List Operand) (line : List ℕ) (st : State) → ValueAt code (site_of h) path st.kept.places m from to
+  meant_reaches : (spot : List Held → Spot) (path : List Naming) (m : Meant) (from to : ℕ) (stack : List Operand) (line : List ℕ) (st : State) → spot st.kept.places ≡ spot_meant m → ValueAt code (site_of h) path st.kept.places m from to
       → ValuesAt to stack line (From from stack line st) st.left
-      (subscripted rec h path (λ at shape before. data_chosen rec h path Unsubscripted at shape before) (λ arrayed v after. component rec h arrayed Unsubscripted v after) m st)
-  meant_reaches path (MeantData at shape) from to stack line st here =
-      kept_reaches to stack line (From from stack line st) st.left _ (value_reaches path (MeantData at shape) from to stack line st here)
-  meant_reaches path (MeantConstant v) from to stack line st here = constant_reaches v from to stack line st here
-  meant_reaches path (MeantEvent e) from to stack line st here = kept_reaches to stack line (From from stack line st) st.left _ (event_reaches e from to stack line st here)
-  meant_reaches path (MeantBlock unit) from to stack line st here = kept_reaches to stack line (From from stack line st) st.left _ (function_reaches code begin rec sound h n standing unit from to stack line st here.0 here.1)
-  meant_reaches path (MeantBuiltin b) from to stack line st here = kept_reaches to stack line (From from stack line st) st.left _ (alone_reaches b from to stack line st here)
-  meant_reaches path MeantNothing from to stack line st here = absurd here
+      (subscripted rec h path (λ shape before. data_chosen rec h path Unsubscripted spot shape before) (λ arrayed v after. component rec h arrayed Unsubscripted v after) m st)
+  meant_reaches spot path (MeantData at shape) from to stack line st same here =
+      subst (λ place. ValuesAt to stack line (From from stack line st) st.left (bind (read h (kind_of_first (chosen path shape.components)) (further (offset path shape.components) place) st) (λ v after. Gives v after))) (sym same)
+      (kept_reaches to stack line (From from stack line st) st.left _ (value_reaches path (MeantData at shape) from to stack line st here))
+  meant_reaches spot path (MeantConstant v) from to stack line st same here = constant_reaches v from to stack line st here
+  meant_reaches spot path (MeantEvent e) from to stack line st same here = kept_reaches to stack line (From from stack line st) st.left _ (event_reaches e from to stack line st here)
+  meant_reaches spot path (MeantBlock unit) from to stack line st same here = kept_reaches to stack line (From from stack line st) st.left _ (plain_call unit from to stack line st here.0 here.1)
+  meant_reaches spot path (MeantBuiltin b) from to stack line st same here = kept_reaches to stack line (From from stack line st) st.left _ (alone_reaches b from to stack line st here)
+  meant_reaches spot path MeantNothing from to stack line st same here = absurd here
 
   -- a value that is done with
   done : (from to : ℕ) (v : Value) (stack : List Operand) (line : List ℕ) (st : State) → from ≡ to → ValuesAt to stack line (From from (Val v ∷ stack) line st) st.left (Gives v st)
@@ -249,41 +263,37 @@ module _ (code : Code) (begin : ℕ) (rec : Meaning) (sound : Sound code begin r
       value_reaches path (name_meant h name st.kept.places) from to stack line st (subst (λ m. ValueAt code (site_of h) path st.kept.places m from to) (name_same h name st.kept.places) (here st.kept.places))
 
   -- something is done with the address on the stack, as it is with the data that the tree chooses
-  abbrev pub Addressed : {A : Type 0} (fine : A → State → Option Step) (k : Kind) (to : ℕ) (stack : List Operand) (line : List ℕ) (go : Located → State → Evaluated A) → Type 0
-  Addressed fine k to stack line go = (place : Spot) (after : State) → Reaches (setting code begin h) n fine (From to (At place k ∷ stack) line after) after.left (go (record { at = place; kind = k }) after)
+  abbrev pub Addressed : {A : Type 0} (fine : A → State → Option Step) (given : Target) (k : Kind) (to : ℕ) (stack : List Operand) (line : List ℕ) (go : Located → State → Evaluated A) → Type 0
+  Addressed fine given k to stack line go = (place : Spot) (after : State) → Reaches (setting code begin h) n fine (From to (operand_of given place ∷ stack) line after) after.left (go (record { at = place; kind = k }) after)
 
-  -- the address of a cell, behind which something is done
-  plain_address : {A : Type 0} (fine : A → State → Option Step) (k : Kind) (spot : Spot) (from to : ℕ) (stack : List Operand) (line : List ℕ) (st : State) (go : Located → State → Evaluated A)
-      → AddressAt code st.kept.places k spot from → suc from ≡ to → Addressed fine k to stack line go
-      → Reaches (setting code begin h) n fine (From from stack line st) st.left (go (record { at = spot; kind = k }) st)
-  plain_address fine k spot from to stack line st go at same each =
-      address_reaches code begin h n fine k spot from stack line st (go (record { at = spot; kind = k }) st) at
-      (subst (λ end. Reaches (setting code begin h) n fine (From end (At spot k ∷ stack) line st) st.left (go (record { at = spot; kind = k }) st)) (sym same) (each spot st))
+  -- the address of an element, behind its places
+  element_address : {A : Type 0} (fine : A → State → Option Step) (ds : List Dimension) (given : Target) (k : Kind) (spot : List Held → Spot) (vs : List Value) (from to : ℕ) (stack : List Operand) (line : List ℕ) (st : State) (go : Located → State → Evaluated A)
+      → ElementAt code ds given spot from → suc from ≡ to → length vs ≡ length ds → Addressed fine given k to stack line go
+      → Reaches (setting code begin h) n fine (From from (laid vs stack) line st) st.left (bind (located h (spot st.kept.places) k ds (singles vs) st) go)
+  element_address fine ds given k spot vs from to stack line st go at same many each =
+      element_reaches code begin h n standing fine ds given k spot vs from stack line st go at many
+      (λ place after. subst (λ end. Reaches (setting code begin h) n fine (From end (operand_of given place ∷ stack) line after) after.left (go (record { at = place; kind = k }) after)) (sym same) (each place after))
 
-  -- that of an element, behind its places. Where there are none, the own places hold what they did
-  element_address : {A : Type 0} (fine : A → State → Option Step) (held : List Held) (ds : List Dimension) (k : Kind) (spot : Spot) (vs : List Value) (from to : ℕ) (stack : List Operand) (line : List ℕ) (st : State) (go : Located → State → Evaluated A)
-      → BehindAt code held ds k spot from → suc from ≡ to → length vs ≡ length ds → (ds ≡ [] → st.kept.places ≡ held) → Addressed fine k to stack line go
-      → Reaches (setting code begin h) n fine (From from (laid vs stack) line st) st.left (bind (located h spot k ds (singles vs) st) go)
-  element_address fine held [] k spot [] from to stack line st go at same many still each =
-      subst (λ place. Reaches (setting code begin h) n fine (From from stack line st) st.left (go (record { at = place; kind = k }) st)) (sym (further_none spot))
-      (plain_address fine k spot from to stack line st go (subst (λ places. AddressAt code places k spot from) (sym (still refl)) at) same each)
-  element_address fine held [] k spot (v ∷ vs) from to stack line st go at same many still each = absurd (cc)
-  element_address fine held (d ∷ ds) k spot vs from to stack line st go at same many still each =
-      element_reaches code begin h n standing fine (d ∷ ds) k spot vs from stack line st go at many
-      (λ place after. subst (λ end. Reaches (setting code begin h) n fine (From end (At place k ∷ stack) line after) after.left (go (record { at = place; kind = k }) after)) (sym same) (each place after))
+  -- the address of data without subscripts, behind which something is done
+  plain_address : {A : Type 0} (fine : A → State → Option Step) (given : Target) (k : Kind) (spot : List Held → Spot) (from to : ℕ) (stack : List Operand) (line : List ℕ) (st : State) (go : Located → State → Evaluated A)
+      → ElementAt code [] given spot from → suc from ≡ to → Addressed fine given k to stack line go
+      → Reaches (setting code begin h) n fine (From from stack line st) st.left (go (record { at = spot st.kept.places; kind = k }) st)
+  plain_address fine given k spot from to stack line st go at same each =
+      subst (λ place. Reaches (setting code begin h) n fine (From from stack line st) st.left (go (record { at = place; kind = k }) st)) (further_none (spot st.kept.places))
+      (element_address fine [] given k spot [] from to stack line st go at same refl each)
 
   -- a subscript without a mark: it is the array's where there is one
-  place_reaches : {A : Type 0} (fine : A → State → Option Step) (placed : ℕ → ℕ → Type 0) (place : Evaluated Value) (k : Kind) (spot : Spot) (sizes : List ℕ) (from to : ℕ) (stack : List Operand) (line : List ℕ) (st : State) (go : Located → State → Evaluated A)
-      → ((middle : ℕ) → placed from middle → ValuesAt middle stack line (From from stack line st) st.left place)
-      → PlaceAt code st.kept.places placed k spot sizes from to → Addressed fine k to stack line go
+  place_reaches : {A : Type 0} (fine : A → State → Option Step) (placed : ℕ → ℕ → Type 0) (place : Evaluated Value) (given : Target) (k : Kind) (spot : List Held → Spot) (sizes : List ℕ) (from to : ℕ) (stack : List Operand) (line : List ℕ) (st : State)
+      (go : Located → State → Evaluated A) → ((middle : ℕ) → placed from middle → ValuesAt middle stack line (From from stack line st) st.left place)
+      → PlaceAt code placed given spot sizes from to → Addressed fine given k to stack line go
       → Reaches (setting code begin h) n fine (From from stack line st) st.left
-      (bind (if is_arrayed sizes then bind place (λ v after. located h spot k (dimensions_of sizes) (Single (integer_of v) ∷ []) after) else Gives (record { at = spot; kind = k }) st) go)
-  place_reaches fine placed place k spot [] from to stack line st go stands here each = plain_address fine k spot from to stack line st go here.0 here.1 each
-  place_reaches fine placed place k spot (n1 ∷ ns) from to stack line st go stands here each =
+      (bind (if is_arrayed sizes then bind place (λ v after. located h (spot after.kept.places) k (dimensions_of sizes) (Single (integer_of v) ∷ []) after) else Gives (record { at = spot st.kept.places; kind = k }) st) go)
+  place_reaches fine placed place given k spot [] from to stack line st go stands here each = plain_address fine given k spot from to stack line st go here.0 here.1 each
+  place_reaches fine placed place given k spot (n1 ∷ ns) from to stack line st go stands here each =
       subst (λ r. Reaches (setting code begin h) n fine (From from stack line st) st.left r)
-      (sym (bind_bind place (λ v after. located h spot k (dimensions_of (n1 ∷ ns)) (Single (integer_of v) ∷ []) after) go))
-      (bind_reaches (setting code begin h) n (λ v after. From here.0 (Val v ∷ stack) line after) fine _ st.left place (λ v after. bind (located h spot k (dimensions_of (n1 ∷ ns)) (Single (integer_of v) ∷ []) after) go) (stands here.0 here.1)
-      (λ v after. element_address fine after.kept.places (dimensions_of (n1 ∷ ns)) k spot (v ∷ []) here.0 to stack line after go here.3 here.4 (ap (λ sizes. length (dimensions_of (n1 ∷ sizes))) (sym here.2)) (λ none. refl) each))
+      (sym (bind_bind place (λ v after. located h (spot after.kept.places) k (dimensions_of (n1 ∷ ns)) (Single (integer_of v) ∷ []) after) go))
+      (bind_reaches (setting code begin h) n (λ v after. From here.0 (Val v ∷ stack) line after) fine _ st.left place (λ v after. bind (located h (spot after.kept.places) k (dimensions_of (n1 ∷ ns)) (Single (integer_of v) ∷ []) after) go) (stands here.0 here.1)
+      (λ v after. element_address fine (dimensions_of (n1 ∷ ns)) given k spot (v ∷ []) here.0 to stack line after go here.3 here.4 (ap (λ sizes. length (dimensions_of (n1 ∷ sizes))) (sym here.2)) each))
 
   -- array subscripts without a mark are places of the array's dimensions
   array_same : (sizes : List ℕ) (list : Subscripts) (from to : ℕ) (st : State) → IndexesAt code (site_of h) (dimensions_of sizes) list from to → array_indexes rec h sizes list st ≡ indexes rec h (dimensions_of sizes) list st
@@ -302,58 +312,68 @@ module _ (code : Code) (begin : ℕ) (rec : Meaning) (sound : Sound code begin r
   spoken_same NoSubscripts ds st = refl
   spoken_same (MoreSubscripts first others) ds st = refl
 
-  -- places are put on these operands, and something is done with them. Nothing is done before where there are none
-  abbrev Laying : {A : Type 0} (fine : A → State → Option Step) (ds : List Dimension) (to : ℕ) (stack : List Operand) (line : List ℕ) (st : State) (go : List Index → State → Evaluated A) → Type 0
-  Laying fine ds to stack line st go = (vs : List Value) (after : State) → length vs ≡ length ds → (ds ≡ [] → after ≡ st) → Reaches (setting code begin h) n fine (From to (laid vs stack) line after) after.left (go (singles vs) after)
+  -- places are put on these operands, and something is done with them
+  abbrev Laying : {A : Type 0} (fine : A → State → Option Step) (ds : List Dimension) (to : ℕ) (stack : List Operand) (line : List ℕ) (go : List Index → State → Evaluated A) → Type 0
+  Laying fine ds to stack line go = (vs : List Value) (after : State) → length vs ≡ length ds → Reaches (setting code begin h) n fine (From to (laid vs stack) line after) after.left (go (singles vs) after)
 
   -- the places of a list are, wherever they stand
   abbrev Lays : {A : Type 0} (fine : A → State → Option Step) (ds : List Dimension) (list : Subscripts) (from to : ℕ) (stack : List Operand) (line : List ℕ) (st : State) → Type 0
   Lays {A} fine ds list from to stack line st =
-      (go : List Index → State → Evaluated A) → IndexesAt code (site_of h) ds list from to → Laying fine ds to stack line st go → Reaches (setting code begin h) n fine (From from stack line st) st.left (bind (indexes rec h ds list st) go)
+      (go : List Index → State → Evaluated A) → IndexesAt code (site_of h) ds list from to → Laying fine ds to stack line go → Reaches (setting code begin h) n fine (From from stack line st) st.left (bind (indexes rec h ds list st) go)
+
+  -- there are no places
+  none_laid : {A : Type 0} (fine : A → State → Option Step) (from to : ℕ) (stack : List Operand) (line : List ℕ) (st : State) (go : List Index → State → Evaluated A) → from ≡ to → Laying fine [] to stack line go
+      → Reaches (setting code begin h) n fine (From from stack line st) st.left (go [] st)
+  none_laid fine from to stack line st go same each = subst (λ begins. Reaches (setting code begin h) n fine (From begins stack line st) st.left (go [] st)) (sym same) (each [] st refl)
 
   -- subscripts without a mark
   array_reaches : {A : Type 0} (fine : A → State → Option Step) (sizes : List ℕ) (list : Subscripts) (from to : ℕ) (stack : List Operand) (line : List ℕ) (st : State) (go : List Index → State → Evaluated A)
-      → Lays fine (dimensions_of sizes) list from to stack line st → ArrayAt (λ begins ends. IndexesAt code (site_of h) (dimensions_of sizes) list begins ends) sizes from to → Laying fine (dimensions_of sizes) to stack line st go
-      → Reaches (setting code begin h) n fine (From from stack line st) st.left (bind (array_indexes rec h sizes list st) go)
-  array_reaches fine [] NoSubscripts from to stack line st go places same each = subst (λ begins. Reaches (setting code begin h) n fine (From begins stack line st) st.left (go [] st)) (sym same) (each [] st refl (λ none. refl))
-  array_reaches fine [] (MoreSubscripts first others) from to stack line st go places same each = subst (λ begins. Reaches (setting code begin h) n fine (From begins stack line st) st.left (go [] st)) (sym same) (each [] st refl (λ none. refl))
-  array_reaches fine (size ∷ sizes) list from to stack line st go places here each =
-      subst (λ r. Reaches (setting code begin h) n fine (From from stack line st) st.left (bind r go)) (sym (array_same (size ∷ sizes) list from to st here)) (places go here each)
+      → Lays fine (spoken list (dimensions_of sizes)) list from to stack line st → ArrayAt (λ begins ends. IndexesAt code (site_of h) (spoken list (dimensions_of sizes)) list begins ends) sizes from to
+      → Laying fine (spoken list (dimensions_of sizes)) to stack line go → Reaches (setting code begin h) n fine (From from stack line st) st.left (bind (array_indexes rec h sizes list st) go)
+  array_reaches fine [] NoSubscripts from to stack line st go places same each = none_laid fine from to stack line st go same each
+  array_reaches fine [] (MoreSubscripts first others) from to stack line st go places same each = none_laid fine from to stack line st go same each
+  array_reaches fine (size ∷ sizes) NoSubscripts from to stack line st go places same each = none_laid fine from to stack line st go same each
+  array_reaches fine (size ∷ sizes) (MoreSubscripts first others) from to stack line st go places here each =
+      subst (λ r. Reaches (setting code begin h) n fine (From from stack line st) st.left (bind r go)) (sym (array_same (size ∷ sizes) (MoreSubscripts first others) from to st here)) (places go here each)
 
   -- subscripts of an array, with a mark behind them or without one
   either_reaches : {A : Type 0} (fine : A → State → Option Step) (unmarked : Bool) (sizes : List ℕ) (components arrays : Subscripts) (from to : ℕ) (stack : List Operand) (line : List ℕ) (st : State) (go : List Index → State → Evaluated A)
-      → Lays fine (dimensions_of sizes) components from to stack line st → Lays fine (dimensions_of sizes) arrays from to stack line st
-      → EitherAt unmarked (λ begins ends. ArrayAt (λ first behind. IndexesAt code (site_of h) (dimensions_of sizes) components first behind) sizes begins ends) (λ begins ends. IndexesAt code (site_of h) (dimensions_of sizes) arrays begins ends) from to
-      → Laying fine (dimensions_of sizes) to stack line st go
+      → Lays fine (spoken components (dimensions_of sizes)) components from to stack line st → Lays fine (dimensions_of sizes) arrays from to stack line st
+      → EitherAt unmarked (λ begins ends. ArrayAt (λ first behind. IndexesAt code (site_of h) (spoken components (dimensions_of sizes)) components first behind) sizes begins ends)
+      (λ begins ends. IndexesAt code (site_of h) (dimensions_of sizes) arrays begins ends) from to
+      → Laying fine (array_spoken unmarked components (dimensions_of sizes)) to stack line go
       → Reaches (setting code begin h) n fine (From from stack line st) st.left (bind (if unmarked then array_indexes rec h sizes components st else indexes rec h (dimensions_of sizes) arrays st) go)
   either_reaches fine true sizes components arrays from to stack line st go first second here each = array_reaches fine sizes components from to stack line st go first here each
   either_reaches fine false sizes components arrays from to stack line st go first second here each = second go here each
 
   -- the address of an element behind the places of copies, which lie on the stack, and of its array
-  behind_copies : {A : Type 0} (fine : A → State → Option Step) (held : List Held) (unmarked : Bool) (ds : List Dimension) (sizes : List ℕ) (components arrays : Subscripts) (k : Kind) (spot : Spot) (vs : List Value) (from middle to : ℕ) (stack : List Operand) (line : List ℕ)
-      (st : State) (go : Located → State → Evaluated A) → Lays fine (dimensions_of sizes) components from middle (laid vs stack) line st → Lays fine (dimensions_of sizes) arrays from middle (laid vs stack) line st
-      → EitherAt unmarked (λ begins ends. ArrayAt (λ first behind. IndexesAt code (site_of h) (dimensions_of sizes) components first behind) sizes begins ends) (λ begins ends. IndexesAt code (site_of h) (dimensions_of sizes) arrays begins ends) from middle
-      → BehindAt code held (ds ++ dimensions_of sizes) k spot middle → suc middle ≡ to → length vs ≡ length ds → (ds ≡ [] → st.kept.places ≡ held) → Addressed fine k to stack line go
+  behind_copies : {A : Type 0} (fine : A → State → Option Step) (unmarked : Bool) (ds : List Dimension) (sizes : List ℕ) (components arrays : Subscripts) (given : Target) (k : Kind) (spot : List Held → Spot) (vs : List Value) (from middle to : ℕ) (stack : List Operand)
+      (line : List ℕ) (st : State) (go : Located → State → Evaluated A) → Lays fine (spoken components (dimensions_of sizes)) components from middle (laid vs stack) line st → Lays fine (dimensions_of sizes) arrays from middle (laid vs stack) line st
+      → EitherAt unmarked (λ begins ends. ArrayAt (λ first behind. IndexesAt code (site_of h) (spoken components (dimensions_of sizes)) components first behind) sizes begins ends)
+      (λ begins ends. IndexesAt code (site_of h) (dimensions_of sizes) arrays begins ends) from middle
+      → ElementAt code (ds ++ array_spoken unmarked components (dimensions_of sizes)) given spot middle → suc middle ≡ to → length vs ≡ length ds → Addressed fine given k to stack line go
       → Reaches (setting code begin h) n fine (From from (laid vs stack) line st) st.left
-      (bind (bind (if unmarked then array_indexes rec h sizes components st else indexes rec h (dimensions_of sizes) arrays st) (λ js later. located h spot k (ds ++ dimensions_of sizes) (singles vs ++ js) later)) go)
-  behind_copies fine held unmarked ds sizes components arrays k spot vs from middle to stack line st go first second here at same many still each =
+      (bind (bind (if unmarked then array_indexes rec h sizes components st else indexes rec h (dimensions_of sizes) arrays st) (λ js later. located h (spot later.kept.places) k (ds ++ dimensions_of sizes) (singles vs ++ js) later)) go)
+  behind_copies fine unmarked ds sizes components arrays given k spot vs from middle to stack line st go first second here at same many each =
       subst (λ r. Reaches (setting code begin h) n fine (From from (laid vs stack) line st) st.left r)
-      (sym (bind_bind (if unmarked then array_indexes rec h sizes components st else indexes rec h (dimensions_of sizes) arrays st) (λ js later. located h spot k (ds ++ dimensions_of sizes) (singles vs ++ js) later) go))
-      (either_reaches fine unmarked sizes components arrays from middle (laid vs stack) line st (λ js later. bind (located h spot k (ds ++ dimensions_of sizes) (singles vs ++ js) later) go) first second here
-      (λ ws later more untouched. subst (λ below. Reaches (setting code begin h) n fine (From middle below line later) later.left (bind (located h spot k (ds ++ dimensions_of sizes) (singles vs ++ singles ws) later) go)) (laid_both vs ws stack)
-      (subst (λ is. Reaches (setting code begin h) n fine (From middle (laid (vs ++ ws) stack) line later) later.left (bind (located h spot k (ds ++ dimensions_of sizes) is later) go)) (singles_both vs ws)
-      (element_address fine held (ds ++ dimensions_of sizes) k spot (vs ++ ws) middle to stack line later go at same (lengths_both vs ws ds (dimensions_of sizes) many more)
-      (λ none. ap (λ (s : State). s.kept.places) (untouched (none_behind ds (dimensions_of sizes) none)) ∙ still (none_first ds (dimensions_of sizes) none)) each))))
+      (sym (bind_bind (if unmarked then array_indexes rec h sizes components st else indexes rec h (dimensions_of sizes) arrays st) (λ js later. located h (spot later.kept.places) k (ds ++ dimensions_of sizes) (singles vs ++ js) later) go))
+      (either_reaches fine unmarked sizes components arrays from middle (laid vs stack) line st (λ js later. bind (located h (spot later.kept.places) k (ds ++ dimensions_of sizes) (singles vs ++ js) later) go) first second here
+      (λ ws later more. subst (λ below. Reaches (setting code begin h) n fine (From middle below line later) later.left (bind (located h (spot later.kept.places) k (ds ++ dimensions_of sizes) (singles vs ++ singles ws) later) go)) (laid_both vs ws stack)
+      (subst (λ is. Reaches (setting code begin h) n fine (From middle (laid (vs ++ ws) stack) line later) later.left (bind (located h (spot later.kept.places) k (ds ++ dimensions_of sizes) is later) go)) (singles_both vs ws)
+      (subst (λ l. Reaches (setting code begin h) n fine (From middle (laid (vs ++ ws) stack) line later) later.left (bind l go))
+      (sym (located_same h (spot later.kept.places) k unmarked components ds (dimensions_of sizes) (vs ++ ws) later (lengths_both vs ws ds (array_spoken unmarked components (dimensions_of sizes)) many more)))
+      (element_address fine (ds ++ array_spoken unmarked components (dimensions_of sizes)) given k spot (vs ++ ws) middle to stack line later go at same
+      (lengths_both vs ws ds (array_spoken unmarked components (dimensions_of sizes)) many more) each)))))
 
   -- what a name means, with a subscript: its data are addressed, they are read, and then comes their component
-  subscripted_reaches : (path : List Naming) (choose : Spot → Shape → State → Evaluated Located) (part : Bool → Value → State → Evaluated Value) (address : Spot → Shape → ℕ → ℕ → Type 0) (parted : Bool → ℕ → ℕ → Type 0) (m : Meant) (from to : ℕ)
+  subscripted_reaches : (path : List Naming) (choose : Shape → State → Evaluated Located) (part : Bool → Value → State → Evaluated Value) (address : Shape → ℕ → ℕ → Type 0) (parted : Bool → ℕ → ℕ → Type 0) (m : Meant) (from to : ℕ)
       (stack : List Operand) (line : List ℕ) (st : State)
-      → ((at : Spot) (shape : Shape) (middle : ℕ) (go : Located → State → Evaluated Value) → address at shape from middle
-      → Addressed (λ v after. Some (From to (Val v ∷ stack) line after)) (kind_of_first (chosen path shape.components)) middle stack line go → ValuesAt to stack line (From from stack line st) st.left (bind (choose at shape st) go))
+      → ((shape : Shape) (middle : ℕ) (go : Located → State → Evaluated Value) → address shape from middle
+      → Addressed (λ v after. Some (From to (Val v ∷ stack) line after)) (target.Cell (kind_of_first (chosen path shape.components))) (kind_of_first (chosen path shape.components)) middle stack line go → ValuesAt to stack line (From from stack line st) st.left (bind (choose shape st) go))
       → ((arrayed : Bool) (begins : ℕ) (v : Value) (after : State) → parted arrayed begins to → ValuesAt to stack line (From begins (Val v ∷ stack) line after) after.left (part arrayed v after))
       → SubscriptedAt code (site_of h) path st.kept.places address parted m from to → ValuesAt to stack line (From from stack line st) st.left (subscripted rec h path choose part m st)
   subscripted_reaches path choose part address parted (MeantData at shape) from to stack line st chooses parts here =
-      chooses at shape here.0 (λ l after. bind (read h l.kind l.at after) (λ v later. part (is_arrayed (sizes_named path shape)) v later)) here.1
+      chooses shape here.0 (λ l after. bind (read h l.kind l.at after) (λ v later. part (is_arrayed (sizes_named path shape)) v later)) here.1
       (λ place after. then_reaches (suc here.0) to stack stack line _ after.left (read h (kind_of_first (chosen path shape.components)) place after) (λ v later. part (is_arrayed (sizes_named path shape)) v later)
       (last instr.Fetch here.0 (suc here.0) (At place (kind_of_first (chosen path shape.components)) ∷ stack) stack line after (read h (kind_of_first (chosen path shape.components)) place after) (here.2, refl)
       (read_reaches code begin h n standing here.0 (At place (kind_of_first (chosen path shape.components)) ∷ stack) stack line (kind_of_first (chosen path shape.components)) place after))
@@ -367,6 +387,17 @@ module _ (code : Code) (begin : ℕ) (rec : Meaning) (sound : Sound code begin r
   subscripted_reaches path choose part address parted (MeantBuiltin b) from to stack line st chooses parts here =
       then_reaches here.0 to stack stack line _ st.left _ _ (value_reaches path (MeantBuiltin b) from here.0 stack line st here.1) (λ v after. parts false here.0 v after here.2)
   subscripted_reaches path choose part address parted MeantNothing from to stack line st chooses parts here = absurd here.1
+
+  -- data that a name with a subscript means go by the site alone
+  marked_same : (name : List ℕ) (path : List Naming) (subscript : Subscript) (held : List Held) (from to : ℕ)
+      → SubscriptedAt code (site_of h) path held (λ shape begins ends. ChosenAt code (site_of h) (target.Cell (kind_of_first (chosen path shape.components))) path subscript (spot_named (here_at (site_of h)) name) shape begins ends) (λ arrayed begins ends. ComponentAt code (site_of h) arrayed subscript begins ends)
+      (name_meant (here_at (site_of h)) name held) from to
+      → SubscriptedAt code (site_of h) path held (λ shape begins ends. ChosenAt code (site_of h) (target.Cell (kind_of_first (chosen path shape.components))) path subscript (spot_named h name) shape begins ends) (λ arrayed begins ends. ComponentAt code (site_of h) arrayed subscript begins ends) (name_meant h name held) from to
+  marked_same name path subscript held from to here =
+      subst (λ spot. SubscriptedAt code (site_of h) path held (λ shape begins ends. ChosenAt code (site_of h) (target.Cell (kind_of_first (chosen path shape.components))) path subscript spot shape begins ends) (λ arrayed begins ends. ComponentAt code (site_of h) arrayed subscript begins ends) (name_meant h name held) from to)
+      (spot_same h name)
+      (subst (λ m. SubscriptedAt code (site_of h) path held (λ shape begins ends. ChosenAt code (site_of h) (target.Cell (kind_of_first (chosen path shape.components))) path subscript (spot_named (here_at (site_of h)) name) shape begins ends)
+      (λ arrayed begins ends. ComponentAt code (site_of h) arrayed subscript begins ends) m from to) (name_same h name held) here)
 
   -- PICK of the part that places on the stack choose
   pick_reaches : (taken : Places) (chosen : List Operand) (p : Part) (at to : ℕ) (v : Value) (stack : List Operand) (line : List ℕ) (st : State) → part_taken taken chosen ≡ Some (p, Val v ∷ stack) → One code at (picks taken) to
@@ -405,18 +436,27 @@ module _ (code : Code) (begin : ℕ) (rec : Meaning) (sound : Sound code begin r
   size_or true size made r from to stack line st here other = constant_reaches size from to stack line st here
   size_or false size made r from to stack line st here other = other here
 
+  -- arguments for parameters are put on these operands, and something is done with them
+  abbrev pub Passing : {A : Type 0} (fine : A → State → Option Step) (unit : ℕ) (names : List Naming) (to : ℕ) (stack : List Operand) (line : List ℕ) (go : List Passed → State → Evaluated A) → Type 0
+  Passing fine unit names to stack line go =
+      (ps : List Passed) (over : List Operand) (after : State) → AreArguments code begin rec sound h n standing unit names ps stack over → Reaches (setting code begin h) n fine (From to over line after) after.left (go ps after)
+
+  -- the address of whole data is put on these operands, of cells of these kinds
+  abbrev pub Wholly : {A : Type 0} (fine : A → State → Option Step) (kinds : List Kind) (to : ℕ) (stack : List Operand) (line : List ℕ) (go : Located → State → Evaluated A) → Type 0
+  Wholly fine kinds to stack line go =
+      (l : Located) (shape : ℕ) (after : State) → machine.kinds_of code.image shape ≡ kinds → Reaches (setting code begin h) n fine (From to (Area l.at shape ∷ stack) line after) after.left (go l after)
+
   -- a name with a list, whose operands are known
   called_reaches : (size : Value) (inputs : ℕ → State → Evaluated (List Passed)) (items : State → Evaluated (List Value)) (multiplied : Value → State → Evaluated Value) (folded : ℕ → ℕ → Type 0) (made : Operation → ℕ → ℕ → Type 0)
       (args : ℕ → ℕ → ℕ → Type 0) (m : Meant) (from to : ℕ) (stack : List Operand) (line : List ℕ) (st : State)
       → ((middle : ℕ) (v : Value) (after : State) → folded middle to → ValuesAt to stack line (From middle (Val v ∷ stack) line after) after.left (multiplied v after))
       → ((op : Operation) → made op from to → ValuesAt to stack line (From from stack line st) st.left (bind (items st) (λ vs after. built h op vs after)))
-      → ((unit middle : ℕ) → args unit from middle
-      → Reaches (setting code begin h) n (λ ps after. args_step code begin rec sound h n standing (inputs_at h.set unit) ps stack middle line after) (From from stack line st) st.left (inputs unit st))
+      → ((unit middle : ℕ) (go : List Passed → State → Evaluated Value) → args unit from middle → Passing (λ v after. Some (From to (Val v ∷ stack) line after)) unit (inputs_at h.set unit) middle stack line go
+      → ValuesAt to stack line (From from stack line st) st.left (bind (inputs unit st) go))
       → CalledAt code (site_of h) st.kept.places size folded made args m from to → ValuesAt to stack line (From from stack line st) st.left (call_form rec h size inputs items multiplied m st)
   called_reaches size inputs items multiplied folded made args (MeantBlock unit) from to stack line st products functions passes here =
-      bind_on (setting code begin h) n (λ ps after. args_step code begin rec sound h n standing (inputs_at h.set unit) ps stack here.0 line after) _ _ st.left (inputs unit st) (λ ps after. call rec h unit ps [] after) (passes unit here.0 here.1)
-      (λ ps after. subst (λ names. OnStep (args_step code begin rec sound h n standing names ps stack here.0 line after) (λ x. ValuesAt to stack line x after.left (call rec h unit ps [] after)))
-      (sym (inputs_same code begin rec sound h n standing unit true here.0 to here.2)) (call_reaches code begin rec sound h n standing unit true ps here.0 to stack line after here.2))
+      passes unit here.0 (λ ps after. call rec h unit ps [] after) here.1
+      (λ ps over after are. function_reaches code begin rec sound h n standing unit ps here.0 to stack over line after here.2 are)
   called_reaches size inputs items multiplied folded made args (MeantBuiltin b) from to stack line st products functions passes here =
       size_or (is_size b) size (λ begins ends. made (operation_of b) begins ends) _ from to stack line st here (λ at. functions (operation_of b) at)
   called_reaches size inputs items multiplied folded made args (MeantData at shape) from to stack line st products functions passes here =
@@ -426,13 +466,40 @@ module _ (code : Code) (begin : ℕ) (rec : Meaning) (sound : Sound code begin r
   called_reaches size inputs items multiplied folded made args (MeantEvent e) from to stack line st products functions passes here = absurd here
   called_reaches size inputs items multiplied folded made args MeantNothing from to stack line st products functions passes here = absurd here
 
-  -- an argument more
-  argument_step : (name : Naming) (names : List Naming) (v : Value) (stack : List Operand) (at : ℕ) (line : List ℕ) (ps : List Passed) (after : State) (o : Option Step)
-      → args_step code begin rec sound h n standing names ps (Val v ∷ stack) at line after ≡ o
-      → OnStep o (λ x. Reaches (setting code begin h) n (λ all later. args_step code begin rec sound h n standing (name ∷ names) all stack at line later) x after.left (Gives (Plain v ∷ ps) after))
-  argument_step name names v stack at line ps after None e = tt
-  argument_step name names v stack at line ps after (Some x) e =
-      record { holds = subst (λ one. Arrives (setting code begin h) x after.left one after.left) (sym e) (stays (setting code begin h) x after.left) }
+  -- an argument: the address of its cells, or its value
+  argument_reaches : {A : Type 0} (fine : A → State → Option Step) (parameter : Parameter) (whole : Bool) (choose : State → Evaluated Located) (evaluate : State → Evaluated Value) (cells one : ℕ → ℕ → Type 0) (from to : ℕ) (stack : List Operand) (line : List ℕ) (st : State)
+      (go : Passed → State → Evaluated A) → is_whole parameter.shape ≡ whole
+      → ((next : Located → State → Evaluated A) → cells from to → Wholly fine (kinds_of parameter.shape) to stack line next → Reaches (setting code begin h) n fine (From from stack line st) st.left (bind (choose st) next))
+      → (one from to → ValuesAt to stack line (From from stack line st) st.left (evaluate st)) → EitherAt whole cells one from to
+      → ((p : Passed) (o : Operand) (after : State) → IsArgument code begin rec sound h n standing parameter p o → Reaches (setting code begin h) n fine (From to (o ∷ stack) line after) after.left (go p after))
+      → Reaches (setting code begin h) n fine (From from stack line st) st.left (bind (argument whole choose evaluate st) go)
+  argument_reaches fine parameter true choose evaluate cells one from to stack line st go is chooses evaluates here each =
+      subst (λ r. Reaches (setting code begin h) n fine (From from stack line st) st.left r) (sym (bind_bind (choose st) (λ l after. Gives (Whole l.at) after) go))
+      (chooses (λ l after. go (Whole l.at) after) here (λ l shape after kinds. each (Whole l.at) (Area l.at shape) after (is, shape, kinds, refl)))
+  argument_reaches fine parameter false choose evaluate cells one from to stack line st go is chooses evaluates here each =
+      subst (λ r. Reaches (setting code begin h) n fine (From from stack line st) st.left r) (sym (bind_bind (evaluate st) (λ v after. Gives (Plain v) after) go))
+      (bind_reaches (setting code begin h) n (λ v after. From to (Val v ∷ stack) line after) fine _ st.left (evaluate st) (λ v after. go (Plain v) after) (evaluates here) (λ v after. each (Plain v) (Val v) after (is, refl)))
+
+  -- data that a name means, of cells of this shape
+  cells_reaches : {A : Type 0} (fine : A → State → Option Step) (choose : Shape → State → Evaluated Located) (kinds : List Kind) (shape : ℕ) (path : List Naming) (address : Shape → ℕ → ℕ → Type 0) (m : Meant) (from to : ℕ) (stack : List Operand) (line : List ℕ)
+      (st : State) (go : Located → State → Evaluated A) → machine.kinds_of code.image shape ≡ kinds
+      → ((form : Shape) → address form from to → Addressed fine (target.Shape shape) (kind_of_first (chosen path form.components)) to stack line go → Reaches (setting code begin h) n fine (From from stack line st) st.left (bind (choose form st) go))
+      → DataAt address m from to → Wholly fine kinds to stack line go → Reaches (setting code begin h) n fine (From from stack line st) st.left (bind (meant_chosen choose m st) go)
+  cells_reaches fine choose kinds shape path address (MeantData at form) from to stack line st go same chooses here each =
+      chooses form here (λ place after. each (record { at = place; kind = kind_of_first (chosen path form.components) }) shape after same)
+  cells_reaches fine choose kinds shape path address (MeantConstant v) from to stack line st go same chooses here each = absurd here
+  cells_reaches fine choose kinds shape path address (MeantEvent e) from to stack line st go same chooses here each = absurd here
+  cells_reaches fine choose kinds shape path address (MeantBlock unit) from to stack line st go same chooses here each = absurd here
+  cells_reaches fine choose kinds shape path address (MeantBuiltin b) from to stack line st go same chooses here each = absurd here
+  cells_reaches fine choose kinds shape path address MeantNothing from to stack line st go same chooses here each = absurd here
+
+  -- they go by the site alone
+  cells_same : (name : List ℕ) (path : List Naming) (subscript : Subscript) (shape : ℕ) (held : List Held) (from to : ℕ)
+      → DataAt (λ form begins ends. ChosenAt code (site_of h) (target.Shape shape) path subscript (spot_named (here_at (site_of h)) name) form begins ends) (name_meant (here_at (site_of h)) name held) from to
+      → DataAt (λ form begins ends. ChosenAt code (site_of h) (target.Shape shape) path subscript (spot_named h name) form begins ends) (name_meant h name held) from to
+  cells_same name path subscript shape held from to here =
+      subst (λ spot. DataAt (λ form begins ends. ChosenAt code (site_of h) (target.Shape shape) path subscript spot form begins ends) (name_meant h name held) from to) (spot_same h name)
+      (subst (λ m. DataAt (λ form begins ends. ChosenAt code (site_of h) (target.Shape shape) path subscript (spot_named (here_at (site_of h)) name) form begins ends) m from to) (name_same h name held) here)
 
   mutual
     pub expression_reaches : (e : Expression) (from to : ℕ) (stack : List Operand) (line : List ℕ) (st : State) → ExpressionAt code (site_of h) e from to
@@ -469,7 +536,7 @@ module _ (code : Code) (begin : ℕ) (rec : Meaning) (sound : Sound code begin r
         (λ middle end. FoldedAt code (site_of h) op2.Product arguments middle end) (λ op begins end. BuiltAt code (site_of h) op arguments begins end)
         (λ unit begins end. ArgumentsAt code (site_of h) unit (inputs_at h.set unit) arguments begins end) (name_meant h name st.kept.places) from to stack line st
         (λ middle v after at. folded_reaches op2.Product arguments middle to v stack line after at) (λ op at. built_reaches op arguments from to stack line st at)
-        (λ unit middle at. passed_reaches unit (inputs_at h.set unit) arguments from middle stack line st at)
+        (λ unit middle go at each. passed_reaches OfValue _ unit (inputs_at h.set unit) arguments from middle stack line st go at each)
         (subst (λ m. CalledAt code (site_of h) st.kept.places (size_argument h arguments st.kept.places) (λ middle end. FoldedAt code (site_of h) op2.Product arguments middle end)
         (λ op begins end. BuiltAt code (site_of h) op arguments begins end) (λ unit begins end. ArgumentsAt code (site_of h) unit (inputs_at h.set unit) arguments begins end) m from to) (name_same h name st.kept.places)
         (subst (λ size. CalledAt code (site_of h) st.kept.places size (λ middle end. FoldedAt code (site_of h) op2.Product arguments middle end) (λ op begins end. BuiltAt code (site_of h) op arguments begins end)
@@ -531,81 +598,104 @@ module _ (code : Code) (begin : ℕ) (rec : Meaning) (sound : Sound code begin r
     built_reaches operation.Nothing arguments from to stack line st here = absurd here
 
     -- arguments of a call
-    pub passed_reaches : (unit : ℕ) (names : List Naming) (arguments : Expressions) (from to : ℕ) (stack : List Operand) (line : List ℕ) (st : State) → ArgumentsAt code (site_of h) unit names arguments from to
-        → Reaches (setting code begin h) n (λ ps after. args_step code begin rec sound h n standing names ps stack to line after) (From from stack line st) st.left (passed rec h unit names arguments st)
-    passed_reaches unit [] NoExpressions from to stack line st same =
-        subst (λ end. Reaches (setting code begin h) n (λ ps after. args_step code begin rec sound h n standing [] ps stack end line after) (From from stack line st) st.left (Gives [] st)) same
-        (record { holds = stays (setting code begin h) _ st.left })
-    passed_reaches unit (name ∷ names) (MoreExpressions first others) from to stack line st here =
-        subst (λ whole. Reaches (setting code begin h) n (λ ps after. args_step code begin rec sound h n standing (name ∷ names) ps stack to line after) (From from stack line st) st.left
-        (bind (argument whole (λ before. chosen_by rec h first before) (λ before. expression rec h first before) st) (λ p after. bind (passed rec h unit names others after) (λ ps later. Gives (p ∷ ps) later)))) (sym here.1)
-        (subst (λ r. Reaches (setting code begin h) n (λ ps after. args_step code begin rec sound h n standing (name ∷ names) ps stack to line after) (From from stack line st) st.left r)
-        (sym (bind_bind (expression rec h first st) (λ v after. Gives (Plain v) after) (λ p after. bind (passed rec h unit names others after) (λ ps later. Gives (p ∷ ps) later))))
-        (bind_reaches (setting code begin h) n (λ v after. From here.0 (Val v ∷ stack) line after) _ _ st.left (expression rec h first st) (λ v after. bind (passed rec h unit names others after) (λ ps later. Gives (Plain v ∷ ps) later))
-        (expression_reaches first from here.0 stack line st here.2)
-        (λ v after. bind_on (setting code begin h) n (λ ps later. args_step code begin rec sound h n standing names ps (Val v ∷ stack) to line later) _ _ after.left (passed rec h unit names others after) (λ ps later. Gives (Plain v ∷ ps) later)
-        (passed_reaches unit names others here.0 to (Val v ∷ stack) line after here.3)
-        (λ ps later. argument_step name names v stack to line ps later (args_step code begin rec sound h n standing names ps (Val v ∷ stack) to line later) refl))))
-    passed_reaches unit [] (MoreExpressions first others) from to stack line st here = absurd here
-    passed_reaches unit (name ∷ names) NoExpressions from to stack line st here = absurd here
+    pub passed_reaches : (w : Outcome) (fine : Of w → State → Option Step) (unit : ℕ) (names : List Naming) (arguments : Expressions) (from to : ℕ) (stack : List Operand) (line : List ℕ) (st : State) (go : List Passed → State → Evaluated (Of w))
+        → ArgumentsAt code (site_of h) unit names arguments from to → Passing fine unit names to stack line go
+        → Reaches (setting code begin h) n fine (From from stack line st) st.left (bind (passed rec h unit names arguments st) go)
+    passed_reaches w fine unit [] NoExpressions from to stack line st go same each =
+        subst (λ begins. Reaches (setting code begin h) n fine (From begins stack line st) st.left (go [] st)) (sym same) (each [] stack st refl)
+    passed_reaches w fine unit (name ∷ names) (MoreExpressions first others) from to stack line st go here each =
+        subst (λ r. Reaches (setting code begin h) n fine (From from stack line st) st.left r)
+        (sym (bind_bind (argument (is_whole (parameter_named h.set unit name).shape) (λ before. chosen_by rec h first before) (λ before. expression rec h first before) st)
+        (λ p after. bind (passed rec h unit names others after) (λ ps later. Gives (p ∷ ps) later)) go))
+        (argument_reaches fine (parameter_named h.set unit name) (is_whole (parameter_named h.set unit name).shape) (λ before. chosen_by rec h first before) (λ before. expression rec h first before)
+        (λ begins ends. WholeArgumentAt code (site_of h) (kinds_of (parameter_named h.set unit name).shape) first begins ends) (λ begins ends. ExpressionAt code (site_of h) first begins ends) from here.0 stack line st
+        (λ p after. bind (bind (passed rec h unit names others after) (λ ps later. Gives (p ∷ ps) later)) go) refl
+        (λ next at laid_there. whole_argument_reaches w fine (kinds_of (parameter_named h.set unit name).shape) first from here.0 stack line st next at laid_there) (λ at. expression_reaches first from here.0 stack line st at) here.1
+        (λ p o after is. subst (λ r. Reaches (setting code begin h) n fine (From here.0 (o ∷ stack) line after) after.left r) (sym (bind_bind (passed rec h unit names others after) (λ ps later. Gives (p ∷ ps) later) go))
+        (passed_reaches w fine unit names others here.0 to (o ∷ stack) line after (λ ps later. go (p ∷ ps) later) here.2 (λ ps over later are. each (p ∷ ps) over later (o, is, are)))))
+    passed_reaches w fine unit [] (MoreExpressions first others) from to stack line st go here each = absurd here
+    passed_reaches w fine unit (name ∷ names) NoExpressions from to stack line st go here each = absurd here
+
+    -- an argument for an array or a structure
+    whole_argument_reaches : (w : Outcome) (fine : Of w → State → Option Step) (kinds : List Kind) (tree : Expression) (from to : ℕ) (stack : List Operand) (line : List ℕ) (st : State) (go : Located → State → Evaluated (Of w))
+        → WholeArgumentAt code (site_of h) kinds tree from to → Wholly fine kinds to stack line go → Reaches (setting code begin h) n fine (From from stack line st) st.left (bind (chosen_by rec h tree st) go)
+    whole_argument_reaches w fine kinds (Referred reference) from to stack line st go here each = cells_of_reaches w fine kinds reference from to stack line st go here each
+    whole_argument_reaches w fine kinds (Or place first others) from to stack line st go here each = absurd here
+    whole_argument_reaches w fine kinds (And place first others) from to stack line st go here each = absurd here
+    whole_argument_reaches w fine kinds (Compare place left relation right) from to stack line st go here each = absurd here
+    whole_argument_reaches w fine kinds (Cat place first others) from to stack line st go here each = absurd here
+    whole_argument_reaches w fine kinds (Sum place opening first others) from to stack line st go here each = absurd here
+    whole_argument_reaches w fine kinds (Product place first others) from to stack line st go here each = absurd here
+    whole_argument_reaches w fine kinds (Power place base exponent) from to stack line st go here each = absurd here
+    whole_argument_reaches w fine kinds (Not place operand) from to stack line st go here each = absurd here
+    whole_argument_reaches w fine kinds (Literal place literal) from to stack line st go here each = absurd here
+    whole_argument_reaches w fine kinds (Decimal place number) from to stack line st go here each = absurd here
+    whole_argument_reaches w fine kinds (Called place name arguments) from to stack line st go here each = absurd here
+    whole_argument_reaches w fine kinds (Convert place conversion operand) from to stack line st go here each = absurd here
+    whole_argument_reaches w fine kinds (Parenthesis place inner) from to stack line st go here each = absurd here
+
+    -- the address of the data that a reference chooses, of cells of these kinds
+    pub cells_of_reaches : (w : Outcome) (fine : Of w → State → Option Step) (kinds : List Kind) (reference : Reference) (from to : ℕ) (stack : List Operand) (line : List ℕ) (st : State) (go : Located → State → Evaluated (Of w))
+        → WholeAt code (site_of h) kinds reference from to → Wholly fine kinds to stack line go → Reaches (setting code begin h) n fine (From from stack line st) st.left (bind (chosen_data rec h reference st) go)
+    cells_of_reaches w fine kinds (Refers place name path subscript) from to stack line st go here each =
+        cells_reaches fine (λ form before. data_chosen rec h path subscript (spot_named h name) form before) kinds here.0 path
+        (λ form begins ends. ChosenAt code (site_of h) (target.Shape here.0) path subscript (spot_named h name) form begins ends) (name_meant h name st.kept.places) from to stack line st go here.1
+        (λ form at addressed. chosen_reaches w fine (target.Shape here.0) path subscript (spot_named h name) form from to stack line st go at addressed) (cells_same name path subscript here.0 st.kept.places from to (here.2 st.kept.places)) each
 
     -- a reference
     referred_reaches : (reference : Reference) (from to : ℕ) (stack : List Operand) (line : List ℕ) (st : State) → ReferenceAt code (site_of h) reference from to
         → ValuesAt to stack line (From from stack line st) st.left (referred rec h reference st)
     referred_reaches (Refers place name path Unsubscripted) from to stack line st here =
-        meant_reaches path (name_meant h name st.kept.places) from to stack line st
+        meant_reaches (spot_named h name) path (name_meant h name st.kept.places) from to stack line st refl
         (subst (λ m. ValueAt code (site_of h) path st.kept.places m from to) (name_same h name st.kept.places) (here st.kept.places))
     referred_reaches (Refers place name path (ByName at one)) from to stack line st here =
-        subscripted_reaches path (λ spot shape before. data_chosen rec h path (ByName at one) spot shape before) (λ arrayed v after. component rec h arrayed (ByName at one) v after)
-        (λ spot shape begins ends. ChosenAt code (site_of h) st.kept.places path (ByName at one) spot shape begins ends) (λ arrayed begins ends. ComponentAt code (site_of h) arrayed (ByName at one) begins ends) (name_meant h name st.kept.places) from to stack line st
-        (λ spot shape middle go here each. chosen_reaches OfValue _ path (ByName at one) spot shape from middle stack line st go here each) (λ arrayed begins v after here. component_reaches arrayed (ByName at one) begins to v stack line after here)
-        (subst (λ m. SubscriptedAt code (site_of h) path st.kept.places (λ spot shape begins ends. ChosenAt code (site_of h) st.kept.places path (ByName at one) spot shape begins ends) (λ arrayed begins ends. ComponentAt code (site_of h) arrayed (ByName at one) begins ends) m from to)
-        (name_same h name st.kept.places) (here st.kept.places))
+        subscripted_reaches path (λ shape before. data_chosen rec h path (ByName at one) (spot_named h name) shape before) (λ arrayed v after. component rec h arrayed (ByName at one) v after)
+        (λ shape begins ends. ChosenAt code (site_of h) (target.Cell (kind_of_first (chosen path shape.components))) path (ByName at one) (spot_named h name) shape begins ends) (λ arrayed begins ends. ComponentAt code (site_of h) arrayed (ByName at one) begins ends) (name_meant h name st.kept.places) from to stack line st
+        (λ shape middle go addressed each. chosen_reaches OfValue _ (target.Cell (kind_of_first (chosen path shape.components))) path (ByName at one) (spot_named h name) shape from middle stack line st go addressed each) (λ arrayed begins v after parted. component_reaches arrayed (ByName at one) begins to v stack line after parted)
+        (marked_same name path (ByName at one) st.kept.places from to (here st.kept.places))
     referred_reaches (Refers place name path (ByInteger at mark number)) from to stack line st here =
-        subscripted_reaches path (λ spot shape before. data_chosen rec h path (ByInteger at mark number) spot shape before) (λ arrayed v after. component rec h arrayed (ByInteger at mark number) v after)
-        (λ spot shape begins ends. ChosenAt code (site_of h) st.kept.places path (ByInteger at mark number) spot shape begins ends) (λ arrayed begins ends. ComponentAt code (site_of h) arrayed (ByInteger at mark number) begins ends) (name_meant h name st.kept.places) from to stack line st
-        (λ spot shape middle go here each. chosen_reaches OfValue _ path (ByInteger at mark number) spot shape from middle stack line st go here each) (λ arrayed begins v after here. component_reaches arrayed (ByInteger at mark number) begins to v stack line after here)
-        (subst (λ m. SubscriptedAt code (site_of h) path st.kept.places (λ spot shape begins ends. ChosenAt code (site_of h) st.kept.places path (ByInteger at mark number) spot shape begins ends) (λ arrayed begins ends. ComponentAt code (site_of h) arrayed (ByInteger at mark number) begins ends) m from to)
-        (name_same h name st.kept.places) (here st.kept.places))
+        subscripted_reaches path (λ shape before. data_chosen rec h path (ByInteger at mark number) (spot_named h name) shape before) (λ arrayed v after. component rec h arrayed (ByInteger at mark number) v after)
+        (λ shape begins ends. ChosenAt code (site_of h) (target.Cell (kind_of_first (chosen path shape.components))) path (ByInteger at mark number) (spot_named h name) shape begins ends) (λ arrayed begins ends. ComponentAt code (site_of h) arrayed (ByInteger at mark number) begins ends) (name_meant h name st.kept.places) from to stack line st
+        (λ shape middle go addressed each. chosen_reaches OfValue _ (target.Cell (kind_of_first (chosen path shape.components))) path (ByInteger at mark number) (spot_named h name) shape from middle stack line st go addressed each) (λ arrayed begins v after parted. component_reaches arrayed (ByInteger at mark number) begins to v stack line after parted)
+        (marked_same name path (ByInteger at mark number) st.kept.places from to (here st.kept.places))
     referred_reaches (Refers place name path (ByParts at copies arrays components)) from to stack line st here =
-        subscripted_reaches path (λ spot shape before. data_chosen rec h path (ByParts at copies arrays components) spot shape before) (λ arrayed v after. component rec h arrayed (ByParts at copies arrays components) v after)
-        (λ spot shape begins ends. ChosenAt code (site_of h) st.kept.places path (ByParts at copies arrays components) spot shape begins ends) (λ arrayed begins ends. ComponentAt code (site_of h) arrayed (ByParts at copies arrays components) begins ends) (name_meant h name st.kept.places) from to stack line st
-        (λ spot shape middle go here each. chosen_reaches OfValue _ path (ByParts at copies arrays components) spot shape from middle stack line st go here each) (λ arrayed begins v after here. component_reaches arrayed (ByParts at copies arrays components) begins to v stack line after here)
-        (subst (λ m. SubscriptedAt code (site_of h) path st.kept.places (λ spot shape begins ends. ChosenAt code (site_of h) st.kept.places path (ByParts at copies arrays components) spot shape begins ends) (λ arrayed begins ends. ComponentAt code (site_of h) arrayed (ByParts at copies arrays components) begins ends) m from to)
-        (name_same h name st.kept.places) (here st.kept.places))
+        subscripted_reaches path (λ shape before. data_chosen rec h path (ByParts at copies arrays components) (spot_named h name) shape before) (λ arrayed v after. component rec h arrayed (ByParts at copies arrays components) v after)
+        (λ shape begins ends. ChosenAt code (site_of h) (target.Cell (kind_of_first (chosen path shape.components))) path (ByParts at copies arrays components) (spot_named h name) shape begins ends) (λ arrayed begins ends. ComponentAt code (site_of h) arrayed (ByParts at copies arrays components) begins ends) (name_meant h name st.kept.places) from to stack line st
+        (λ shape middle go addressed each. chosen_reaches OfValue _ (target.Cell (kind_of_first (chosen path shape.components))) path (ByParts at copies arrays components) (spot_named h name) shape from middle stack line st go addressed each) (λ arrayed begins v after parted. component_reaches arrayed (ByParts at copies arrays components) begins to v stack line after parted)
+        (marked_same name path (ByParts at copies arrays components) st.kept.places from to (here st.kept.places))
 
-    -- the address of the element that copy and array subscripts choose
-    pub chosen_reaches : (w : Outcome) (fine : Of w → State → Option Step) (path : List Naming) (subscript : Subscript) (spot : Spot) (shape : Shape) (from to : ℕ) (stack : List Operand) (line : List ℕ) (st : State) (go : Located → State → Evaluated (Of w))
-        → ChosenAt code (site_of h) st.kept.places path subscript spot shape from to → Addressed fine (kind_of_first (chosen path shape.components)) to stack line go
+    -- the address of the data that copy and array subscripts choose
+    pub chosen_reaches : (w : Outcome) (fine : Of w → State → Option Step) (given : Target) (path : List Naming) (subscript : Subscript) (spot : List Held → Spot) (shape : Shape) (from to : ℕ) (stack : List Operand) (line : List ℕ) (st : State)
+        (go : Located → State → Evaluated (Of w)) → ChosenAt code (site_of h) given path subscript spot shape from to → Addressed fine given (kind_of_first (chosen path shape.components)) to stack line go
         → Reaches (setting code begin h) n fine (From from stack line st) st.left (bind (data_chosen rec h path subscript spot shape st) go)
-    chosen_reaches w fine path Unsubscripted spot shape from to stack line st go here each =
-        plain_address fine (kind_of_first (chosen path shape.components)) (further (offset path shape.components) spot) from to stack line st go here.0 here.1 each
-    chosen_reaches w fine path (ByName place name) spot shape from to stack line st go here each =
-        place_reaches fine (λ begins ends. NameAt code (site_of h) name.name [] begins ends) (named_value rec h name st) (kind_of_first (chosen path shape.components)) (further (offset path shape.components) spot) (sizes_named path shape) from to stack line st go
-        (λ middle at. named_reaches name.name [] from middle stack line st at) here each
-    chosen_reaches w fine path (ByInteger place mark number) spot shape from to stack line st go here each =
-        place_reaches fine (λ begins ends. One code begins (instr.Int (pos number)) ends) (Gives (value.Int (pos number)) st) (kind_of_first (chosen path shape.components)) (further (offset path shape.components) spot) (sizes_named path shape) from to stack line
-        st go (λ middle at. constant_reaches (value.Int (pos number)) from middle stack line st at) here each
-    chosen_reaches w fine path (ByParts place copies arrays components) spot shape from to stack line st go here each =
+    chosen_reaches w fine given path Unsubscripted spot shape from to stack line st go here each =
+        plain_address fine given (kind_of_first (chosen path shape.components)) (λ held. further (offset path shape.components) (spot held)) from to stack line st go here.0 here.1 each
+    chosen_reaches w fine given path (ByName place name) spot shape from to stack line st go here each =
+        place_reaches fine (λ begins ends. NameAt code (site_of h) name.name [] begins ends) (named_value rec h name st) given (kind_of_first (chosen path shape.components)) (λ held. further (offset path shape.components) (spot held)) (sizes_named path shape) from to
+        stack line st go (λ middle at. named_reaches name.name [] from middle stack line st at) here each
+    chosen_reaches w fine given path (ByInteger place mark number) spot shape from to stack line st go here each =
+        place_reaches fine (λ begins ends. One code begins (instr.Int (pos number)) ends) (Gives (value.Int (pos number)) st) given (kind_of_first (chosen path shape.components)) (λ held. further (offset path shape.components) (spot held)) (sizes_named path shape)
+        from to stack line st go (λ middle at. constant_reaches (value.Int (pos number)) from middle stack line st at) here each
+    chosen_reaches w fine given path (ByParts place copies arrays components) spot shape from to stack line st go here each =
         subst (λ r. Reaches (setting code begin h) n fine (From from stack line st) st.left r)
         (ap (λ r. bind r (λ is after. bind (elements is after) go)) (sym (spoken_same copies (copies_of shape) st)) ∙ sym (bind_bind (indexes rec h (copies_of shape) copies st) elements go))
         (indexes_reaches w fine (spoken copies (copies_of shape)) copies from here.0 stack line st (λ is after. bind (elements is after) go) here.2
-        (λ vs after many untouched. behind_copies fine st.kept.places (is_none arrays) (spoken copies (copies_of shape)) (sizes_named path shape) components arrays (kind_of_first (chosen path shape.components)) (further (offset path shape.components) spot) vs here.0 here.1 to stack line
-        after go (λ next at later. indexes_reaches w fine (dimensions_of (sizes_named path shape)) components here.0 here.1 (laid vs stack) line after next at later)
-        (λ next at later. indexes_reaches w fine (dimensions_of (sizes_named path shape)) arrays here.0 here.1 (laid vs stack) line after next at later) here.3 here.4 here.5 many
-        (λ none. ap (λ (s : State). s.kept.places) (untouched none)) each))
+        (λ vs after many. behind_copies fine (is_none arrays) (spoken copies (copies_of shape)) (sizes_named path shape) components arrays given (kind_of_first (chosen path shape.components)) (λ held. further (offset path shape.components) (spot held)) vs here.0 here.1 to
+        stack line after go (λ next at later. indexes_reaches w fine (spoken components (dimensions_of (sizes_named path shape))) components here.0 here.1 (laid vs stack) line after next at later)
+        (λ next at later. indexes_reaches w fine (dimensions_of (sizes_named path shape)) arrays here.0 here.1 (laid vs stack) line after
+        next at later) here.3 here.4 here.5 many each))
       where
         elements : List Index → State → Evaluated Located
         elements is after =
             bind (if is_none arrays then array_indexes rec h (sizes_named path shape) components after else indexes rec h (dimensions_of (sizes_named path shape)) arrays after)
-            (λ js later. located h (further (offset path shape.components) spot) (kind_of_first (chosen path shape.components)) (spoken copies (copies_of shape) ++ dimensions_of (sizes_named path shape)) (is ++ js) later)
+            (λ js later. located h (further (offset path shape.components) (spot later.kept.places)) (kind_of_first (chosen path shape.components)) (spoken copies (copies_of shape) ++ dimensions_of (sizes_named path shape)) (is ++ js) later)
 
     -- places for dimensions, one for each
     indexes_reaches : (w : Outcome) (fine : Of w → State → Option Step) (ds : List Dimension) (list : Subscripts) (from to : ℕ) (stack : List Operand) (line : List ℕ) (st : State) (go : List Index → State → Evaluated (Of w)) → IndexesAt code (site_of h) ds list from to
-        → ((vs : List Value) (after : State) → length vs ≡ length ds → (ds ≡ [] → after ≡ st) → Reaches (setting code begin h) n fine (From to (laid vs stack) line after) after.left (go (singles vs) after))
+        → ((vs : List Value) (after : State) → length vs ≡ length ds → Reaches (setting code begin h) n fine (From to (laid vs stack) line after) after.left (go (singles vs) after))
         → Reaches (setting code begin h) n fine (From from stack line st) st.left (bind (indexes rec h ds list st) go)
     indexes_reaches w fine [] NoSubscripts from to stack line st go same each =
-        subst (λ begins. Reaches (setting code begin h) n fine (From begins stack line st) st.left (go [] st)) (sym same) (each [] st refl (λ none. refl))
+        subst (λ begins. Reaches (setting code begin h) n fine (From begins stack line st) st.left (go [] st)) (sym same) (each [] st refl)
     indexes_reaches w fine (d ∷ ds) (MoreSubscripts (OnePlace one) others) from to stack line st go here each =
         subst (λ r. Reaches (setting code begin h) n fine (From from stack line st) st.left r)
         (sym (bind_bind (index rec h d.size (OnePlace one) st) (λ i after. bind (indexes rec h ds others after) (λ is later. Gives (i ∷ is) later)) go
@@ -613,7 +703,7 @@ module _ (code : Code) (begin : ℕ) (rec : Meaning) (sound : Sound code begin r
         (position_reaches w fine one d.size (instr.Int (pos d.size)) from here.0 stack line st (λ i after. bind (bind (indexes rec h ds others after) (λ is later. Gives (Single i ∷ is) later)) go) (λ at now. refl) here.1
         (λ v after. subst (λ r. Reaches (setting code begin h) n fine (From here.0 (Val v ∷ stack) line after) after.left r)
         (sym (bind_bind (indexes rec h ds others after) (λ is later. Gives (single v ∷ is) later) go))
-        (indexes_reaches w fine ds others here.0 to (Val v ∷ stack) line after (λ is later. go (single v ∷ is) later) here.2 (λ vs later many untouched. each (v ∷ vs) later (ap suc many) (λ none. absurd (cc))))))
+        (indexes_reaches w fine ds others here.0 to (Val v ∷ stack) line after (λ is later. go (single v ∷ is) later) here.2 (λ vs later many. each (v ∷ vs) later (ap suc many)))))
     indexes_reaches w fine [] (MoreSubscripts first others) from to stack line st go here each = absurd here
     indexes_reaches w fine (d ∷ ds) NoSubscripts from to stack line st go here each = absurd here
     indexes_reaches w fine (d ∷ ds) (MoreSubscripts (Every place) others) from to stack line st go here each = absurd here

@@ -2,25 +2,28 @@
 use Rattle.std.specs.Prelude.{◌≡◌, ℕ, zero, suc, ◌+◌, ◌*◌, length, Bool, true, false, ◌&&◌, List, [], ◌∷◌, ◌++◌, map, ℤ, Option, Some, None, slice_get, if◌then◌else◌}
 use Rattle.std.proofs.Common.{refl, sym, ap, subst, ◌∙◌, arith, append_assoc, append-nil}
 use Rattle.std.proofs.lemmas.List.{length-map}
+use Rattle.hal_grammar.specs.Expressions.{Subscripts, NoSubscripts, MoreSubscripts}
 use Rattle.hal_values.specs.declared.value.Kind.{Kind}
 use Rattle.hal_values.specs.declared.value.Value.{Value}
 use Rattle.hal_values.specs.Answers.{error}
 use Rattle.hal_states.specs.Numbers.{integer_of, is_inside, before_nearest}
-use Rattle.hal_states.specs.Spots.{Spot, further}
+use Rattle.hal_states.specs.Spots.{Spot, Held, further}
 use Rattle.hal_meaning.specs.States.{State, Evaluated, Gives, bind}
 use Rattle.hal_meaning.specs.Access.{Here, raise}
 use Rattle.hal_meaning.specs.Variables as tree
 use Rattle.hal_meaning.specs.Variables.{Index, Single, elements_before}
 use Rattle.hal_meaning.specs.Expressions.{Located, located}
-use Rattle.hal_code.specs.declared.instr.Instr.TheVariants as instr
+use Rattle.hal_code.specs.declared.row.Base.{Base}
+use Rattle.hal_code.specs.declared.row.Target.{Target}
 use Rattle.hal_code.specs.declared.row.Target.TheVariants as target
 use Rattle.hal_code.specs.declared.row.View.{View}
-use Rattle.hal_code.specs.Cores.{Operand, Val, At, Goes, Core, going, Step, Moves}
+use Rattle.hal_code.specs.Cores.{Operand, Val, Goes, Core, going, Step, Moves}
 use Rattle.hal_code.specs.Raising.{stuck, raised}
 use Rattle.hal_code.specs.Addressing as machine
-use Rattle.hal_code.specs.Addressing.{popped, cells_before, spot_of, addressed, cell_viewed, act_cell}
+use Rattle.hal_code.specs.Addressing.{popped, cells_before, spot_of, operand_of, addressed, cell_viewed, area_viewed}
+use Rattle.hal_code.specs.Machine.{act}
 use Rattle.hal_agreement.specs.Codes.{Code}
-use Rattle.hal_agreement.specs.PlacedExpressions.{dimension_of, IsViewed, ElementAt}
+use Rattle.hal_agreement.specs.PlacedExpressions.{dimension_of, IsViewed, addresses, ElementAt, array_spoken}
 use Rattle.hal_agreement.proofs.Reaching.{Nest, setting, core_at, Reaches, acts}
 use Rattle.hal_agreement.proofs.Raising.{Standing, bind_bind, raised_reaches}
 
@@ -90,60 +93,98 @@ lengths_both (v ∷ vs) ws (d ∷ ds) es many more = ap suc (lengths_both vs ws 
 lengths_both [] ws (d ∷ ds) es many more = absurd (cc)
 lengths_both (v ∷ vs) ws [] es many more = absurd (cc)
 
-pub none_first : {A : Type 0} (ds es : List A) → ds ++ es ≡ [] → ds ≡ []
-none_first [] es none = refl
-none_first (d ∷ ds) es none = absurd (cc)
+-- places lie in their dimensions, whether dimensions without a place stand behind them or not
+inside_short : (ds es : List tree.Dimension) (vs : List Value) → length vs ≡ length (ds ++ []) → tree.all_inside (ds ++ es) (singles vs) ≡ tree.all_inside (ds ++ []) (singles vs)
+inside_short [] [] [] many = refl
+inside_short [] (e ∷ es) [] many = refl
+inside_short [] es (v ∷ vs) many = absurd (cc)
+inside_short (d ∷ ds) es [] many = absurd (cc)
+inside_short (d ∷ ds) es (v ∷ vs) many = ap (λ b. is_inside d.size (integer_of v) && b) (inside_short ds es vs (omega (arith, many)))
 
-pub none_behind : {A : Type 0} (ds es : List A) → ds ++ es ≡ [] → es ≡ []
-none_behind [] es none = none
-none_behind (d ∷ ds) es none = absurd (cc)
+before_short : (ds es : List tree.Dimension) (vs : List Value) → length vs ≡ length (ds ++ []) → elements_before (ds ++ es) (singles vs) ≡ elements_before (ds ++ []) (singles vs)
+before_short [] [] [] many = refl
+before_short [] (e ∷ es) [] many = refl
+before_short [] es (v ∷ vs) many = absurd (cc)
+before_short (d ∷ ds) es [] many = absurd (cc)
+before_short (d ∷ ds) es (v ∷ vs) many = ap (λ n. before_nearest d.size (integer_of v) * d.stride + n) (before_short ds es vs (omega (arith, many)))
+
+-- the data that places choose, by whether they lie in their dimensions, and how many elements lie before them
+abbrev located_by : Here → Spot → Kind → State → Bool → ℕ → Evaluated Located
+located_by h at k st inside before =
+    if inside then Gives (record { at = further before at; kind = k }) st else bind (raise h (error 1 3) st) (λ ignored after. Gives (record { at = further before at; kind = k }) after)
+
+-- dimensions of an array of which its subscripts don't speak choose nothing
+pub located_same : (h : Here) (at : Spot) (k : Kind) (unmarked : Bool) (components : Subscripts) (ds es : List tree.Dimension) (vs : List Value) (st : State) → length vs ≡ length (ds ++ array_spoken unmarked components es)
+    → located h at k (ds ++ es) (singles vs) st ≡ located h at k (ds ++ array_spoken unmarked components es) (singles vs) st
+located_same h at k false components ds es vs st many = refl
+located_same h at k true (MoreSubscripts first others) ds es vs st many = refl
+located_same h at k true NoSubscripts ds es vs st many =
+    ap (λ b. located_by h at k st b (elements_before (ds ++ es) (singles vs))) (inside_short ds es vs many) ∙ ap (λ m. located_by h at k st (tree.all_inside (ds ++ []) (singles vs)) m) (before_short ds es vs many)
 
 module _ (code : Code) (begin : ℕ) (h : Here) (n : Nest) where
   -- the address of an element is left, unless a place is outside its dimension, which is an error
-  abbrev left_at : Bool → ℕ → Kind → Spot → List Operand → Core → Step
-  left_at inside before k spot stack c =
-      if inside then Moves (going (suc c.at) (At (further before spot) k ∷ stack) c) else raised (setting code begin h) (error 1 3) (going (suc c.at) (At (further before spot) k ∷ stack) c)
+  abbrev left_at : Bool → ℕ → Target → Spot → List Operand → Core → Step
+  left_at inside before given spot stack c =
+      if inside then Moves (going (suc c.at) (operand_of given (further before spot) ∷ stack) c)
+      else raised (setting code begin h) (error 1 3) (going (suc c.at) (operand_of given (further before spot) ∷ stack) c)
 
-  -- CELL with a view of these dimensions
-  element_viewed : (view : View) (ds : List tree.Dimension) (k : Kind) (spot : Spot) (vs : List Value) (stack : List Operand) (c : Core) → IsViewed view ds c.kept.places k spot → c.stack ≡ laid vs stack → length vs ≡ length ds
-      → cell_viewed (setting code begin h) view c ≡ left_at (tree.all_inside ds (singles vs)) (elements_before ds (singles vs)) k spot stack c
-  element_viewed view ds k spot vs stack c is on_stack many =
-      subst (λ all. cell_viewed (setting code begin h) (record { base = view.base; dimensions = all; target = view.target }) c ≡ left_at (tree.all_inside ds (singles vs)) (elements_before ds (singles vs)) k spot stack c) (sym is.dimensions)
-      (subst (λ t. cell_viewed (setting code begin h) (record { base = view.base; dimensions = map dimension_of ds; target = t }) c ≡ left_at (tree.all_inside ds (singles vs)) (elements_before ds (singles vs)) k spot stack c) (sym is.target)
-      (ap
+  -- a view of these dimensions
+  viewed_at : (b : Base) (given : Target) (ds : List tree.Dimension) (spot : Spot) (vs : List Value) (stack : List Operand) (c : Core) → spot_of b c.kept.places ≡ spot → c.stack ≡ laid vs stack → length vs ≡ length ds
+      → machine.viewed (setting code begin h) (record { base = b; dimensions = map dimension_of ds; target = given }) c ≡ left_at (tree.all_inside ds (singles vs)) (elements_before ds (singles vs)) given spot stack c
+  viewed_at b given ds spot vs stack c is on_stack many =
+      ap
       (λ o. elim o [
         | None ↦ stuck c
-        | Some got ↦ addressed (setting code begin h) (record { base = view.base; dimensions = map dimension_of ds; target = target.Cell k }) got.0 (going (suc c.at) (At (further (cells_before (map dimension_of ds) got.0) (spot_of view.base c.kept.places)) k ∷ got.1) c)
+        | Some got ↦ addressed (setting code begin h) (record { base = b; dimensions = map dimension_of ds; target = given }) got.0 (going (suc c.at) (operand_of given (further (cells_before (map dimension_of ds) got.0) (spot_of b c.kept.places)) ∷ got.1) c)
       ])
       (ap (λ below. popped (length (map dimension_of ds)) below) on_stack ∙ all_popped vs (length (map dimension_of ds)) stack (length-map ds dimension_of ∙ sym many))
-      ∙ (ap (λ b. left_at b (cells_before (map dimension_of ds) (integers vs)) k (spot_of view.base c.kept.places) stack c) (inside_same ds vs)
-      ∙ (ap (λ m. left_at (tree.all_inside ds (singles vs)) m k (spot_of view.base c.kept.places) stack c) (before_same ds vs)
-      ∙ ap (λ at. left_at (tree.all_inside ds (singles vs)) (elements_before ds (singles vs)) k at stack c) is.base))))
+      ∙ (ap (λ inside. left_at inside (cells_before (map dimension_of ds) (integers vs)) given (spot_of b c.kept.places) stack c) (inside_same ds vs)
+      ∙ (ap (λ m. left_at (tree.all_inside ds (singles vs)) m given (spot_of b c.kept.places) stack c) (before_same ds vs)
+      ∙ ap (λ at. left_at (tree.all_inside ds (singles vs)) (elements_before ds (singles vs)) given at stack c) is))
 
-  element_acts : (number : ℕ) (view : View) (ds : List tree.Dimension) (k : Kind) (spot : Spot) (vs : List Value) (stack : List Operand) (c : Core) → slice_get code.image.views number ≡ Some view
-      → IsViewed view ds c.kept.places k spot → c.stack ≡ laid vs stack → length vs ≡ length ds
-      → act_cell (setting code begin h) number c ≡ left_at (tree.all_inside ds (singles vs)) (elements_before ds (singles vs)) k spot stack c
-  element_acts number view ds k spot vs stack c row is on_stack many =
-      ap (λ o. elim o [ None ↦ stuck c | Some found ↦ cell_viewed (setting code begin h) found c ]) row ∙ element_viewed view ds k spot vs stack c is on_stack many
+  -- CELL or WHOLE with it
+  abbrev given_by : Target → View → Core → Step
+  given_by (target.Cell k) view c = cell_viewed (setting code begin h) view c
+  given_by (target.Shape shape) view c = area_viewed (setting code begin h) view c
+
+  given_at : (b : Base) (given : Target) (ds : List tree.Dimension) (spot : Spot) (vs : List Value) (stack : List Operand) (c : Core) → spot_of b c.kept.places ≡ spot → c.stack ≡ laid vs stack → length vs ≡ length ds
+      → given_by given (record { base = b; dimensions = map dimension_of ds; target = given }) c ≡ left_at (tree.all_inside ds (singles vs)) (elements_before ds (singles vs)) given spot stack c
+  given_at b (target.Cell k) ds spot vs stack c is on_stack many = viewed_at b (target.Cell k) ds spot vs stack c is on_stack many
+  given_at b (target.Shape shape) ds spot vs stack c is on_stack many = viewed_at b (target.Shape shape) ds spot vs stack c is on_stack many
+
+  element_viewed : (view : View) (ds : List tree.Dimension) (given : Target) (spot : Spot) (vs : List Value) (stack : List Operand) (c : Core) → IsViewed view ds c.kept.places given spot → c.stack ≡ laid vs stack → length vs ≡ length ds
+      → given_by given view c ≡ left_at (tree.all_inside ds (singles vs)) (elements_before ds (singles vs)) given spot stack c
+  element_viewed view ds given spot vs stack c is on_stack many =
+      subst (λ all. given_by given (record { base = view.base; dimensions = all; target = view.target }) c ≡ left_at (tree.all_inside ds (singles vs)) (elements_before ds (singles vs)) given spot stack c) (sym is.dimensions)
+      (subst (λ t. given_by given (record { base = view.base; dimensions = map dimension_of ds; target = t }) c ≡ left_at (tree.all_inside ds (singles vs)) (elements_before ds (singles vs)) given spot stack c) (sym is.target)
+      (given_at view.base given ds spot vs stack c is.base on_stack many))
+
+  element_acts : (number : ℕ) (view : View) (ds : List tree.Dimension) (given : Target) (spot : Spot) (vs : List Value) (stack : List Operand) (c : Core) → slice_get code.image.views number ≡ Some view
+      → IsViewed view ds c.kept.places given spot → c.stack ≡ laid vs stack → length vs ≡ length ds
+      → act (setting code begin h) (addresses given number) c ≡ left_at (tree.all_inside ds (singles vs)) (elements_before ds (singles vs)) given spot stack c
+  element_acts number view ds (target.Cell k) spot vs stack c row is on_stack many =
+      ap (λ o. elim o [ None ↦ stuck c | Some found ↦ cell_viewed (setting code begin h) found c ]) row ∙ element_viewed view ds (target.Cell k) spot vs stack c is on_stack many
+  element_acts number view ds (target.Shape shape) spot vs stack c row is on_stack many =
+      ap (λ o. elim o [ None ↦ stuck c | Some found ↦ area_viewed (setting code begin h) found c ]) row ∙ element_viewed view ds (target.Shape shape) spot vs stack c is on_stack many
 
   module _ (standing : Standing code h n) where
-    left_reaches : {A : Type 0} (fine : A → State → Option Step) (inside : Bool) (before : ℕ) (k : Kind) (spot : Spot) (at : ℕ) (below stack : List Operand) (line : List ℕ) (st : State) (go : Located → State → Evaluated A)
-        → ((place : Spot) (after : State) → Reaches (setting code begin h) n fine (Moves (core_at (suc at) (At place k ∷ stack) line n after)) after.left (go (record { at = place; kind = k }) after))
-        → Reaches (setting code begin h) n fine (left_at inside before k spot stack (core_at at below line n st)) st.left
+    left_reaches : {A : Type 0} (fine : A → State → Option Step) (inside : Bool) (before : ℕ) (given : Target) (k : Kind) (spot : Spot) (at : ℕ) (below stack : List Operand) (line : List ℕ) (st : State) (go : Located → State → Evaluated A)
+        → ((place : Spot) (after : State) → Reaches (setting code begin h) n fine (Moves (core_at (suc at) (operand_of given place ∷ stack) line n after)) after.left (go (record { at = place; kind = k }) after))
+        → Reaches (setting code begin h) n fine (left_at inside before given spot stack (core_at at below line n st)) st.left
         (bind (if inside then Gives (record { at = further before spot; kind = k }) st else bind (raise h (error 1 3) st) (λ ignored after. Gives (record { at = further before spot; kind = k }) after)) go)
-    left_reaches fine true before k spot at below stack line st go each = each (further before spot) st
-    left_reaches fine false before k spot at below stack line st go each =
-        subst (λ r. Reaches (setting code begin h) n fine (raised (setting code begin h) (error 1 3) (core_at (suc at) (At (further before spot) k ∷ stack) line n st)) st.left r)
+    left_reaches fine true before given k spot at below stack line st go each = each (further before spot) st
+    left_reaches fine false before given k spot at below stack line st go each =
+        subst (λ r. Reaches (setting code begin h) n fine (raised (setting code begin h) (error 1 3) (core_at (suc at) (operand_of given (further before spot) ∷ stack) line n st)) st.left r)
         (sym (bind_bind (raise h (error 1 3) st) (λ ignored after. Gives (record { at = further before spot; kind = k }) after) go))
-        (raised_reaches code begin h n standing fine (error 1 3) Goes (suc at) (At (further before spot) k ∷ stack) line st (λ ignored after. go (record { at = further before spot; kind = k }) after) (λ after. each (further before spot) after))
+        (raised_reaches code begin h n standing fine (error 1 3) Goes (suc at) (operand_of given (further before spot) ∷ stack) line st (λ ignored after. go (record { at = further before spot; kind = k }) after) (λ after. each (further before spot) after))
 
-    -- the address of the element that places on the stack choose
-    pub element_reaches : {A : Type 0} (fine : A → State → Option Step) (ds : List tree.Dimension) (k : Kind) (spot : Spot) (vs : List Value) (from : ℕ) (stack : List Operand) (line : List ℕ) (st : State) (go : Located → State → Evaluated A)
-        → ElementAt code ds k spot from → length vs ≡ length ds
-        → ((place : Spot) (after : State) → Reaches (setting code begin h) n fine (Moves (core_at (suc from) (At place k ∷ stack) line n after)) after.left (go (record { at = place; kind = k }) after))
-        → Reaches (setting code begin h) n fine (Moves (core_at from (laid vs stack) line n st)) st.left (bind (located h spot k ds (singles vs) st) go)
-    element_reaches fine ds k spot vs from stack line st go at many each =
-        acts (setting code begin h) n fine (core_at from (laid vs stack) line n st) st.left (instr.Cell at.number) _ at.cell
-        (subst (λ step. Reaches (setting code begin h) n fine step st.left (bind (located h spot k ds (singles vs) st) go))
-        (sym (element_acts at.number at.view ds k spot vs stack (core_at from (laid vs stack) line n st) at.row (at.viewed st.kept.places) refl many))
-        (left_reaches fine (tree.all_inside ds (singles vs)) (elements_before ds (singles vs)) k spot from (laid vs stack) stack line st go each))
+    -- the address of what places on the stack choose
+    pub element_reaches : {A : Type 0} (fine : A → State → Option Step) (ds : List tree.Dimension) (given : Target) (k : Kind) (spot : List Held → Spot) (vs : List Value) (from : ℕ) (stack : List Operand) (line : List ℕ) (st : State) (go : Located → State → Evaluated A)
+        → ElementAt code ds given spot from → length vs ≡ length ds
+        → ((place : Spot) (after : State) → Reaches (setting code begin h) n fine (Moves (core_at (suc from) (operand_of given place ∷ stack) line n after)) after.left (go (record { at = place; kind = k }) after))
+        → Reaches (setting code begin h) n fine (Moves (core_at from (laid vs stack) line n st)) st.left (bind (located h (spot st.kept.places) k ds (singles vs) st) go)
+    element_reaches fine ds given k spot vs from stack line st go at many each =
+        acts (setting code begin h) n fine (core_at from (laid vs stack) line n st) st.left (addresses given at.number) _ at.address
+        (subst (λ step. Reaches (setting code begin h) n fine step st.left (bind (located h (spot st.kept.places) k ds (singles vs) st) go))
+        (sym (element_acts at.number at.view ds given (spot st.kept.places) vs stack (core_at from (laid vs stack) line n st) at.row (at.viewed st.kept.places) refl many))
+        (left_reaches fine (tree.all_inside ds (singles vs)) (elements_before ds (singles vs)) given k (spot st.kept.places) from (laid vs stack) stack line st go each))

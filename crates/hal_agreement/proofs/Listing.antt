@@ -11,9 +11,9 @@ use Rattle.hal_meaning.specs.Access.{Here, within, read, store}
 use Rattle.hal_meaning.specs.Elements.{Component, chosen, offset}
 use Rattle.hal_meaning.specs.Expressions.{expression}
 use Rattle.hal_meaning.specs.States.{State, Evaluated, bind, Flow}
-use Rattle.hal_meaning.specs.Statements.{turn_if, span_holds, kept_at, held_at, is_number, kind_meant, variable_spot, variable_stored, variable_read, group_here, listed, next_listed}
+use Rattle.hal_meaning.specs.Statements.{turn_if, span_holds, kept_at, held_at, is_number, kind_meant, variable_stored, variable_read, group_here, listed, next_listed}
 use Rattle.hal_meaning.specs.Tasks.{Meaning}
-use Rattle.hal_meaning.specs.Variables.{Meant, MeantData, MeantConstant, MeantEvent, MeantBlock, MeantBuiltin, MeantNothing, name_meant, kind_of_first}
+use Rattle.hal_meaning.specs.Variables.{Meant, MeantData, MeantConstant, MeantEvent, MeantBlock, MeantBuiltin, MeantNothing, name_meant, spot_meant, kind_of_first}
 use Rattle.hal_code.specs.Cores.{Val, At, Step, Moves}
 use Rattle.hal_code.specs.declared.instr.Instr.TheVariants as instr
 use Rattle.hal_agreement.specs.Codes.{Code}
@@ -55,7 +55,7 @@ module _ (code : Code) (begin : ℕ) (rec : Meaning) (sound : Sound code begin r
   At_step at st = Begins code begin rec sound h n standing out at st
 
   kept_reaches : (m : Meant) (v : Value) (from to : ℕ) (st : State) → KeptAt code [] st.kept.places m from to
-      → DoneAt code begin rec sound h n standing out to [] [] (Moves (core_at from (Val v ∷ []) [] n st)) st.left (store h (kind_meant [] m) (variable_spot m) v st)
+      → DoneAt code begin rec sound h n standing out to [] [] (Moves (core_at from (Val v ∷ []) [] n st)) st.left (store h (kind_meant [] m) (spot_meant m) v st)
   kept_reaches (MeantData at shape) v from to st here =
       address_reaches code begin h n _ (kind_of_first (chosen [] shape.components)) at from (Val v ∷ []) [] st _
       (subst (λ spot. AddressAt code st.kept.places (kind_of_first (chosen [] shape.components)) spot from) (none_further at shape.components) here.0)
@@ -75,7 +75,7 @@ module _ (code : Code) (begin : ℕ) (rec : Meaning) (sound : Sound code begin r
   abbrev ValueAt : ℕ → Step → State → Evaluated Value → Type 0
   ValueAt to step st r = Reaches (setting code begin h) n (λ v after. Some (Moves (core_at to (Val v ∷ []) [] n after))) step st.left r
 
-  fetched_reaches : (m : Meant) (from to : ℕ) (st : State) → FetchedAt code st.kept.places m from to → ValueAt to (At_step from st) st (read h (kind_meant [] m) (variable_spot m) st)
+  fetched_reaches : (m : Meant) (from to : ℕ) (st : State) → FetchedAt code st.kept.places m from to → ValueAt to (At_step from st) st (read h (kind_meant [] m) (spot_meant m) st)
   fetched_reaches (MeantData at shape) from to st here =
       address_reaches code begin h n _ (kind_of_first (chosen [] shape.components)) at from [] [] st _
       (subst (λ spot. AddressAt code st.kept.places (kind_of_first (chosen [] shape.components)) spot from) (none_further at shape.components) here.0)

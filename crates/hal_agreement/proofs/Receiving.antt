@@ -12,26 +12,27 @@ use Rattle.hal_values.specs.declared.value.Value.{Value}
 use Rattle.hal_values.specs.declared.value.Value.TheVariants as value
 use Rattle.hal_values.specs.Answers.{Answered}
 use Rattle.hal_states.specs.Numbers.{integer_of}
-use Rattle.hal_states.specs.Spots.{Spot, further}
+use Rattle.hal_states.specs.Spots.{Spot, Held, further}
 use Rattle.hal_meaning.specs.Elements.{chosen, offset}
 use Rattle.hal_meaning.specs.States.{State, Evaluated, bind}
 use Rattle.hal_meaning.specs.Access.{Here, raise, read, store}
-use Rattle.hal_meaning.specs.Variables.{Meant, MeantData, MeantConstant, MeantEvent, MeantBlock, MeantBuiltin, MeantNothing, name_meant, kind_of_first, is_arrayed}
+use Rattle.hal_meaning.specs.Variables.{Meant, MeantData, MeantConstant, MeantEvent, MeantBlock, MeantBuiltin, MeantNothing, name_meant, spot_meant, spot_named, kind_of_first, is_arrayed}
 use Rattle.hal_meaning.specs.Expressions.{Located, named_value, part_chosen, sizes_named, data_chosen, meant_chosen}
 use Rattle.hal_meaning.specs.Statements.{replaced, components_in, component_received, received_by, is_array_named, received}
 use Rattle.hal_meaning.specs.Tasks.{Meaning}
 use Rattle.hal_code.specs.declared.instr.Instr.TheVariants as instr
 use Rattle.hal_code.specs.declared.operand.Places.{Places}
 use Rattle.hal_code.specs.declared.operand.Places.TheVariants as places
+use Rattle.hal_code.specs.declared.row.Target.TheVariants as target
 use Rattle.hal_code.specs.Cores.{Operand, Val, At, Goes, Step, Moves}
 use Rattle.hal_code.specs.Raising.{stuck}
 use Rattle.hal_code.specs.Computing as machine
 use Rattle.hal_code.specs.Computing.{part_taken, part_patched}
 use Rattle.hal_agreement.specs.Codes.{Code}
-use Rattle.hal_agreement.specs.Sites.{site_of}
+use Rattle.hal_agreement.specs.Sites.{site_of, here_at}
 use Rattle.hal_agreement.specs.PlacedExpressions.{Has, One, ChosenAt, places_of}
 use Rattle.hal_agreement.specs.PlacedStatements.{patches, KeptAt, StoredAt, ReceivedAt, AddressedAt, ReceiverAt}
-use Rattle.hal_agreement.proofs.Expressing.{name_same, OfNothing, named_reaches, chosen_reaches, part_reaches}
+use Rattle.hal_agreement.proofs.Expressing.{name_same, spot_same, OfNothing, named_reaches, chosen_reaches, part_reaches}
 use Rattle.hal_agreement.proofs.Knowing.{Sound}
 use Rattle.hal_agreement.proofs.Raising.{Standing, read_reaches, raised_reaches, store_reaches}
 use Rattle.hal_agreement.proofs.Reaching.{Nest, setting, core_at, Reaches, bind_reaches, acts}
@@ -106,47 +107,54 @@ module _ (code : Code) (begin : ℕ) (rec : Meaning) (sound : Sound code begin r
       (replaced_reaches places.One (Val (value.Int (pos number)) ∷ Val old ∷ At l.at l.kind ∷ Val v ∷ under) l.kind l.at old v (part.One (pos number)) (suc (suc from)) to under after refl here.2 here.3))
 
   -- a name without subscripts
-  plain_received : (path : List Naming) (m : Meant) (v : Value) (from to : ℕ) (under : List Operand) (st : State) → KeptAt code path st.kept.places m from to
+  plain_received : (spot : List Held → Spot) (path : List Naming) (m : Meant) (v : Value) (from to : ℕ) (under : List Operand) (st : State) → spot st.kept.places ≡ spot_meant m → KeptAt code path st.kept.places m from to
       → Done to under (From from (Val v ∷ under) st) st.left
-      (bind (meant_chosen (λ at shape before. data_chosen rec h path Unsubscripted at shape before) m st) (λ l after. received_by rec h l (is_array_named path m) Unsubscripted v after))
-  plain_received path (MeantData at shape) v from to under st here =
-      address_reaches code begin h n _ (kind_of_first (chosen path shape.components)) (further (offset path shape.components) at) from (Val v ∷ under) [] st _ here.0
+      (bind (meant_chosen (λ shape before. data_chosen rec h path Unsubscripted spot shape before) m st) (λ l after. received_by rec h l (is_array_named path m) Unsubscripted v after))
+  plain_received spot path (MeantData at shape) v from to under st same here =
+      subst (λ place. Done to under (From from (Val v ∷ under) st) st.left
+      (received_by rec h (record { at = further (offset path shape.components) place; kind = kind_of_first (chosen path shape.components) }) (is_arrayed (sizes_named path shape)) Unsubscripted v st)) (sym same)
+      (address_reaches code begin h n _ (kind_of_first (chosen path shape.components)) (further (offset path shape.components) at) from (Val v ∷ under) [] st _ here.0
       (received_reaches_by (record { at = further (offset path shape.components) at; kind = kind_of_first (chosen path shape.components) }) (is_arrayed (sizes_named path shape)) Unsubscripted v (suc from) to under st
-      (unmarked (is_arrayed (sizes_named path shape)) (suc from) to here.1))
+      (unmarked (is_arrayed (sizes_named path shape)) (suc from) to here.1)))
     where
       unmarked : (arrayed : Bool) (from to : ℕ) → One code from instr.Keep to → ReceivedAt code (site_of h) arrayed Unsubscripted from to
       unmarked true from to one = one
       unmarked false from to one = one
-  plain_received path (MeantConstant w) v from to under st here = absurd here
-  plain_received path (MeantEvent e) v from to under st here = absurd here
-  plain_received path (MeantBlock unit) v from to under st here = absurd here
-  plain_received path (MeantBuiltin b) v from to under st here = absurd here
-  plain_received path MeantNothing v from to under st here = absurd here
+  plain_received spot path (MeantConstant w) v from to under st same here = absurd here
+  plain_received spot path (MeantEvent e) v from to under st same here = absurd here
+  plain_received spot path (MeantBlock unit) v from to under st same here = absurd here
+  plain_received spot path (MeantBuiltin b) v from to under st same here = absurd here
+  plain_received spot path MeantNothing v from to under st same here = absurd here
 
   -- and with a subscript
-  marked_received : (path : List Naming) (subscript : Subscript) (m : Meant) (v : Value) (from to : ℕ) (under : List Operand) (st : State)
-      → AddressedAt code (site_of h) path subscript (λ at shape begins ends. ChosenAt code (site_of h) st.kept.places path subscript at shape begins ends) m from to
+  marked_received : (spot : List Held → Spot) (path : List Naming) (subscript : Subscript) (m : Meant) (v : Value) (from to : ℕ) (under : List Operand) (st : State)
+      → AddressedAt code (site_of h) path subscript (λ shape begins ends. ChosenAt code (site_of h) (target.Cell (kind_of_first (chosen path shape.components))) path subscript spot shape begins ends) m from to
       → Done to under (From from (Val v ∷ under) st) st.left
-      (bind (meant_chosen (λ at shape before. data_chosen rec h path subscript at shape before) m st) (λ l after. received_by rec h l (is_array_named path m) subscript v after))
-  marked_received path subscript (MeantData at shape) v from to under st here =
-      chosen_reaches code begin rec sound h n standing OfNothing _ path subscript at shape from here.0 (Val v ∷ under) [] st (λ l after. received_by rec h l (is_arrayed (sizes_named path shape)) subscript v after) here.1
+      (bind (meant_chosen (λ shape before. data_chosen rec h path subscript spot shape before) m st) (λ l after. received_by rec h l (is_array_named path m) subscript v after))
+  marked_received spot path subscript (MeantData at shape) v from to under st here =
+      chosen_reaches code begin rec sound h n standing OfNothing _ (target.Cell (kind_of_first (chosen path shape.components))) path subscript spot shape from here.0 (Val v ∷ under) [] st (λ l after. received_by rec h l (is_arrayed (sizes_named path shape)) subscript v after) here.1
       (λ place after. received_reaches_by (record { at = place; kind = kind_of_first (chosen path shape.components) }) (is_arrayed (sizes_named path shape)) subscript v here.0 to under after here.2)
-  marked_received path subscript (MeantConstant w) v from to under st here = absurd here
-  marked_received path subscript (MeantEvent e) v from to under st here = absurd here
-  marked_received path subscript (MeantBlock unit) v from to under st here = absurd here
-  marked_received path subscript (MeantBuiltin b) v from to under st here = absurd here
-  marked_received path subscript MeantNothing v from to under st here = absurd here
+  marked_received spot path subscript (MeantConstant w) v from to under st here = absurd here
+  marked_received spot path subscript (MeantEvent e) v from to under st here = absurd here
+  marked_received spot path subscript (MeantBlock unit) v from to under st here = absurd here
+  marked_received spot path subscript (MeantBuiltin b) v from to under st here = absurd here
+  marked_received spot path subscript MeantNothing v from to under st here = absurd here
+
+  -- data that a receiver with a subscript means go by the site alone
+  marked_same : (name : List ℕ) (path : List Naming) (subscript : Subscript) (held : List Held) (from to : ℕ)
+      → AddressedAt code (site_of h) path subscript (λ shape begins ends. ChosenAt code (site_of h) (target.Cell (kind_of_first (chosen path shape.components))) path subscript (spot_named (here_at (site_of h)) name) shape begins ends) (name_meant (here_at (site_of h)) name held) from to
+      → AddressedAt code (site_of h) path subscript (λ shape begins ends. ChosenAt code (site_of h) (target.Cell (kind_of_first (chosen path shape.components))) path subscript (spot_named h name) shape begins ends) (name_meant h name held) from to
+  marked_same name path subscript held from to here =
+      subst (λ spot. AddressedAt code (site_of h) path subscript (λ shape begins ends. ChosenAt code (site_of h) (target.Cell (kind_of_first (chosen path shape.components))) path subscript spot shape begins ends) (name_meant h name held) from to) (spot_same h name)
+      (subst (λ m. AddressedAt code (site_of h) path subscript (λ shape begins ends. ChosenAt code (site_of h) (target.Cell (kind_of_first (chosen path shape.components))) path subscript (spot_named (here_at (site_of h)) name) shape begins ends) m from to) (name_same h name held) here)
 
   -- a receiver
   pub received_reaches : (reference : Reference) (v : Value) (from to : ℕ) (under : List Operand) (st : State) → ReceiverAt code (site_of h) reference from to → Done to under (From from (Val v ∷ under) st) st.left (received rec h v reference st)
   received_reaches (Refers place name path Unsubscripted) v from to under st here =
-      plain_received path (name_meant h name st.kept.places) v from to under st (subst (λ m. KeptAt code path st.kept.places m from to) (name_same h name st.kept.places) (here st.kept.places))
+      plain_received (spot_named h name) path (name_meant h name st.kept.places) v from to under st refl (subst (λ m. KeptAt code path st.kept.places m from to) (name_same h name st.kept.places) (here st.kept.places))
   received_reaches (Refers place name path (ByName at one)) v from to under st here =
-      marked_received path (ByName at one) (name_meant h name st.kept.places) v from to under st
-      (subst (λ m. AddressedAt code (site_of h) path (ByName at one) (λ spot shape begins ends. ChosenAt code (site_of h) st.kept.places path (ByName at one) spot shape begins ends) m from to) (name_same h name st.kept.places) (here st.kept.places))
+      marked_received (spot_named h name) path (ByName at one) (name_meant h name st.kept.places) v from to under st (marked_same name path (ByName at one) st.kept.places from to (here st.kept.places))
   received_reaches (Refers place name path (ByInteger at mark number)) v from to under st here =
-      marked_received path (ByInteger at mark number) (name_meant h name st.kept.places) v from to under st
-      (subst (λ m. AddressedAt code (site_of h) path (ByInteger at mark number) (λ spot shape begins ends. ChosenAt code (site_of h) st.kept.places path (ByInteger at mark number) spot shape begins ends) m from to) (name_same h name st.kept.places) (here st.kept.places))
+      marked_received (spot_named h name) path (ByInteger at mark number) (name_meant h name st.kept.places) v from to under st (marked_same name path (ByInteger at mark number) st.kept.places from to (here st.kept.places))
   received_reaches (Refers place name path (ByParts at copies arrays components)) v from to under st here =
-      marked_received path (ByParts at copies arrays components) (name_meant h name st.kept.places) v from to under st
-      (subst (λ m. AddressedAt code (site_of h) path (ByParts at copies arrays components) (λ spot shape begins ends. ChosenAt code (site_of h) st.kept.places path (ByParts at copies arrays components) spot shape begins ends) m from to) (name_same h name st.kept.places) (here st.kept.places))
+      marked_received (spot_named h name) path (ByParts at copies arrays components) (name_meant h name st.kept.places) v from to under st (marked_same name path (ByParts at copies arrays components) st.kept.places from to (here st.kept.places))

@@ -111,9 +111,9 @@ module _ (code : Code) (begin : ℕ) (rec : Meaning) (sound : Sound code begin r
     basic_reaches h n standing exits out marks leads m labels (Return place (Some tree)) from to st here =
         subst (λ end. FlowsAt code begin rec sound h n standing out exits end (Begins code begin rec sound h n standing out from st) st.left (basic_statement rec h m labels (Return place (Some tree)) st)) here.5.1
         (returned_reaches code begin rec sound h n standing out exits tree from here.0 here.1 (suc here.1) st leads here.2 here.3 here.4 here.5.0)
-    basic_reaches h n standing exits out marks leads m labels (Call place name arguments []) from to st here =
+    basic_reaches h n standing exits out marks leads m labels (Call place name arguments receivers) from to st here =
         goes_on_reaches code begin rec sound h n standing out exits to _ st.left _
-        (call_meant code begin rec sound h n standing out arguments (name_meant h name.name st.kept.places) from to st (subst (λ m. CalledAt code (site_of h) arguments m from to) (name_same h name.name st.kept.places) (here st.kept.places)))
+        (call_meant code begin rec sound h n standing out arguments receivers (name_meant h name.name st.kept.places) from to st (subst (λ m. CalledAt code (site_of h) arguments receivers m from to) (name_same h name.name st.kept.places) (here st.kept.places)))
     basic_reaches h n standing exits out marks leads m labels (Read place channel receivers) from to st here =
         read_stated code begin rec sound h n standing out exits channel receivers here.0 from to st here.1 here.2
     basic_reaches h n standing exits out marks leads m labels (Event e) from to st here =
@@ -160,7 +160,6 @@ module _ (code : Code) (begin : ℕ) (rec : Meaning) (sound : Sound code begin r
         record { holds = handler_leads code begin rec sound h n standing out s m here.0 here.1 from to (exits.handler m) st here.2 (marks m) here.5 here.3 here.4 }
     basic_reaches h n standing exits out marks leads m labels (OnErrorResponse place s r e) from to st here = record { holds = response_leads code begin rec sound h n standing out s r e here.0 here.1 here.2 here.3 from to st here.4 here.5 here.6 }
     basic_reaches h n standing exits out marks leads m labels (OffError place s) from to st here = record { holds = off_leads code begin rec sound h n standing out s here.0 here.1 from to st here.2 here.3 }
-    basic_reaches h n standing exits out marks leads m labels other from to st here = absurd here
 
     alternative_reaches : (h : Here) (n : Nest) (standing : Standing code h n) (exits : Exits) (out : Out) (marks : Marks n exits) (leads : Leads_out code begin h n exits.leaving out) (m : ℕ) (alternative : Alternative) (end other to : ℕ) (st : State) → AlternativeAt code (site_of h) exits m alternative end other to
         → FlowsAt code begin rec sound h n standing out exits to (Begins code begin rec sound h n standing out other st) st.left (otherwise rec h m alternative st)

@@ -17,29 +17,31 @@ use Rattle.hal_states.specs.Lines.{line_of, item_of}
 use Rattle.hal_states.specs.Numbers.{holds}
 use Rattle.hal_meaning.specs.States.{State, Evaluated, Gives, Asks, Caught, Restarts, Lost, bind, Flow, Normal, Leaves, Repeats, Returned}
 use Rattle.hal_meaning.specs.Bodies.{Body}
-use Rattle.hal_meaning.specs.Calls.{inputs_of, returned_by, call}
+use Rattle.hal_states.specs.Spots.{Spot}
+use Rattle.hal_meaning.specs.Calls.{parameter_named, returned_by, call}
+use Rattle.hal_meaning.specs.Elements.{kinds_of}
 use Rattle.hal_meaning.specs.Sets.{body_at}
 use Rattle.hal_meaning.specs.Access.{Here, raise, turn, request_made}
 use Rattle.hal_meaning.specs.Variables.{Meant, MeantData, MeantConstant, MeantEvent, MeantBlock, MeantBuiltin, MeantNothing}
-use Rattle.hal_meaning.specs.Expressions.{inputs_at, expression, values, passed}
-use Rattle.hal_meaning.specs.Statements.{goes_on, returned_in, called, all_received, line_fitting, channel_of, written, is_meant, group_left, NextTurn, Ended, after_turn, goes_round, turn_made, turn_if, guard_holds, first_holds, goes_behind, one_of}
+use Rattle.hal_meaning.specs.Expressions.{inputs_at, outputs_at, expression, values, chosen_data}
+use Rattle.hal_meaning.specs.Statements.{goes_on, returned_in, spots, called, all_received, line_fitting, channel_of, written, is_meant, group_left, NextTurn, Ended, after_turn, goes_round, turn_made, turn_if, guard_holds, first_holds, goes_behind, one_of}
 use Rattle.hal_meaning.specs.Tasks.{Meaning}
 use Rattle.hal_code.specs.declared.choice.Choice.TheVariants as choice
 use Rattle.hal_code.specs.declared.instr.Instr.{Instr}
 use Rattle.hal_code.specs.declared.instr.Instr.TheVariants as instr
-use Rattle.hal_code.specs.Cores.{Operand, Val, Goes, Asks, Then, Step, Waits, Moves}
+use Rattle.hal_code.specs.Cores.{Operand, Val, Area, Goes, Asks, Then, Step, Waits, Moves}
 use Rattle.hal_code.specs.Raising.{raised_before}
 use Rattle.hal_code.specs.Machine.{act}
 use Rattle.hal_agreement.specs.Codes.{Code}
 use Rattle.hal_agreement.specs.Sites.{site_of}
 use Rattle.hal_agreement.specs.PlacedExpressions.{Has, One, ExpressionAt}
-use Rattle.hal_agreement.specs.PlacedStatements.{opened, exit_of, again_of, ByResult, Exits, within_group, ReceiversAt, ChannelAt, ItemsAt, ConditionAt, FirstTestAt, TestAt, ResultBy, ResultAt, CalledAt, AlternativeAt}
+use Rattle.hal_agreement.specs.PlacedStatements.{opened, exit_of, again_of, ByResult, Exits, within_group, ReceiversAt, ChannelAt, ItemsAt, ConditionAt, FirstTestAt, TestAt, ResultBy, ResultAt, AssignedAt, CalledAt, AlternativeAt}
 use Rattle.hal_agreement.proofs.Leading.{Leads, stays, through, acts_to}
 use Rattle.hal_agreement.proofs.Reaching.{Nest, setting, core_at, Arrives, Holds, Reaches, OnStep, before, bind_reaches, bind_on, asks_reaches, acts}
-use Rattle.hal_agreement.proofs.Calling.{args_step, on_step, inputs_same, call_reaches}
+use Rattle.hal_agreement.proofs.Calling.{AreAssigned, call_reaches}
 use Rattle.hal_agreement.proofs.Knowing.{going_to, Out, flow_to, Leads_out, Sound}
 use Rattle.hal_agreement.proofs.Raising.{Standing, bind_bind, raised_reaches, turned_reaches}
-use Rattle.hal_agreement.proofs.Expressing.{expression_reaches, passed_reaches}
+use Rattle.hal_agreement.proofs.Expressing.{OfNothing, expression_reaches, passed_reaches, cells_of_reaches}
 use Rattle.hal_agreement.proofs.Receiving.{received_reaches}
 
 -- what a unit returns, as its type has it
@@ -314,21 +316,36 @@ module _ (code : Code) (begin : ℕ) (rec : Meaning) (sound : Sound code begin r
       (result_at (body_at h.set h.unit) middle late v after results)
       (λ w later. returned_holds late w later exits to (out (Some w) later) refl (leads.with_value w late later same has)))
 
+  -- the addresses of ASSIGN arguments are put on these operands
+  assigned_reaches : (fine : Unit {0} → State → Option Step) (unit : ℕ) (names : List Naming) (receivers : List Reference) (from to : ℕ) (under : List Operand) (st : State) (go : List Spot → State → Evaluated (Unit {0}))
+      → AssignedAt code (site_of h) unit names receivers from to
+      → ((at : List Spot) (over : List Operand) (after : State) → AreAssigned code begin rec sound h n standing names at under over → Reaches (setting code begin h) n fine (Moves (core_at to over [] n after)) after.left (go at after))
+      → Reaches (setting code begin h) n fine (Moves (core_at from under [] n st)) st.left (bind (spots rec h receivers st) go)
+  assigned_reaches fine unit [] [] from to under st go same each =
+      subst (λ begins. Reaches (setting code begin h) n fine (Moves (core_at begins under [] n st)) st.left (go [] st)) (sym same) (each [] under st refl)
+  assigned_reaches fine unit (name ∷ names) (receiver ∷ receivers) from to under st go here each =
+      subst (λ r. Reaches (setting code begin h) n fine (Moves (core_at from under [] n st)) st.left r)
+      (sym (bind_bind (chosen_data rec h receiver st) (λ l after. bind (spots rec h receivers after) (λ more later. Gives (l.at ∷ more) later)) go))
+      (cells_of_reaches code begin rec sound h n standing OfNothing fine (kinds_of (parameter_named h.set unit name).shape) receiver from here.0 under [] st
+      (λ l after. bind (bind (spots rec h receivers after) (λ more later. Gives (l.at ∷ more) later)) go) here.1
+      (λ l shape after kinds. subst (λ r. Reaches (setting code begin h) n fine (Moves (core_at here.0 (Area l.at shape ∷ under) [] n after)) after.left r)
+      (sym (bind_bind (spots rec h receivers after) (λ more later. Gives (l.at ∷ more) later) go))
+      (assigned_reaches fine unit names receivers here.0 to (Area l.at shape ∷ under) after (λ more later. go (l.at ∷ more) later) here.2
+      (λ more over later are. each (l.at ∷ more) over later (shape, are)))))
+  assigned_reaches fine unit [] (receiver ∷ receivers) from to under st go here each = absurd here
+  assigned_reaches fine unit (name ∷ names) [] from to under st go here each = absurd here
+
   -- CALL of what a name means
-  pub call_meant : (arguments : Expressions) (m : Meant) (from to : ℕ) (st : State) → CalledAt code (site_of h) arguments m from to → DoneAt to [] [] (Begins from st) st.left (called rec h m arguments [] st)
-  call_meant arguments (MeantBlock unit) from to st here =
-      bind_on (setting code begin h) n (λ ps after. args_step code begin rec sound h n standing (inputs_at h.set unit) ps [] here.0 [] after) _ _ st.left (passed rec h unit (inputs_at h.set unit) arguments st)
-      (λ ps after. bind (call rec h unit ps [] after) (λ result later. Gives tt later)) (passed_reaches code begin rec sound h n standing unit (inputs_at h.set unit) arguments from here.0 [] [] st here.1)
-      (λ ps after. subst (λ names. OnStep (args_step code begin rec sound h n standing names ps [] here.0 [] after) (λ x. DoneAt to [] [] x after.left (bind (call rec h unit ps [] after) (λ result later. Gives tt later))))
-      (sym (inputs_same code begin rec sound h n standing unit false here.0 to here.2))
-      (on_step code begin rec sound h n standing (args_step code begin rec sound h n standing (inputs_of here.2.body.head) ps [] here.0 [] after)
-      (λ x. Reaches (setting code begin h) n (λ (v : Value) later. Some (Begins to later)) x after.left (call rec h unit ps [] after))
-      (λ x. DoneAt to [] [] x after.left (bind (call rec h unit ps [] after) (λ result later. Gives tt later)))
-      (call_reaches code begin rec sound h n standing unit false ps here.0 to [] [] after here.2)
-      (λ x is. bind_reaches (setting code begin h) n (λ (v : Value) later. Begins to later) _ x after.left (call rec h unit ps [] after) (λ result later. Gives tt later) is
-      (λ v later. record { holds = stays (setting code begin h) _ later.left }))))
-  call_meant arguments (MeantData at shape) from to st here = absurd here
-  call_meant arguments (MeantConstant w) from to st here = absurd here
-  call_meant arguments (MeantEvent e) from to st here = absurd here
-  call_meant arguments (MeantBuiltin b) from to st here = absurd here
-  call_meant arguments MeantNothing from to st here = absurd here
+  pub call_meant : (arguments : Expressions) (receivers : List Reference) (m : Meant) (from to : ℕ) (st : State) → CalledAt code (site_of h) arguments receivers m from to
+      → DoneAt to [] [] (Begins from st) st.left (called rec h m arguments receivers st)
+  call_meant arguments receivers (MeantBlock unit) from to st here =
+      passed_reaches code begin rec sound h n standing OfNothing _ unit (inputs_at h.set unit) arguments from here.0 [] [] st
+      (λ ps st1. bind (spots rec h receivers st1) (λ at st2. bind (call rec h unit ps at st2) (λ result st3. Gives tt st3))) here.2
+      (λ ps over st1 are. assigned_reaches _ unit (outputs_at h.set unit) receivers here.0 here.1 over st1 (λ at st2. bind (call rec h unit ps at st2) (λ result st3. Gives tt st3)) here.3
+      (λ at top st2 assigned. bind_reaches (setting code begin h) n (λ (v : Value) later. Begins to later) _ (Moves (core_at here.1 top [] n st2)) st2.left (call rec h unit ps at st2) (λ result st3. Gives tt st3)
+      (call_reaches code begin rec sound h n standing unit false ps at here.1 to [] over top [] st2 here.4 are assigned) (λ v later. record { holds = stays (setting code begin h) _ later.left })))
+  call_meant arguments receivers (MeantData at shape) from to st here = absurd here
+  call_meant arguments receivers (MeantConstant w) from to st here = absurd here
+  call_meant arguments receivers (MeantEvent e) from to st here = absurd here
+  call_meant arguments receivers (MeantBuiltin b) from to st here = absurd here
+  call_meant arguments receivers MeantNothing from to st here = absurd here

@@ -16,12 +16,12 @@ use Rattle.hal_values.specs.declared.value.Value.{Value}
 use Rattle.hal_values.specs.declared.value.Value.TheVariants as value
 use Rattle.hal_states.specs.Spots.{Spot, Own, Held, further}
 use Rattle.hal_meaning.specs.Bodies.{Body}
-use Rattle.hal_meaning.specs.Calls.{parameter_named, inputs_of, outputs_of, is_function}
+use Rattle.hal_meaning.specs.Calls.{Parameter, parameter_named, inputs_of, outputs_of, is_function}
 use Rattle.hal_meaning.specs.ReportNames.{first_place}
 use Rattle.hal_meaning.specs.Sets.{body_at}
-use Rattle.hal_meaning.specs.Elements.{Shape, chosen, offset}
+use Rattle.hal_meaning.specs.Elements.{Shape, chosen, offset, kinds_of}
 use Rattle.hal_meaning.specs.Variables as tree
-use Rattle.hal_meaning.specs.Variables.{dimensions_of, is_arrayed, Meant, MeantData, MeantConstant, MeantEvent, MeantBlock, MeantBuiltin, MeantNothing, name_meant, kind_of_first, is_whole}
+use Rattle.hal_meaning.specs.Variables.{dimensions_of, is_arrayed, Meant, MeantData, MeantConstant, MeantEvent, MeantBlock, MeantBuiltin, MeantNothing, name_meant, spot_named, kind_of_first, is_whole}
 use Rattle.hal_meaning.specs.Expressions.{literal_value, is_condition, are_conditions, becomes_condition, exponent_of, operation_of_relation, operation_of_sign, operation_of_conversion, is_size, size_argument, inputs_at, sizes_named, copies_of, spoken}
 use Rattle.hal_code.specs.declared.choice.Choice.TheVariants as choice
 use Rattle.hal_code.specs.declared.instr.Instr.{Instr}
@@ -30,9 +30,11 @@ use Rattle.hal_code.specs.declared.operand.Places.{Places}
 use Rattle.hal_code.specs.declared.operand.Places.TheVariants as places
 use Rattle.hal_code.specs.declared.row.Block.{Block}
 use Rattle.hal_code.specs.declared.row.Dimension.{Dimension}
+use Rattle.hal_code.specs.declared.row.Target.{Target}
 use Rattle.hal_code.specs.declared.row.Target.TheVariants as target
 use Rattle.hal_code.specs.declared.row.View.{View}
 use Rattle.hal_code.specs.Addressing.{spot_of}
+use Rattle.hal_code.specs.Images as machine
 use Rattle.hal_agreement.specs.Codes.{Code}
 use Rattle.hal_agreement.specs.Sites.{Site, here_at}
 
@@ -58,15 +60,15 @@ two op = instr.Op2 (choice.Known op)
 abbrev pub dimension_of : tree.Dimension → Dimension
 dimension_of d = record { size = d.size; stride = d.stride }
 
--- a view of cells of this kind in these dimensions, which begins at this spot while the own places hold this
-pub record IsViewed (view : View) (all : List tree.Dimension) (held : List Held) (kind : Kind) (at : Spot) : Type 0 where
+-- a view in these dimensions, which begins at this spot while the own places hold this, and what it gives
+pub record IsViewed (view : View) (all : List tree.Dimension) (held : List Held) (given : Target) (at : Spot) : Type 0 where
   pub dimensions : view.dimensions ≡ map dimension_of all
-  pub target : view.target ≡ target.Cell kind
+  pub target : view.target ≡ given
   pub base : spot_of view.base held ≡ at
 
 -- a view of one cell
 abbrev pub IsPlain : View → List Held → Kind → Spot → Type 0
-IsPlain view held kind at = IsViewed view [] held kind at
+IsPlain view held kind at = IsViewed view [] held (target.Cell kind) at
 
 -- CELL with such a view
 pub record AddressAt (code : Code) (held : List Held) (kind : Kind) (at : Spot) (from : ℕ) : Type 0 where
@@ -76,19 +78,19 @@ pub record AddressAt (code : Code) (held : List Held) (kind : Kind) (at : Spot) 
   pub row : slice_get code.image.views number ≡ Some view
   pub plain : IsPlain view held kind at
 
--- CELL with a view of these dimensions, behind the code of a subscript for each. What this code calls may change what the own places hold, and the view begins at
--- the same spot whatever they hold
-pub record ElementAt (code : Code) (all : List tree.Dimension) (kind : Kind) (at : Spot) (from : ℕ) : Type 0 where
+-- the instruction that gives the address of a cell, or that of cells of a shape, by the view with this number
+abbrev pub addresses : Target → ℕ → Instr
+addresses (target.Cell kind) number = instr.Cell number
+addresses (target.Shape shape) number = instr.Whole number
+
+-- CELL or WHOLE with a view of these dimensions, behind the code of a subscript for each. What this code calls may change what the own places hold, and the view
+-- begins where the data begin then
+pub record ElementAt (code : Code) (all : List tree.Dimension) (given : Target) (at : List Held → Spot) (from : ℕ) : Type 0 where
   pub number : ℕ
   pub view : View
-  pub cell : Has code from (instr.Cell number)
+  pub address : Has code from (addresses given number)
   pub row : slice_get code.image.views number ≡ Some view
-  pub viewed : (held : List Held) → IsViewed view all held kind at
-
--- the same of all dimensions that have a subscript; where none has, nothing is called before CELL
-abbrev pub BehindAt : Code → List Held → List tree.Dimension → Kind → Spot → ℕ → Type 0
-BehindAt code held [] kind at from = AddressAt code held kind at from
-BehindAt code held (d ∷ ds) kind at from = ElementAt code (d ∷ ds) kind at from
+  pub viewed : (held : List Held) → IsViewed view all held given (at held)
 
 -- built-in functions without a list
 abbrev pub AloneAt : Code → Builtin → ℕ → ℕ → Type 0
@@ -97,16 +99,30 @@ AloneAt code builtin.Errnum from to = One code from instr.ErrNum to
 AloneAt code builtin.Runtime from to = One code from instr.Now to
 AloneAt code other from to = ⊥
 
--- input parameters are stored from the last to the first, each from the value on the stack: CELL and KEEP
+-- BIND of each ASSIGN parameter, from the last to the first
+abbrev pub BoundAt : Code → Site → ℕ → List Naming → ℕ → ℕ → Type 0
+BoundAt code site unit [] from to = from ≡ to
+BoundAt code site unit (name ∷ names) from to =
+    (middle : ℕ) × BoundAt code site unit names from middle × One code middle (instr.Bind (first_place site.places (parameter_named site.set unit name).number)) to
+
+-- the one code or the other
+abbrev pub EitherAt : Bool → (ℕ → ℕ → Type 0) → (ℕ → ℕ → Type 0) → ℕ → ℕ → Type 0
+EitherAt true one other from to = one from to
+EitherAt false one other from to = other from to
+
+-- an input parameter is stored: COPY of the cells on the stack where it is an array or a structure, and else CELL and KEEP of the value
+abbrev pub ParameterAt : Code → Site → Parameter → ℕ → ℕ → Type 0
+ParameterAt code site parameter from to =
+    EitherAt (is_whole parameter.shape) (λ begin end. One code begin (instr.Copy (first_place site.places parameter.number)) end)
+    (λ begin end. ((held : List Held) → AddressAt code held (kind_of_first parameter.shape.components) (Own (first_place site.places parameter.number)) begin) × One code (suc begin) instr.Keep end) from to
+
+-- input parameters are stored from the last to the first
 abbrev pub ParametersAt : Code → Site → ℕ → List Naming → ℕ → ℕ → Type 0
 ParametersAt code site unit [] from to = from ≡ to
-ParametersAt code site unit (name ∷ names) from to =
-    (middle : ℕ) × ParametersAt code site unit names from middle
-    × ((held : List Held) → AddressAt code held (kind_of_first (parameter_named site.set unit name).shape.components) (Own (first_place site.places (parameter_named site.set unit name).number)) middle)
-    × One code (suc middle) instr.Keep to
+ParametersAt code site unit (name ∷ names) from to = (middle : ℕ) × ParametersAt code site unit names from middle × ParameterAt code site (parameter_named site.set unit name) middle to
 
--- CALL of the unit with this number, behind its arguments: its input parameters are stored, and then it is called. It has no ASSIGN parameters, and
--- gives a value or none
+-- CALL of the unit with this number, behind its arguments: the references of its ASSIGN parameters are kept, its input parameters are stored, and then it is called.
+-- It gives a value or none
 pub record CallAt (code : Code) (site : Site) (unit : ℕ) (function : Bool) (from to : ℕ) : Type 0 where
   pub number : ℕ
   pub body : Body
@@ -115,12 +131,13 @@ pub record CallAt (code : Code) (site : Site) (unit : ℕ) (function : Bool) (fr
   pub found : body_at site.set unit ≡ Some body
   pub block : slice_get code.image.blocks number ≡ Some row
   pub gives : is_function body.head ≡ function
-  pub outputs : outputs_of body.head ≡ []
+  pub bound : ℕ
   pub middle : ℕ
-  pub parameters : ParametersAt code site body.number (inputs_of body.head) from middle
+  pub references : BoundAt code site body.number (outputs_of body.head) from bound
+  pub parameters : ParametersAt code site body.number (inputs_of body.head) bound middle
   pub call : One code middle (instr.Call number) to
 
--- the value of what a name means, without subscripts; of calls only those without ASSIGN arguments are placed yet
+-- the value of what a name means, without subscripts
 abbrev pub ValueAt : Code → Site → List Naming → List Held → Meant → ℕ → ℕ → Type 0
 ValueAt code site path held (MeantData at shape) from to =
     AddressAt code held (kind_of_first (chosen path shape.components)) (further (offset path shape.components) at) from × One code (suc from) instr.Fetch to
@@ -134,26 +151,31 @@ ValueAt code site path held MeantNothing from to = ⊥
 abbrev pub NameAt : Code → Site → List ℕ → List Naming → ℕ → ℕ → Type 0
 NameAt code site name path from to = (held : List Held) → ValueAt code site path held (name_meant (here_at site) name held) from to
 
--- the one code or the other
-abbrev pub EitherAt : Bool → (ℕ → ℕ → Type 0) → (ℕ → ℕ → Type 0) → ℕ → ℕ → Type 0
-EitherAt true one other from to = one from to
-EitherAt false one other from to = other from to
-
 -- the address of the data that a subscript without a mark chooses, of which the code is given: it is a place of the array of these sizes where there is one
-abbrev pub PlaceAt : Code → List Held → (ℕ → ℕ → Type 0) → Kind → Spot → List ℕ → ℕ → ℕ → Type 0
-PlaceAt code held place kind at [] from to = AddressAt code held kind at from × (suc from ≡ to)
-PlaceAt code held place kind at (n ∷ ns) from to = (middle : ℕ) × place from middle × (ns ≡ []) × ElementAt code (dimensions_of (n ∷ ns)) kind at middle × (suc middle ≡ to)
+abbrev pub PlaceAt : Code → (ℕ → ℕ → Type 0) → Target → (List Held → Spot) → List ℕ → ℕ → ℕ → Type 0
+PlaceAt code place given at [] from to = ElementAt code [] given at from × (suc from ≡ to)
+PlaceAt code place given at (n ∷ ns) from to = (middle : ℕ) × place from middle × (ns ≡ []) × ElementAt code (dimensions_of (n ∷ ns)) given at middle × (suc middle ≡ to)
 
 -- subscripts without a mark, of which the code is given, are those of an array of these sizes where there is one
 abbrev pub ArrayAt : (ℕ → ℕ → Type 0) → List ℕ → ℕ → ℕ → Type 0
 ArrayAt places [] from to = from ≡ to
 ArrayAt places (n ∷ ns) from to = places from to
 
+-- the dimensions of an array that its subscripts speak of: those without a mark may be none
+abbrev pub array_spoken : Bool → Subscripts → List tree.Dimension → List tree.Dimension
+array_spoken true components ds = spoken components ds
+array_spoken false components ds = ds
+
+-- data that a name means, of whose address the code is given
+abbrev pub DataAt : (Shape → ℕ → ℕ → Type 0) → Meant → ℕ → ℕ → Type 0
+DataAt address (MeantData at shape) from to = address shape from to
+DataAt address other from to = ⊥
+
 -- what a name means, with a subscript: the code of the address that its copies and its array choose is given, and that of its component. The value is read
 -- between them, as what is no data is given before its component
-abbrev pub SubscriptedAt : Code → Site → List Naming → List Held → (Spot → Shape → ℕ → ℕ → Type 0) → (Bool → ℕ → ℕ → Type 0) → Meant → ℕ → ℕ → Type 0
+abbrev pub SubscriptedAt : Code → Site → List Naming → List Held → (Shape → ℕ → ℕ → Type 0) → (Bool → ℕ → ℕ → Type 0) → Meant → ℕ → ℕ → Type 0
 SubscriptedAt code site path held address component (MeantData at shape) from to =
-    (middle : ℕ) × address at shape from middle × Has code middle instr.Fetch × component (is_arrayed (sizes_named path shape)) (suc middle) to
+    (middle : ℕ) × address shape from middle × Has code middle instr.Fetch × component (is_arrayed (sizes_named path shape)) (suc middle) to
 SubscriptedAt code site path held address component other from to = (middle : ℕ) × ValueAt code site path held other from middle × component false middle to
 
 -- PICK of such places
@@ -243,33 +265,49 @@ abbrev mutual
       (middle : ℕ) × (last : ℕ) × ExpressionAt code site left from middle × ExpressionAt code site right middle last × One code last (two op) to
   BuiltAt code site other arguments from to = ⊥
 
-  -- arguments for input parameters of one element each, from left to right
+  -- arguments for input parameters, from left to right: of an array or a structure the address of its cells is left, and else its value
   pub ArgumentsAt : Code → Site → ℕ → List Naming → Expressions → ℕ → ℕ → Type 0
   ArgumentsAt code site unit [] NoExpressions from to = from ≡ to
   ArgumentsAt code site unit (name ∷ names) (MoreExpressions first others) from to =
-      (middle : ℕ) × (is_whole (parameter_named site.set unit name).shape ≡ false) × ExpressionAt code site first from middle × ArgumentsAt code site unit names others middle to
+      (middle : ℕ)
+      × EitherAt (is_whole (parameter_named site.set unit name).shape) (λ begin end. WholeArgumentAt code site (kinds_of (parameter_named site.set unit name).shape) first begin end)
+      (λ begin end. ExpressionAt code site first begin end) from middle
+      × ArgumentsAt code site unit names others middle to
   ArgumentsAt code site unit names arguments from to = ⊥
+
+  -- an argument for a parameter with elements of these kinds
+  pub WholeArgumentAt : Code → Site → List Kind → Expression → ℕ → ℕ → Type 0
+  WholeArgumentAt code site kinds (Referred reference) from to = WholeAt code site kinds reference from to
+  WholeArgumentAt code site kinds other from to = ⊥
+
+  -- the address of the data that a reference chooses: of cells of a shape with these kinds
+  pub WholeAt : Code → Site → List Kind → Reference → ℕ → ℕ → Type 0
+  WholeAt code site kinds (Refers place name path subscript) from to =
+      (shape : ℕ) × (machine.kinds_of code.image shape ≡ kinds)
+      × ((held : List Held)
+      → DataAt (λ form begin end. ChosenAt code site (target.Shape shape) path subscript (spot_named (here_at site) name) form begin end) (name_meant (here_at site) name held) from to)
 
   -- a reference
   pub ReferenceAt : Code → Site → Reference → ℕ → ℕ → Type 0
   ReferenceAt code site (Refers place name path Unsubscripted) from to = NameAt code site name path from to
   ReferenceAt code site (Refers place name path subscript) from to =
       (held : List Held)
-      → SubscriptedAt code site path held (λ at shape begin end. ChosenAt code site held path subscript at shape begin end) (λ arrayed begin end. ComponentAt code site arrayed subscript begin end) (name_meant (here_at site) name held) from to
+      → SubscriptedAt code site path held (λ shape begin end. ChosenAt code site (target.Cell (kind_of_first (chosen path shape.components))) path subscript (spot_named (here_at site) name) shape begin end) (λ arrayed begin end. ComponentAt code site arrayed subscript begin end) (name_meant (here_at site) name held) from to
 
-  -- the address of the one element that copy and array subscripts choose; those without a mark are the array's where no others are
-  pub ChosenAt : Code → Site → List Held → List Naming → Subscript → Spot → Shape → ℕ → ℕ → Type 0
-  ChosenAt code site held path Unsubscripted at shape from to =
-      AddressAt code held (kind_of_first (chosen path shape.components)) (further (offset path shape.components) at) from × (suc from ≡ to)
-  ChosenAt code site held path (ByName place name) at shape from to =
-      PlaceAt code held (λ begin end. NameAt code site name.name [] begin end) (kind_of_first (chosen path shape.components)) (further (offset path shape.components) at) (sizes_named path shape) from to
-  ChosenAt code site held path (ByInteger place mark number) at shape from to =
-      PlaceAt code held (λ begin end. One code begin (instr.Int (pos number)) end) (kind_of_first (chosen path shape.components)) (further (offset path shape.components) at) (sizes_named path shape) from to
-  ChosenAt code site held path (ByParts place copies arrays components) at shape from to =
+  -- the address of the data that copy and array subscripts choose, one place of each dimension; those without a mark are the array's where no others are, and a whole
+  -- array has none. Where the data of the name begin is given, whatever the own places hold
+  pub ChosenAt : Code → Site → Target → List Naming → Subscript → (List Held → Spot) → Shape → ℕ → ℕ → Type 0
+  ChosenAt code site given path Unsubscripted at shape from to = ElementAt code [] given (λ held. further (offset path shape.components) (at held)) from × (suc from ≡ to)
+  ChosenAt code site given path (ByName place name) at shape from to =
+      PlaceAt code (λ begin end. NameAt code site name.name [] begin end) given (λ held. further (offset path shape.components) (at held)) (sizes_named path shape) from to
+  ChosenAt code site given path (ByInteger place mark number) at shape from to =
+      PlaceAt code (λ begin end. One code begin (instr.Int (pos number)) end) given (λ held. further (offset path shape.components) (at held)) (sizes_named path shape) from to
+  ChosenAt code site given path (ByParts place copies arrays components) at shape from to =
       (middle : ℕ) × (last : ℕ) × IndexesAt code site (spoken copies (copies_of shape)) copies from middle
-      × EitherAt (is_none arrays) (λ begin end. ArrayAt (λ first behind. IndexesAt code site (dimensions_of (sizes_named path shape)) components first behind) (sizes_named path shape) begin end)
+      × EitherAt (is_none arrays) (λ begin end. ArrayAt (λ first behind. IndexesAt code site (spoken components (dimensions_of (sizes_named path shape))) components first behind) (sizes_named path shape) begin end)
       (λ begin end. IndexesAt code site (dimensions_of (sizes_named path shape)) arrays begin end) middle last
-      × BehindAt code held (spoken copies (copies_of shape) ++ dimensions_of (sizes_named path shape)) (kind_of_first (chosen path shape.components)) (further (offset path shape.components) at) last × (suc last ≡ to)
+      × ElementAt code (spoken copies (copies_of shape) ++ array_spoken (is_none arrays) components (dimensions_of (sizes_named path shape))) given (λ held. further (offset path shape.components) (at held)) last
+      × (suc last ≡ to)
 
   -- subscripts of dimensions, one place for each; those that choose several have no code
   pub IndexesAt : Code → Site → List tree.Dimension → Subscripts → ℕ → ℕ → Type 0

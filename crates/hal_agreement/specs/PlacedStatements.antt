@@ -9,17 +9,18 @@ use Rattle.hal_grammar.specs.Units.{Head, Function, HasKind}
 use Rattle.hal_operations.specs.declared.operation.Op1.TheVariants as op1
 use Rattle.hal_values.specs.declared.value.Kind.{Kind}
 use Rattle.hal_values.specs.declared.value.Value.TheVariants as value
-use Rattle.hal_states.specs.Spots.{Spot, Held, further}
+use Rattle.hal_states.specs.Spots.{Held, further}
 use Rattle.hal_meaning.specs.Bodies.{Body}
 use Rattle.hal_meaning.specs.Sets.{body_at}
-use Rattle.hal_meaning.specs.Expressions.{inputs_at, sizes_named}
-use Rattle.hal_meaning.specs.Elements.{Shape, chosen, offset}
+use Rattle.hal_meaning.specs.Expressions.{inputs_at, outputs_at, sizes_named}
+use Rattle.hal_meaning.specs.Calls.{parameter_named}
+use Rattle.hal_meaning.specs.Elements.{Shape, chosen, offset, kinds_of}
 use Rattle.hal_meaning.specs.Marks.{after_statement, after_alternative, handling_in}
 use Rattle.hal_meaning.specs.Events.{event_named}
 use Rattle.hal_meaning.specs.RealTime.{side_of, stated_at_mark}
 use Rattle.hal_meaning.specs.Statements as tree
 use Rattle.hal_meaning.specs.Statements.{components_in, is_meant, label_name, loop_place, end_place, update_groups, kind_named}
-use Rattle.hal_meaning.specs.Variables.{Meant, MeantData, MeantBlock, name_meant, kind_of_first, is_arrayed}
+use Rattle.hal_meaning.specs.Variables.{Meant, MeantData, MeantBlock, name_meant, spot_named, kind_of_first, is_arrayed}
 use Rattle.hal_code.specs.declared.choice.Choice.TheVariants as choice
 use Rattle.hal_code.specs.declared.instr.Instr.{Instr}
 use Rattle.hal_code.specs.declared.operand.Delay.TheVariants as delay
@@ -30,12 +31,13 @@ use Rattle.hal_code.specs.declared.operand.Places.TheVariants as places
 use Rattle.hal_code.specs.declared.operand.Response.{Response}
 use Rattle.hal_code.specs.declared.operand.Response.TheVariants as response
 use Rattle.hal_code.specs.Controlling as machine
+use Rattle.hal_code.specs.declared.row.Target.TheVariants as targets
 use Rattle.hal_code.specs.declared.instr.Instr.TheVariants as instr
 use Rattle.hal_agreement.specs.Codes.{Code}
 use Rattle.hal_agreement.specs.Constants.{IsConstant}
 use Rattle.hal_agreement.specs.Sites.{Site, here_at, group_site}
 use Rattle.hal_agreement.specs.PlacedTimes.{PauseAt, NamedAt, ScheduledAt, PrioritizedAt}
-use Rattle.hal_agreement.specs.PlacedExpressions.{Has, One, AddressAt, CallAt, NameAt, ExpressionAt, ArgumentsAt, ChosenAt, PartAt, places_of}
+use Rattle.hal_agreement.specs.PlacedExpressions.{Has, One, AddressAt, CallAt, NameAt, ExpressionAt, ArgumentsAt, WholeAt, ChosenAt, PartAt, places_of}
 use Rattle.hal_agreement.specs.PlacedGroups.{KeepsAt, HoldsAt, CaseAt, BoundsAt, NextAt}
 
 -- a group that is open where a statement stands: its labels, where EXIT leads, and where REPEAT does, of a loop
@@ -106,15 +108,15 @@ ReceivedAt code site false (ByInteger place mark number) from to =
 ReceivedAt code site arrayed subscript from to = StoredAt code site (components_in arrayed subscript) from to
 
 -- data that a name means get the value on the stack; the code of the address that the subscript chooses is given
-abbrev pub AddressedAt : Code → Site → List Naming → Subscript → (Spot → Shape → ℕ → ℕ → Type 0) → Meant → ℕ → ℕ → Type 0
+abbrev pub AddressedAt : Code → Site → List Naming → Subscript → (Shape → ℕ → ℕ → Type 0) → Meant → ℕ → ℕ → Type 0
 AddressedAt code site path subscript address (MeantData at shape) from to =
-    (middle : ℕ) × address at shape from middle × ReceivedAt code site (is_arrayed (sizes_named path shape)) subscript middle to
+    (middle : ℕ) × address shape from middle × ReceivedAt code site (is_arrayed (sizes_named path shape)) subscript middle to
 AddressedAt code site path subscript address other from to = ⊥
 
 abbrev pub ReceiverAt : Code → Site → Reference → ℕ → ℕ → Type 0
 ReceiverAt code site (Refers place name path Unsubscripted) from to = (held : List Held) → KeptAt code path held (name_meant (here_at site) name held) from to
 ReceiverAt code site (Refers place name path subscript) from to =
-    (held : List Held) → AddressedAt code site path subscript (λ at shape begin end. ChosenAt code site held path subscript at shape begin end) (name_meant (here_at site) name held) from to
+    (held : List Held) → AddressedAt code site path subscript (λ shape begin end. ChosenAt code site (targets.Cell (kind_of_first (chosen path shape.components))) path subscript (spot_named (here_at site) name) shape begin end) (name_meant (here_at site) name held) from to
 
 -- receivers get it from left to right, each but the last one from a copy
 abbrev pub ReceiversAt : Code → Site → List Reference → ℕ → ℕ → Type 0
@@ -231,10 +233,19 @@ abbrev pub ResultAt : Code → Option Body → ℕ → ℕ → Type 0
 ResultAt code None from to = from ≡ to
 ResultAt code (Some b) from to = ResultBy code b.head from to
 
--- CALL of a PROCEDURE without ASSIGN arguments
-abbrev pub CalledAt : Code → Site → Expressions → Meant → ℕ → ℕ → Type 0
-CalledAt code site arguments (MeantBlock unit) from to = (middle : ℕ) × ArgumentsAt code site unit (inputs_at site.set unit) arguments from middle × CallAt code site unit false middle to
-CalledAt code site arguments other from to = ⊥
+-- ASSIGN arguments, from left to right: the address of the cells of each is left, which are of the kinds of its parameter
+abbrev pub AssignedAt : Code → Site → ℕ → List Naming → List Reference → ℕ → ℕ → Type 0
+AssignedAt code site unit [] [] from to = from ≡ to
+AssignedAt code site unit (name ∷ names) (receiver ∷ receivers) from to =
+    (middle : ℕ) × WholeAt code site (kinds_of (parameter_named site.set unit name).shape) receiver from middle × AssignedAt code site unit names receivers middle to
+AssignedAt code site unit names receivers from to = ⊥
+
+-- CALL of a PROCEDURE: the arguments of its input parameters, its ASSIGN arguments, and the call
+abbrev pub CalledAt : Code → Site → Expressions → List Reference → Meant → ℕ → ℕ → Type 0
+CalledAt code site arguments receivers (MeantBlock unit) from to =
+    (middle : ℕ) × (last : ℕ) × ArgumentsAt code site unit (inputs_at site.set unit) arguments from middle × AssignedAt code site unit (outputs_at site.set unit) receivers middle last
+    × CallAt code site unit false last to
+CalledAt code site arguments receivers other from to = ⊥
 
 -- receivers of READ: for each INPUT of its kind, behind which control goes to the next one where there is no datum, and its store
 abbrev pub ReadsAt : Code → Site → ℕ → List Reference → ℕ → ℕ → Type 0
@@ -304,7 +315,7 @@ abbrev mutual
   BasicAt code site exits m labels (Return place None) from to = ReturnAt code exits.leaving from to
   BasicAt code site exits m labels (Return place (Some tree)) from to =
       (middle : ℕ) × (late : ℕ) × ExpressionAt code site tree from middle × ResultAt code (body_at site.set site.unit) middle late × (exits.leaving ≡ ByResult) × One code late instr.Return to
-  BasicAt code site exits m labels (Call place name arguments []) from to = (held : List Held) → CalledAt code site arguments (name_meant (here_at site) name.name held) from to
+  BasicAt code site exits m labels (Call place name arguments receivers) from to = (held : List Held) → CalledAt code site arguments receivers (name_meant (here_at site) name.name held) from to
   BasicAt code site exits m labels (Read place channel receivers) from to = (number : ℕ) × ChannelAt site channel number × ReadsAt code site number receivers from to
   BasicAt code site exits m labels (Event e) from to = One code from (changes e.action (event_named site.set.phrases site.block e.name.name)) to
   BasicAt code site exits m labels (Cancel place names) from to = NamedOrOwnAt code site instr.Cancel names from to
@@ -327,7 +338,6 @@ abbrev mutual
   BasicAt code site exits m labels (OnErrorResponse place s r e) from to =
       (group : ℕ) × (number : ℕ) × (changes : EventChange) × (event : ℕ) × Selects s group number × (machine.side_of changes event ≡ side_of (here_at site) e) × One code from (sets group number (response_of r) changes event 0) to
   BasicAt code site exits m labels (OffError place s) from to = (group : ℕ) × (number : ℕ) × Selects s group number × One code from (instr.Off group number) to
-  BasicAt code site exits m labels other from to = ⊥
 
   -- what stands after ELSE; the consequence before it ends at the first address, and the condition leads to the second one where it fails
   pub AlternativeAt : Code → Site → Exits → ℕ → Alternative → ℕ → ℕ → ℕ → Type 0

@@ -18,8 +18,8 @@ use Rattle.hal_limits.specs.Limits.{IsWithin, BreaksLimit}
 use Rattle.hal_calls.specs.Programs.{has_program}
 use Rattle.hal_parse.specs.Parsed.{IsFileOf}
 use Rattle.hal_compile.specs.Compiling.{Compiles, FilesBreak, IsChecked, IsUncompiled, linked_in}
-use Rattle.hal_compile.specs.Reading.{IsRead, AreRead, TextBreaks, TextsBreak}
-use Rattle.hal_compile.specs.Texts.{Breaks, HasMeaning}
+use Rattle.hal_compile.specs.Reading.{IsRead, AreRead, HasWords, HaveWords, TextBreaks, TextsBreak}
+use Rattle.hal_compile.specs.Texts.{Breaks, ExceedsWords, HasMeaning}
 
 abbrev token_at : Word → Place → Token
 token_at word place = record { word = word; place = place }
@@ -84,6 +84,20 @@ all_break_nothing number (text ∷ texts) [] refusal read breaks = absurd read
 all_break_nothing number (text ∷ texts) (file ∷ files) refusal read (inl first) = read_breaks_nothing number text file refusal read.0 first
 all_break_nothing number (text ∷ texts) (file ∷ files) refusal read (inr (other, also, later)) = all_break_nothing (number + 1) texts files refusal read.1 later
 
+-- texts have one number of words
+one_count : (number : ℕ) (text : List ℕ) (m n : ℕ) → HasWords number text m → HasWords number text n → m ≡ n
+one_count number text m n one other =
+    one.counted ∙ ap (λ (tokens : List Token). length tokens) (one_cut number text one.tokens other.tokens one.cut other.cut) ∙ sym other.counted
+
+same_count : (number : ℕ) (texts : List (List ℕ)) (m n : ℕ) → HaveWords number texts m → HaveWords number texts n → m ≡ n
+same_count number [] m n one other = one ∙ sym other
+same_count number (text ∷ texts) m n (first, later, is, has, have) (also, behind, sum, too, all) =
+    omega (arith, is, sum, one_count number text first also has too, same_count (number + 1) texts later behind have all)
+
+few_or_many : (texts : List (List ℕ)) (files : List File) (refusal : Refusal) → HasMeaning texts files → ExceedsWords texts refusal → ⊥
+few_or_many texts files refusal has exceeds =
+    omega (arith, has.few_words.few, exceeds.exceeded, same_count 0 texts has.few_words.count exceeds.count has.few_words.counted exceeds.counted)
+
 -- limits that are kept are not passed
 within_limits : (ps : List Phrase) (vs : Known) (rule : ℕ) → IsWithin ps vs → BreaksLimit ps vs rule → ⊥
 within_limits ps vs rule within (inl (is, inl cells)) = omega (arith, within.cells, cells)
@@ -104,15 +118,17 @@ both_ways b is not = cc
 
 unbroken : (files : List File) (image : _) (refusal : Refusal) → IsChecked (phrases_of files) → Compiles files image → FilesBreak files refusal → ⊥
 unbroken files image refusal checked compiled (inl breaks) = checked.lawful.typed.named refusal.rule.0 refusal.place breaks
-unbroken files image refusal checked compiled (inr (inl breaks)) = checked.lawful.typed.typed refusal.rule.0 refusal.place breaks
-unbroken files image refusal checked compiled (inr (inr (inl breaks))) = checked.lawful.locked refusal.rule.0 refusal.place breaks
-unbroken files image refusal checked compiled (inr (inr (inr (inl (inl breaks))))) = checked.called refusal.rule.0 refusal.place breaks
-unbroken files image refusal checked compiled (inr (inr (inr (inl (inr lacks))))) = both_ways (has_program (phrases_of files)) checked.program lacks.lacks
-unbroken files image refusal checked compiled (inr (inr (inr (inr (inl exceeds))))) = within_limits (phrases_of files) (known (phrases_of files)) refusal.rule.0 checked.within exceeds.exceeded
-unbroken files image refusal checked compiled (inr (inr (inr (inr (inr lacks))))) = compiled_lacks_none files image refusal.place compiled lacks.uncompiled
+unbroken files image refusal checked compiled (inr (inl breaks)) = checked.lawful.matched refusal.rule.0 refusal.place breaks
+unbroken files image refusal checked compiled (inr (inr (inl breaks))) = checked.lawful.typed.typed refusal.rule.0 refusal.place breaks
+unbroken files image refusal checked compiled (inr (inr (inr (inl breaks)))) = checked.lawful.locked refusal.rule.0 refusal.place breaks
+unbroken files image refusal checked compiled (inr (inr (inr (inr (inl (inl breaks)))))) = checked.called refusal.rule.0 refusal.place breaks
+unbroken files image refusal checked compiled (inr (inr (inr (inr (inl (inr lacks)))))) = both_ways (has_program (phrases_of files)) checked.program lacks.lacks
+unbroken files image refusal checked compiled (inr (inr (inr (inr (inr (inl exceeds)))))) = within_limits (phrases_of files) (known (phrases_of files)) refusal.rule.0 checked.within exceeds.exceeded
+unbroken files image refusal checked compiled (inr (inr (inr (inr (inr (inr lacks)))))) = compiled_lacks_none files image refusal.place compiled lacks.uncompiled
 
 pub meaning_breaks_nothing : (texts : List (List ℕ)) (files : List File) (refusal : Refusal) → HasMeaning texts files → Breaks texts refusal → ⊥
 meaning_breaks_nothing texts files refusal has (inl breaks) = all_break_nothing 0 texts files refusal has.read breaks
-meaning_breaks_nothing texts files refusal has (inr breaks) =
+meaning_breaks_nothing texts files refusal has (inr (inl exceeds)) = few_or_many texts files refusal has exceeds
+meaning_breaks_nothing texts files refusal has (inr (inr breaks)) =
     unbroken files has.image refusal has.checked has.compiled
     (subst (λ (fs : List File). FilesBreak fs refusal) (one_list 0 texts breaks.files files breaks.read has.read) breaks.broken)

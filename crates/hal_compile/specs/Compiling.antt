@@ -9,6 +9,7 @@ use Rattle.hal_phrases.specs.Phrases.{Phrase}
 use Rattle.hal_phrases.specs.GatheredUnits.{phrases_of}
 use Rattle.hal_scope.specs.Rules.{Row, IsSound, rows}
 use Rattle.hal_scope.specs.Rules as scope
+use Rattle.hal_templates.specs.Rules.{template_rows}
 use Rattle.hal_types.specs.Rules.{type_rows}
 use Rattle.hal_locks.specs.Rules.{lock_rows}
 use Rattle.hal_calls.specs.Programs.{has_program}
@@ -33,8 +34,9 @@ pub record IsTyped (ps : List Phrase) : Type 0 where
   pub named : IsSound rows ps
   pub typed : IsSound type_rows ps
 
--- nor one of locks
+-- nor one of templates or locks
 pub record IsLawful (ps : List Phrase) : Type 0 where
+  pub matched : IsSound template_rows ps
   pub typed : IsTyped ps
   pub locked : IsSound lock_rows ps
 
@@ -81,7 +83,7 @@ IsImageOf files (Err place) = IsUncompiled files place
 abbrev pub BreaksRow : List Row → List Phrase → Refusal → Type 0
 BreaksRow table ps refusal = scope.Breaks table ps refusal.rule.0 refusal.place
 
--- a rule of limits, told where no rule of names, types or locks is broken
+-- a rule of limits, told where no rule of names, templates, types or locks is broken
 pub record ExceedsLimit (ps : List Phrase) (refusal : Refusal) : Type 0 where
   pub lawful : IsLawful ps
   pub exceeded : BreaksLimit ps (known ps) refusal.rule.0
@@ -102,11 +104,11 @@ pub record LacksImage (files : List File) (refusal : Refusal) : Type 0 where
   pub rule_is : refusal.rule.0 ≡ 410
   pub uncompiled : IsUncompiled files refusal.place
 
--- the files break a rule of names, of types, of locks, of calls, of limits, or 410
+-- the files break a rule of names, of templates, of types, of locks, of calls, of limits, or 410
 abbrev pub FilesBreak : List File → Refusal → Type 0
 FilesBreak files refusal =
-    BreaksRow rows (phrases_of files) refusal ⊎ BreaksRow type_rows (phrases_of files) refusal ⊎ BreaksRow lock_rows (phrases_of files) refusal ⊎ Miscalls (phrases_of files) refusal
-    ⊎ ExceedsLimit (phrases_of files) refusal ⊎ LacksImage files refusal
+    BreaksRow rows (phrases_of files) refusal ⊎ BreaksRow template_rows (phrases_of files) refusal ⊎ BreaksRow type_rows (phrases_of files) refusal ⊎ BreaksRow lock_rows (phrases_of files) refusal
+    ⊎ Miscalls (phrases_of files) refusal ⊎ ExceedsLimit (phrases_of files) refusal ⊎ LacksImage files refusal
 
 abbrev pub FilesBreakBy : List File → Fault → Type 0
 FilesBreakBy files (fault.Broken refusal) = FilesBreak files refusal

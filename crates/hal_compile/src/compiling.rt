@@ -1,11 +1,14 @@
-//! The image of a file, by all checks.
+//! The image of files, by all checks.
 
-ghost use Rattle.std.specs.Prelude.{◌≡◌, ◌∷◌, [], IfErr, IfOk};
+ghost use Rattle.std.specs.Prelude.{◌≡◌, IfErr, IfOk, OnOk, map};
 ghost use Rattle.hal_tree.specs.SeenUnits.{seen_file};
 ghost use Rattle.hal_phrases.specs.GatheredUnits.{phrases_of};
 ghost use Rattle.hal_names.specs.SeenNames.{seen_names};
+ghost use Rattle.hal_scope.specs.Rules.{IsSound};
 ghost use Rattle.hal_constants.specs.Known as facts;
 ghost use Rattle.hal_constants.specs.SeenKnown.{seen_known};
+ghost use Rattle.hal_templates.specs.Faults.{IsMismatchedBy};
+ghost use Rattle.hal_templates.specs.Rules.{template_rows};
 ghost use Rattle.hal_compile.specs.Compiling.{Compiles, FilesBreakBy, IsChecked, IsLawful, IsOfMemory, IsToldAt, OversteppedBy};
 
 use crate::linking::image_in;
@@ -16,11 +19,12 @@ use hal_constants::Known;
 use hal_limits::check_limits;
 use hal_locks::check_locks;
 use hal_names::Names;
+use hal_phrases::phrases_of;
 use hal_scope::resolve;
+use hal_templates::match_templates;
 use hal_tree::File;
 use hal_types::check_types;
-use std::alloc::Global;
-use std::slice::from_ref;
+use std::alloc::{AllocError, Global};
 
 /// The rule that a set without an image breaks.
 const UNCOMPILED: Rule = Rule(410);
@@ -35,14 +39,36 @@ fn uncompiled(place: Place) -> Fault
     })
 }
 
-/// The names of a file that breaks no rule of names, types or locks; or a rule of these that it breaks, at its place; or want of memory.
-#[tactic(auto, using(crate::proofs::Broken::wrong_names, crate::proofs::Broken::wrong_types, crate::proofs::Broken::wrong_locks))]
-fn lawful_names<'a>(alloc: Global, file: &'a File) -> Result<Names<'a>, Fault>
-    ensures names { IfOk result (λ names. seen_names names ≡ phrases_of (seen_file file.now ∷ [])) }
-    ensures lawful { IfOk result (λ names. IsLawful (phrases_of (seen_file file.now ∷ []))) }
-    ensures broken { IfErr result (FilesBreakBy (seen_file file.now ∷ [])) }
+/// The names of files, whatever rules they break.
+fn names_of<'a>(alloc: Global, files: &'a [File]) -> Result<Names<'a>, AllocError>
+    ensures { IfOk result (λ names. seen_names names ≡ phrases_of (map seen_file files.now)) }
 {
-    let names = resolve(alloc, from_ref(file))?;
+    Names::of(alloc, phrases_of(alloc, files)?)
+}
+
+/// Whether files break no rule of templates; or one that they break, at its place; or want of memory.
+#[tactic(auto, using(crate::proofs::Broken::mismatched))]
+fn match_files(alloc: Global, files: &[File]) -> Result<(), Fault>
+    ensures sound { OnOk result (IsSound template_rows (phrases_of (map seen_file files.now))) }
+    ensures broken { IfErr result (IsMismatchedBy (phrases_of (map seen_file files.now))) }
+{
+    let names = match names_of(alloc, files) {
+        Ok(names) => names,
+        Err(error) => return Err(Fault::Memory(error)),
+    };
+    match_templates(alloc, &names)?;
+    Ok(())
+}
+
+/// The names of files that break no rule of templates, names, types or locks; or a rule of these that they break, at its place; or want of memory.
+#[tactic(auto, using(crate::proofs::Broken::wrong_names, crate::proofs::Broken::wrong_templates, crate::proofs::Broken::wrong_types, crate::proofs::Broken::wrong_locks))]
+fn lawful_names<'a>(alloc: Global, files: &'a [File]) -> Result<Names<'a>, Fault>
+    ensures names { IfOk result (λ names. seen_names names ≡ phrases_of (map seen_file files.now)) }
+    ensures lawful { IfOk result (λ names. IsLawful (phrases_of (map seen_file files.now))) }
+    ensures broken { IfErr result (FilesBreakBy (map seen_file files.now)) }
+{
+    match_files(alloc, files)?;
+    let names = resolve(alloc, files)?;
     check_types(alloc, &names)?;
     check_locks(alloc, &names)?;
     Ok(names)
@@ -75,35 +101,35 @@ fn checked_constants(alloc: Global, names: &Names<'_>) -> Result<Known, Fault>
     Ok(known)
 }
 
-/// The image of a file that keeps the rules but perhaps 410, or this rule, at its place; or want of memory.
+/// The image of files that keep the rules but perhaps 410, or this rule, at its place; or want of memory.
 #[tactic(auto, using(crate::proofs::Broken::counted, crate::proofs::Broken::without_image))]
 fn image_checked(
     alloc: Global,
-    file: &File,
+    files: &[File],
     names: &Names<'_>,
     known: &Known,
 ) -> Result<ImageParts, Fault>
-    requires names { seen_names names.now ≡ phrases_of (seen_file file.now ∷ []) }
-    requires constants { seen_known known.now ≡ facts.known (phrases_of (seen_file file.now ∷ [])) }
-    requires checked { IsChecked (phrases_of (seen_file file.now ∷ [])) }
-    ensures compiled { IfOk result (Compiles (seen_file file.now ∷ [])) }
-    ensures broken { IfErr result (FilesBreakBy (seen_file file.now ∷ [])) }
+    requires names { seen_names names.now ≡ phrases_of (map seen_file files.now) }
+    requires constants { seen_known known.now ≡ facts.known (phrases_of (map seen_file files.now)) }
+    requires checked { IsChecked (phrases_of (map seen_file files.now)) }
+    ensures compiled { IfOk result (Compiles (map seen_file files.now)) }
+    ensures broken { IfErr result (FilesBreakBy (map seen_file files.now)) }
 {
-    match image_in(alloc, from_ref(file), names, known) {
+    match image_in(alloc, files, names, known) {
         Ok(Ok(image)) => Ok(image),
         Ok(Err(place)) => Err(uncompiled(place)),
         Err(error) => Err(Fault::Memory(error)),
     }
 }
 
-/// The image of the set of one file, or a rule that it breaks, at its place; or want of memory.
+/// The image of the set of these files, or a rule that it breaks, at its place; or want of memory.
 #[tactic(auto, using(crate::proofs::Broken::overstepped))]
-pub(crate) fn image_of(alloc: Global, file: &File) -> Result<ImageParts, Fault>
-    ensures checked { IfOk result (λ image. IsChecked (phrases_of (seen_file file.now ∷ []))) }
-    ensures compiled { IfOk result (Compiles (seen_file file.now ∷ [])) }
-    ensures broken { IfErr result (FilesBreakBy (seen_file file.now ∷ [])) }
+pub(crate) fn image_of(alloc: Global, files: &[File]) -> Result<ImageParts, Fault>
+    ensures checked { IfOk result (λ image. IsChecked (phrases_of (map seen_file files.now))) }
+    ensures compiled { IfOk result (Compiles (map seen_file files.now)) }
+    ensures broken { IfErr result (FilesBreakBy (map seen_file files.now)) }
 {
-    let names = lawful_names(alloc, file)?;
+    let names = lawful_names(alloc, files)?;
     let known = checked_constants(alloc, &names)?;
-    image_checked(alloc, file, &names, &known)
+    image_checked(alloc, files, &names, &known)
 }

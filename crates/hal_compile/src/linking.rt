@@ -33,7 +33,7 @@ use std::alloc::{AllocError, Global};
 pub const TURN_LIMIT: u16 = 65_535;
 
 /// The beginning of a set.
-const BEGINNING: Place = Place {
+pub(crate) const BEGINNING: Place = Place {
     unit: 0,
     line: 1,
     column: 1,

@@ -20,7 +20,7 @@ use Rattle.hal_gen.specs.StatementCode.{statement_code, basic_code, alternative_
 module _ {T : Type 0} (n : Numbering) (site : Site) (before tested middle code : List Instr) (exits : Exits) (m : ℕ) (labels : List Naming) (r : Result T Uncoded) where
   pub branched : (place : Place) (condition : Expression) (consequence : Statement) (alternative : Alternative)
       → expression_code n site before condition ≡ Ok tested
-      → statement_code n site (tested ++ (instr.JumpNot (suc (length tested) + (statement_size n site consequence + jump_size alternative)) ∷ [])) exits m consequence ≡ Ok middle
+      → statement_code n site (tested ++ (instr.JumpNot (suc (length tested) + (statement_size n site m consequence + jump_size alternative)) ∷ [])) exits m consequence ≡ Ok middle
       → Emits (alternative_code n site middle exits (after_statement m consequence) alternative) r code
       → Emits (basic_code n site before exits m labels (If place condition consequence alternative)) r code
   branched place condition consequence alternative first second third = rw first (rw second third)

@@ -20,7 +20,7 @@ use Rattle.hal_meaning.specs.Access.{Here, tested}
 use Rattle.hal_meaning.specs.Expressions.{apply_two, signed, operation_of_sign, folded, summed, subscripted, data_chosen, component}
 use Rattle.hal_meaning.specs.States.{State, Gives, bind}
 use Rattle.hal_meaning.specs.Tasks.{Meaning}
-use Rattle.hal_meaning.specs.Variables.{MeantConstant, name_meant}
+use Rattle.hal_meaning.specs.Variables.{MeantConstant, name_meant, spot_named}
 use Rattle.hal_agreement.specs.Constants.{IsConstant}
 use Rattle.hal_agreement.specs.Sites.{Site, site_of, here_at}
 use Rattle.hal_agreement.proofs.Expressing.{name_same}
@@ -106,7 +106,7 @@ module _ (site : Site) where
 
   reference_at : (reference : Reference) (b : ℤ) → reference_integer site reference ≡ Some b → IsConstant site (Referred reference) (value.Int b)
   reference_at (Refers place name path Unsubscripted) b is =
-      λ rec h st same. ap (λ m. subscripted rec h path (λ at shape before. data_chosen rec h path Unsubscripted at shape before) (λ arrayed v after. component rec h arrayed Unsubscripted v after) m st)
+      λ rec h st same. ap (λ m. subscripted rec h path (λ shape before. data_chosen rec h path Unsubscripted (spot_named h name) shape before) (λ arrayed v after. component rec h arrayed Unsubscripted v after) m st)
       (means_constant h name st.kept.places b same (constant_given (referent site name) b is))
   reference_at (Refers place name path (ByName at one)) b is = absurd (cc)
   reference_at (Refers place name path (ByInteger at mark number)) b is = absurd (cc)

@@ -1,16 +1,16 @@
 -- Sizes, as the program counts them.
-use Rattle.std.specs.Prelude.{ℕ, suc, ◌+◌, ◌-◌, max, List, [], ◌∷◌, length, map, drop, IfOk, Result, Ok, Err}
-use Rattle.std.proofs.Common.{◌≡◌, ◌≤◌, refl, sym, ap, subst, ◌∙◌, arith}
+use Rattle.std.specs.Prelude.{ℕ, suc, ◌+◌, ◌-◌, max, List, [], ◌∷◌, length, map, drop}
+use Rattle.std.proofs.Common.{◌≡◌, ◌≤◌, refl, ap, subst, ◌∙◌, arith}
 use Rattle.std.proofs.lemmas.List.{drop_all}
-use Rattle.hal_base.specs.declared.refusal.Place.{Place}
 use Rattle.hal_grammar.specs.Leaves.{Naming}
 use Rattle.hal_grammar.specs.Expressions.{Expression, Reference}
-use Rattle.hal_grammar.specs.Statements.{Statement, Basic, If, Alternative}
+use Rattle.hal_grammar.specs.Statements.{Statement}
 use Rattle.hal_tree.specs.Rows.{expressions, statements}
+use Rattle.hal_meaning.specs.Marks.{after_statement}
 use Rattle.hal_agreement.specs.Sites.{Site}
 use Rattle.hal_gen_expr.specs.Numbering.{Numbering}
 use Rattle.hal_gen.specs.Receiving.{receiver_size}
-use Rattle.hal_gen.specs.Sizes.{expression_size, items_size, receivers_size, reads_size, names_size, call_size, value_size, next_values_size, selected_size, jump_size, statement_size, basic_size, alternative_size, statements_size}
+use Rattle.hal_gen.specs.Sizes.{expression_size, items_size, receivers_size, reads_size, names_size, value_size, next_values_size, selected_size, statement_size, statements_size}
 use Rattle.hal_gen.specs.Sums.{with_items, with_statements, with_receivers, with_cases, with_values}
 
 further_on : (a b c : ℕ) → (a + b) + c ≡ a + (b + c)
@@ -38,36 +38,38 @@ unfolding with_items
 items_done {X} f n site size place xs past kept =
     subst (λ (rest : List X). with_items n site size (map f rest) ≡ with_items n site 0 (map f xs)) (drop_all place xs past) kept ∙ items_counted n site (map f xs)
 
-statements_from : (n : Numbering) (site : Site) (size : ℕ) (list : List Statement) → with_statements n site size list ≡ size + statements_size n site (statements list)
+statements_from : (n : Numbering) (site : Site) (m size : ℕ) (list : List Statement) → with_statements n site m size list ≡ size + statements_size n site m (statements list)
 unfolding with_statements statements
-statements_from n site size [] = none_more size
-statements_from n site size (one ∷ others) =
-    statements_from n site (size + statement_size n site one) others ∙ further_on size (statement_size n site one) (statements_size n site (statements others))
+statements_from n site m size [] = none_more size
+statements_from n site m size (one ∷ others) =
+    statements_from n site (after_statement m one) (size + statement_size n site m one) others
+    ∙ further_on size (statement_size n site m one) (statements_size n site (after_statement m one) (statements others))
 
-statements_counted : (n : Numbering) (site : Site) (list : List Statement) → with_statements n site 0 list ≡ statements_size n site (statements list)
-statements_counted n site list = statements_from n site 0 list ∙ from_none (statements_size n site (statements list))
+statements_counted : (n : Numbering) (site : Site) (m : ℕ) (list : List Statement) → with_statements n site m 0 list ≡ statements_size n site m (statements list)
+statements_counted n site m list = statements_from n site m 0 list ∙ from_none (statements_size n site m (statements list))
 
-pub statements_done : {X : Type 0} (f : X → Statement) (n : Numbering) (site : Site) (size place : ℕ) (xs : List X) → length xs ≤ place
-    → with_statements n site size (map f (drop place xs)) ≡ with_statements n site 0 (map f xs) → size ≡ statements_size n site (statements (map f xs))
+pub statements_done : {X : Type 0} (f : X → Statement) (n : Numbering) (site : Site) (m late size place : ℕ) (xs : List X) → length xs ≤ place
+    → with_statements n site late size (map f (drop place xs)) ≡ with_statements n site m 0 (map f xs) → size ≡ statements_size n site m (statements (map f xs))
 unfolding with_statements
-statements_done {X} f n site size place xs past kept =
-    subst (λ (rest : List X). with_statements n site size (map f rest) ≡ with_statements n site 0 (map f xs)) (drop_all place xs past) kept ∙ statements_counted n site (map f xs)
+statements_done {X} f n site m late size place xs past kept =
+    subst (λ (rest : List X). with_statements n site late size (map f rest) ≡ with_statements n site m 0 (map f xs)) (drop_all place xs past) kept ∙ statements_counted n site m (map f xs)
 
 -- statements of DO CASE
-cases_from : (n : Numbering) (site : Site) (size : ℕ) (list : List Statement) → with_cases n site size list ≡ size + selected_size n site (statements list)
+cases_from : (n : Numbering) (site : Site) (m size : ℕ) (list : List Statement) → with_cases n site m size list ≡ size + selected_size n site m (statements list)
 unfolding with_cases statements
-cases_from n site size [] = none_more size
-cases_from n site size (one ∷ others) =
-    cases_from n site (size + (5 + (statement_size n site one + 1))) others ∙ further_on size (5 + (statement_size n site one + 1)) (selected_size n site (statements others))
+cases_from n site m size [] = none_more size
+cases_from n site m size (one ∷ others) =
+    cases_from n site (after_statement m one) (size + (5 + (statement_size n site m one + 1))) others
+    ∙ further_on size (5 + (statement_size n site m one + 1)) (selected_size n site (after_statement m one) (statements others))
 
-cases_counted : (n : Numbering) (site : Site) (list : List Statement) → with_cases n site 0 list ≡ selected_size n site (statements list)
-cases_counted n site list = cases_from n site 0 list ∙ from_none (selected_size n site (statements list))
+cases_counted : (n : Numbering) (site : Site) (m : ℕ) (list : List Statement) → with_cases n site m 0 list ≡ selected_size n site m (statements list)
+cases_counted n site m list = cases_from n site m 0 list ∙ from_none (selected_size n site m (statements list))
 
-pub cases_done : {X : Type 0} (f : X → Statement) (n : Numbering) (site : Site) (size place : ℕ) (xs : List X) → length xs ≤ place
-    → with_cases n site size (map f (drop place xs)) ≡ with_cases n site 0 (map f xs) → size ≡ selected_size n site (statements (map f xs))
+pub cases_done : {X : Type 0} (f : X → Statement) (n : Numbering) (site : Site) (m late size place : ℕ) (xs : List X) → length xs ≤ place
+    → with_cases n site late size (map f (drop place xs)) ≡ with_cases n site m 0 (map f xs) → size ≡ selected_size n site m (statements (map f xs))
 unfolding with_cases
-cases_done {X} f n site size place xs past kept =
-    subst (λ (rest : List X). with_cases n site size (map f rest) ≡ with_cases n site 0 (map f xs)) (drop_all place xs past) kept ∙ cases_counted n site (map f xs)
+cases_done {X} f n site m late size place xs past kept =
+    subst (λ (rest : List X). with_cases n site late size (map f rest) ≡ with_cases n site m 0 (map f xs)) (drop_all place xs past) kept ∙ cases_counted n site m (map f xs)
 
 -- values of a DO FOR
 values_from : (n : Numbering) (site : Site) (size : ℕ) (list : List Expression) → with_values n site size list + 1 ≡ size + next_values_size n site (expressions list)
@@ -121,15 +123,3 @@ same_length f (x ∷ xs) = ap suc (same_length f xs)
 pub names_counted : {X : Type 0} (f : X → Naming) (xs : List X) → names_size (map f xs) ≡ max (length xs) 1
 names_counted f [] = refl
 names_counted f (x ∷ xs) = let same = same_length f xs in omega (arith, same)
-
--- IF
-pub branch_counted : {E : Type 0} (n : Numbering) (site : Site) (place : Place) (condition : Expression) (consequence : Statement) (alternative : Alternative) (basic : Basic) (test first jump other : ℕ) (r : Result ℕ E)
-    → basic ≡ If place condition consequence alternative → test ≡ expression_size n site condition → first ≡ statement_size n site consequence → jump ≡ jump_size alternative → other ≡ alternative_size n site alternative
-    → IfOk r (λ size. size ≡ (test + 1) + (first + (jump + other))) → IfOk r (λ size. size ≡ basic_size n site basic)
-branch_counted n site place condition consequence alternative basic test first jump other (Ok size) is t f j o there =
-    there
-    ∙ (ap (λ k. (k + 1) + (first + (jump + other))) t
-    ∙ (ap (λ k. (expression_size n site condition + 1) + (k + (jump + other))) f
-    ∙ (ap (λ k. (expression_size n site condition + 1) + (statement_size n site consequence + (k + other))) j
-    ∙ (ap (λ k. (expression_size n site condition + 1) + (statement_size n site consequence + (jump_size alternative + k))) o ∙ ap (basic_size n site) (sym is)))))
-branch_counted n site place condition consequence alternative basic test first jump other (Err e) is t f j o there = tt

@@ -11,12 +11,16 @@ use Rattle.hal_grammar.specs.Units.{Head, Program, Task, Compool, Procedure, Fun
 use Rattle.hal_scope.specs.Uses.{holds_event}
 use Rattle.hal_meaning.specs.Bodies.{Body}
 use Rattle.hal_meaning.specs.Events.{event_named}
-use Rattle.hal_meaning.specs.Expressions.{inputs_at, sizes_named}
+use Rattle.hal_meaning.specs.Expressions.{inputs_at, outputs_at, sizes_named}
 use Rattle.hal_meaning.specs.Marks.{after_statement, after_alternative}
 use Rattle.hal_meaning.specs.RealTime.{stated_at_mark}
 use Rattle.hal_meaning.specs.Sets.{body_at}
-use Rattle.hal_meaning.specs.Statements.{components_in, is_meant, loop_place, label_name, update_groups}
-use Rattle.hal_meaning.specs.Variables.{Meant, MeantData, MeantConstant, MeantEvent, MeantBlock, MeantBuiltin, MeantNothing, name_meant, is_arrayed}
+use Rattle.hal_meaning.specs.Statements.{components_in, is_meant, loop_place, end_place, label_name, update_groups}
+use Rattle.hal_states.specs.Spots.{Spot, Held}
+use Rattle.hal_meaning.specs.Calls.{parameter_named}
+use Rattle.hal_meaning.specs.Elements.{chosen, kinds_of}
+use Rattle.hal_code.specs.declared.row.Target.TheVariants as targets
+use Rattle.hal_meaning.specs.Variables.{Meant, MeantData, MeantConstant, MeantEvent, MeantBlock, MeantBuiltin, MeantNothing, name_meant, spot_named, kind_of_first, is_arrayed}
 use Rattle.hal_code.specs.declared.instr.Instr.{Instr}
 use Rattle.hal_code.specs.declared.instr.Instr.TheVariants as instr
 use Rattle.hal_code.specs.declared.operand.Delay.{Delay}
@@ -29,25 +33,27 @@ use Rattle.hal_code.specs.declared.operand.Time.{Time}
 use Rattle.hal_code.specs.Forward.{GoesOn}
 use Rattle.hal_agreement.specs.Codes.{Code}
 use Rattle.hal_agreement.specs.PlacedExpressions.{Has, One, ChosenAt}
-use Rattle.hal_agreement.specs.PlacedStatements.{FirstSpanAt, Leaving, ToFinish, ByReturn, ByResult, NoReturn, Exits, exit_of, again_of, opened, within_group, of_block, KeptAt, StoredAt, ReceivedAt, AddressedAt, ReceiverAt, ReceiversAt, ItemsAt, FirstTestAt, TestAt, ReturnAt, ResultBy, ResultAt, CalledAt, ReadsAt, changes, EventAt, EachAt, NamedOrOwnAt, BasicAt}
+use Rattle.hal_agreement.specs.PlacedStatements.{FirstSpanAt, Leaving, ToFinish, ByReturn, ByResult, NoReturn, Exits, exit_of, again_of, opened, within_group, KeptAt, StoredAt, ReceivedAt, AddressedAt, ReceiverAt, ReceiversAt, ItemsAt, FirstTestAt, TestAt, ReturnAt, ResultBy, ResultAt, AssignedAt, CalledAt, ReadsAt, changes, EventAt, EachAt, NamedOrOwnAt, BasicAt}
 use Rattle.hal_agreement.specs.PlacedTimes.{TimeAt, PauseAt, StartsAt, PriorityAt, RoundAt, UntilAt, LimitAt, ScheduledAt, PrioritizedAt}
-use Rattle.hal_agreement.specs.Sites.{Site, here_at}
+use Rattle.hal_agreement.specs.Sites.{Site, here_at, group_site}
 use Rattle.hal_gen_expr.specs.Emitting.{Emitted, onwards, emit}
 use Rattle.hal_gen_expr.specs.ExpressionCode.{emit_one, expression_code}
 use Rattle.hal_gen_expr.specs.Numbering.{Numbering, below}
 use Rattle.hal_gen_expr.specs.Standing.{Begins, IsNumbered, Placed}
 use Rattle.hal_gen_expr.proofs.Expressed.{ok_is, expression_at}
-use Rattle.hal_gen_expr.proofs.Forwarding.{Goes, none_goes, one_goes, joined_goes, first_goes, call_goes, expression_goes, arguments_go, name_goes, chosen_goes as address_goes, part_goes}
+use Rattle.hal_gen_expr.proofs.Forwarding.{Goes, none_goes, one_goes, joined_goes, first_goes, call_goes, expression_goes, arguments_go, area_goes, name_goes, chosen_goes as address_goes, part_goes}
 use Rattle.hal_gen_expr.proofs.Growing.{length_of_one_more, weaker, has_there, one_placed, none_placed, first_placed}
+use Rattle.hal_gen.specs.BlockExits.{of_body}
 use Rattle.hal_gen.specs.declared.kept.Cells.{Cells}
 use Rattle.hal_gen.specs.KeptCode.{cell_of, keeping, case_code, cells_of}
+use Rattle.hal_gen.specs.Leaves.{handler_code}
 use Rattle.hal_gen.specs.SpanCode.{begin_code, again_code}
-use Rattle.hal_gen.specs.Sizes.{begin_size, again_size, first_span_size, later_span_size, selected_size, jump_size, statement_size, basic_size, group_size, statements_size}
-use Rattle.hal_gen.specs.StatementCode.{first_span_code, later_span_code, first_test_code, test_code, statement_code, basic_code, alternative_code, uncased_code, cases_code, selected_code, group_code, statements_code}
+use Rattle.hal_gen.specs.Sizes.{spanned_size, again_size, later_span_size, selected_size, jump_size, statement_size, basic_size, group_size}
+use Rattle.hal_gen.specs.StatementCode.{first_span_code, later_span_code, first_test_code, test_code, statement_code, basic_code, direct_code, block_code, alternative_code, uncased_code, cases_code, selected_code, group_code, statements_code}
 use Rattle.hal_gen.proofs.Keeping.{IsCell, keeping_at, case_at, cell_is, keeps_go, case_goes, AreCells, cells_are}
 use Rattle.hal_gen.proofs.Spanned.{first_span_at, BeginAt, AgainAt, begin_at, again_at, begun_goes, value_goes, stepping_goes, listing_goes}
-use Rattle.hal_gen.proofs.Measured.{unnested, later, begin_longer, again_longer, first_span_longer, later_span_longer, both_longer, uncased_longer, selected_longer, first_test_longer, test_longer, basic_longer, alternative_longer, group_longer, statements_longer}
-use Rattle.hal_gen.proofs.Simple.{first_test_at, test_at}
+use Rattle.hal_gen.proofs.Measured.{unnested, later, begin_longer, again_longer, first_span_longer, later_span_longer, both_longer, uncased_longer, selected_longer, first_test_longer, test_longer, basic_longer, alternative_longer, group_longer, block_longer, statements_longer}
+use Rattle.hal_gen.proofs.Simple.{first_test_at, test_at, entry_at}
 use Rattle.hal_gen.proofs.Stated.{number_given, cells_given, opens_at, basic_at}
 
 -- EXIT, REPEAT and RETURN lead on from before this address
@@ -86,8 +92,8 @@ in_loop labels exits exit again to far far_again ahead =
     }
 
 -- no group is open, and no RETURN stands there
-none_open : (handler : ℕ → ℕ) (to : ℕ) → Ahead (of_block NoReturn handler) to
-none_open handler to = record { exit = λ label target is. absurd (cc); again = λ label target is. absurd (cc); finish = λ at is. absurd (cc) }
+none_open : (to : ℕ) → Ahead (of_body NoReturn) to
+none_open to = record { exit = λ label target is. absurd (cc); again = λ label target is. absurd (cc); finish = λ at is. absurd (cc) }
 
 module _ (code : Code) (n : Numbering) (site : Site) (numbered : IsNumbered code n) where
   kept_goes : (path : List Naming) (m : Meant) (from to : ℕ) → KeptAt code path [] m from to → Goes code from to
@@ -117,20 +123,22 @@ module _ (code : Code) (n : Numbering) (site : Site) (numbered : IsNumbered code
   received_goes (ByParts there copies arrays components) true from to at = stored_goes (components_in true (ByParts there copies arrays components)) from to at
   received_goes (ByParts there copies arrays components) false from to at = stored_goes components from to at
 
-  addressed_goes : (path : List Naming) (subscript : Subscript) (m : Meant) (from to : ℕ) → AddressedAt code site path subscript (λ spot shape a e. ChosenAt code site [] path subscript spot shape a e) m from to → Goes code from to
-  addressed_goes path subscript (MeantData spot shape) from to there =
-      joined_goes code from there.0 to (address_goes code site subscript path spot shape from there.0 there.1) (received_goes subscript (is_arrayed (sizes_named path shape)) there.0 to there.2)
-  addressed_goes path subscript (MeantConstant v) from to there = absurd there
-  addressed_goes path subscript (MeantEvent e) from to there = absurd there
-  addressed_goes path subscript (MeantBlock unit) from to there = absurd there
-  addressed_goes path subscript (MeantBuiltin b) from to there = absurd there
-  addressed_goes path subscript MeantNothing from to there = absurd there
+  addressed_goes : (path : List Naming) (subscript : Subscript) (spots : List Held → Spot) (m : Meant) (from to : ℕ)
+      → AddressedAt code site path subscript (λ shape a e. ChosenAt code site (targets.Cell (kind_of_first (chosen path shape.components))) path subscript spots shape a e) m from to → Goes code from to
+  addressed_goes path subscript spots (MeantData at shape) from to there =
+      joined_goes code from there.0 to (address_goes code site subscript (targets.Cell (kind_of_first (chosen path shape.components))) path spots shape from there.0 there.1)
+      (received_goes subscript (is_arrayed (sizes_named path shape)) there.0 to there.2)
+  addressed_goes path subscript spots (MeantConstant v) from to there = absurd there
+  addressed_goes path subscript spots (MeantEvent e) from to there = absurd there
+  addressed_goes path subscript spots (MeantBlock unit) from to there = absurd there
+  addressed_goes path subscript spots (MeantBuiltin b) from to there = absurd there
+  addressed_goes path subscript spots MeantNothing from to there = absurd there
 
   receiver_goes : (receiver : Reference) (from to : ℕ) → ReceiverAt code site receiver from to → Goes code from to
   receiver_goes (Refers place name path Unsubscripted) from to at = kept_goes path (name_meant (here_at site) name []) from to (at [])
-  receiver_goes (Refers place name path (ByName there one)) from to at = addressed_goes path (ByName there one) (name_meant (here_at site) name []) from to (at [])
-  receiver_goes (Refers place name path (ByInteger there mark number)) from to at = addressed_goes path (ByInteger there mark number) (name_meant (here_at site) name []) from to (at [])
-  receiver_goes (Refers place name path (ByParts there copies arrays components)) from to at = addressed_goes path (ByParts there copies arrays components) (name_meant (here_at site) name []) from to (at [])
+  receiver_goes (Refers place name path (ByName there one)) from to at = addressed_goes path (ByName there one) (spot_named (here_at site) name) (name_meant (here_at site) name []) from to (at [])
+  receiver_goes (Refers place name path (ByInteger there mark number)) from to at = addressed_goes path (ByInteger there mark number) (spot_named (here_at site) name) (name_meant (here_at site) name []) from to (at [])
+  receiver_goes (Refers place name path (ByParts there copies arrays components)) from to at = addressed_goes path (ByParts there copies arrays components) (spot_named (here_at site) name) (name_meant (here_at site) name []) from to (at [])
 
   receivers_go : (receivers : List Reference) (from to : ℕ) → ReceiversAt code site receivers from to → Goes code from to
   receivers_go [] from to at = absurd at
@@ -185,14 +193,22 @@ module _ (code : Code) (n : Numbering) (site : Site) (numbered : IsNumbered code
   return_goes ByResult from to there far = absurd there
   return_goes NoReturn from to there far = absurd there
 
-  procedure_goes : (arguments : Expressions) (m : Meant) (from to : ℕ) → CalledAt code site arguments m from to → Goes code from to
-  procedure_goes arguments (MeantBlock unit) from to at =
-      joined_goes code from at.0 to (arguments_go code site arguments unit (inputs_at site.set unit) from at.0 at.1) (call_goes code site unit false at.0 to at.2)
-  procedure_goes arguments (MeantData at shape) from to there = absurd there
-  procedure_goes arguments (MeantConstant v) from to there = absurd there
-  procedure_goes arguments (MeantEvent e) from to there = absurd there
-  procedure_goes arguments (MeantBuiltin b) from to there = absurd there
-  procedure_goes arguments MeantNothing from to there = absurd there
+  assigned_go : (unit : ℕ) (names : List Naming) (receivers : List Reference) (from to : ℕ) → AssignedAt code site unit names receivers from to → Goes code from to
+  assigned_go unit [] [] from to at = none_goes code from to at
+  assigned_go unit (name ∷ names) (receiver ∷ receivers) from to at =
+      joined_goes code from at.0 to (area_goes code site receiver (kinds_of (parameter_named site.set unit name).shape) from at.0 at.1) (assigned_go unit names receivers at.0 to at.2)
+  assigned_go unit [] (receiver ∷ receivers) from to at = absurd at
+  assigned_go unit (name ∷ names) [] from to at = absurd at
+
+  procedure_goes : (arguments : Expressions) (receivers : List Reference) (m : Meant) (from to : ℕ) → CalledAt code site arguments receivers m from to → Goes code from to
+  procedure_goes arguments receivers (MeantBlock unit) from to at =
+      joined_goes code from at.0 to (arguments_go code site arguments unit (inputs_at site.set unit) from at.0 at.2)
+      (joined_goes code at.0 at.1 to (assigned_go unit (outputs_at site.set unit) receivers at.0 at.1 at.3) (call_goes code site unit false at.1 to at.4))
+  procedure_goes arguments receivers (MeantData at shape) from to there = absurd there
+  procedure_goes arguments receivers (MeantConstant v) from to there = absurd there
+  procedure_goes arguments receivers (MeantEvent e) from to there = absurd there
+  procedure_goes arguments receivers (MeantBuiltin b) from to there = absurd there
+  procedure_goes arguments receivers MeantNothing from to there = absurd there
 
   change_goes : (action : EventAction) (e from to : ℕ) → One code from (changes action e) to → Goes code from to
   change_goes Signal e from to at = one_goes code from to _ at tt
@@ -320,6 +336,15 @@ module _ (code : Code) (n : Numbering) (site : Site) (numbered : IsNumbered code
   ListGoes list = (exits : Exits) (m : ℕ) (before after : List Instr) → statements_code n site before exits m list ≡ Ok after → Ahead exits (length after) → Begins after code.image.code
       → Placed code before after (λ from to. Goes code from to)
 
+  -- and so does that of a statement directly in a block's body, and of the statements of the body
+  abbrev DirectGoes : Statement → Type 0
+  DirectGoes tree = (exits : Exits) (m : ℕ) (before after : List Instr) → direct_code n site before exits m tree ≡ Ok after → Ahead exits (length after) → Begins after code.image.code
+      → Placed code before after (λ from to. Goes code from to)
+
+  abbrev BlockGoes : Statements → Type 0
+  BlockGoes list = (exits : Exits) (m : ℕ) (before after : List Instr) → block_code n site before exits m list ≡ Ok after → Ahead exits (length after) → Begins after code.image.code
+      → Placed code before after (λ from to. Goes code from to)
+
   abbrev CasesGo : Statements → Type 0
   CasesGo list = (exits : Exits) (place : Place) (cell own target m k : ℕ) (before after : List Instr) → IsCell code cell own → selected_code n site before exits place cell target m k list ≡ Ok after → length after ≤ target
       → Ahead exits (length after) → Begins after code.image.code → Placed code before after (λ from to. Goes code from to)
@@ -336,7 +361,7 @@ module _ (code : Code) (n : Numbering) (site : Site) (numbered : IsNumbered code
     where
       behind : (middle : List Instr) → selected_code n site (middle ++ (instr.Jump target ∷ [])) exits place cell target (after_statement m first) (suc k) others ≡ Ok after → suc (length middle) ≤ length after
       behind middle rest =
-          let longer = later middle after (instr.Jump target) (selected_size n site others) (selected_longer n site others exits place cell target (after_statement m first) (suc k) (middle ++ (instr.Jump target ∷ [])) after rest) in omega (arith, longer)
+          let longer = later middle after (instr.Jump target) (selected_size n site (after_statement m first) others) (selected_longer n site others exits place cell target (after_statement m first) (suc k) (middle ++ (instr.Jump target ∷ [])) after rest) in omega (arith, longer)
 
   abbrev UncasedGoes : Alternative → Type 0
   UncasedGoes alternative = (exits : Exits) (place : Place) (m : ℕ) (before after : List Instr) → uncased_code n site before exits place m alternative ≡ Ok after → Ahead exits (length after)
@@ -359,11 +384,11 @@ module _ (code : Code) (n : Numbering) (site : Site) (numbered : IsNumbered code
 
   -- a consequence behind its test, and what stands after ELSE
   chosen_goes : (consequence : Statement) (alternative : Alternative) (exits : Exits) (m : ℕ) (tested after : List Instr) → StatementGoes consequence → ElseGoes alternative
-      → onwards (statement_code n site (tested ++ (instr.JumpNot (suc (length tested) + (statement_size n site consequence + jump_size alternative)) ∷ [])) exits m consequence)
+      → onwards (statement_code n site (tested ++ (instr.JumpNot (suc (length tested) + (statement_size n site m consequence + jump_size alternative)) ∷ [])) exits m consequence)
       (λ middle. alternative_code n site middle exits (after_statement m consequence) alternative) ≡ Ok after → Ahead exits (length after) → Begins after code.image.code
       → Placed code tested after (λ from to. Goes code from to)
   chosen_goes consequence alternative exits m tested after one two e ahead begins =
-      let other = suc (length tested) + (statement_size n site consequence + jump_size alternative) in
+      let other = suc (length tested) + (statement_size n site m consequence + jump_size alternative) in
       let test = tested ++ (instr.JumpNot other ∷ []) in
       behind_one tested after (instr.JumpNot other) (inl (omega arith))
       (both_go (statement_code n site test exits m consequence) (λ middle. alternative_code n site middle exits (after_statement m consequence) alternative) test after e
@@ -373,11 +398,11 @@ module _ (code : Code) (n : Numbering) (site : Site) (numbered : IsNumbered code
 
   -- EXIT and REPEAT in a loop
   loop_ahead : (g : Guard) (group : Group) (labels : List Naming) (exits : Exits) (m exit : ℕ) (tested middle after : List Instr)
-      → group_code n site (tested ++ (instr.Turn exit ∷ [])) (within_group (opened labels exit (Some (suc (length tested) + group_size n site group))) exits) (suc m) group ≡ Ok middle
+      → group_code n site (tested ++ (instr.Turn exit ∷ [])) (within_group (opened labels exit (Some (suc (length tested) + group_size n site (suc m) group))) exits) (suc m) group ≡ Ok middle
       → test_code n site middle g (length tested) exit ≡ Ok after → exit ≡ length after → Ahead exits (length after)
-      → Ahead (within_group (opened labels exit (Some (suc (length tested) + group_size n site group))) exits) (length middle)
+      → Ahead (within_group (opened labels exit (Some (suc (length tested) + group_size n site (suc m) group))) exits) (length middle)
   loop_ahead g group labels exits m exit tested middle after there rest ends ahead =
-      let again = suc (length tested) + group_size n site group in
+      let again = suc (length tested) + group_size n site (suc m) group in
       let longer = test_longer n site g (length tested) exit middle after rest in
       let size = group_longer n site group (within_group (opened labels exit (Some again)) exits) (suc m) (tested ++ (instr.Turn exit ∷ [])) middle there in
       let one = length_of_one_more tested (instr.Turn exit) in
@@ -385,11 +410,11 @@ module _ (code : Code) (n : Numbering) (site : Site) (numbered : IsNumbered code
 
   -- the turns of a loop that ends at this address
   turns_go : (g : Guard) (group : Group) (labels : List Naming) (exits : Exits) (m exit : ℕ) (tested after : List Instr) → GroupGoes group
-      → onwards (group_code n site (tested ++ (instr.Turn exit ∷ [])) (within_group (opened labels exit (Some (suc (length tested) + group_size n site group))) exits) (suc m) group)
+      → onwards (group_code n site (tested ++ (instr.Turn exit ∷ [])) (within_group (opened labels exit (Some (suc (length tested) + group_size n site (suc m) group))) exits) (suc m) group)
       (λ middle. test_code n site middle g (length tested) exit) ≡ Ok after → exit ≡ length after → length tested < exit → Ahead exits (length after) → Begins after code.image.code
       → Placed code tested after (λ from to. Goes code from to)
   turns_go g group labels exits m exit tested after whole e ends far ahead begins =
-      let again = suc (length tested) + group_size n site group in
+      let again = suc (length tested) + group_size n site (suc m) group in
       let start = tested ++ (instr.Turn exit ∷ []) in
       let inner = within_group (opened labels exit (Some again)) exits in
       behind_one tested after (instr.Turn exit) far
@@ -417,11 +442,11 @@ module _ (code : Code) (n : Numbering) (site : Site) (numbered : IsNumbered code
 
   -- its turns
   span_turns_go : (c : Cells) (own : ℕ) (are : AreCells code c own) (place : Place) (name : List ℕ) (span : Span) (g : Option Guard) (group : Group) (labels : List Naming) (exits : Exits) (m exit : ℕ) (tested after : List Instr) → GroupGoes group
-      → onwards (group_code n site (tested ++ (instr.Turn exit ∷ [])) (within_group (opened labels exit (Some (suc (length tested) + group_size n site group))) exits) (suc m) group)
+      → onwards (group_code n site (tested ++ (instr.Turn exit ∷ [])) (within_group (opened labels exit (Some (suc (length tested) + group_size n site (suc m) group))) exits) (suc m) group)
       (λ middle. onwards (again_code n site middle place name c exit span) (λ counted. later_span_code n site counted place g (length tested) exit)) ≡ Ok after → exit ≡ length after → length tested < exit → Ahead exits (length after)
       → Begins after code.image.code → Placed code tested after (λ from to. Goes code from to)
   span_turns_go c own are place name span g group labels exits m exit tested after whole e ends far ahead begins =
-      let again = suc (length tested) + group_size n site group in
+      let again = suc (length tested) + group_size n site (suc m) group in
       let start = tested ++ (instr.Turn exit ∷ []) in
       let inner = within_group (opened labels exit (Some again)) exits in
       behind_one tested after (instr.Turn exit) far
@@ -434,141 +459,163 @@ module _ (code : Code) (n : Numbering) (site : Site) (numbered : IsNumbered code
         begins = at.begins;
       }))
     where
-      ahead_there : (middle : List Instr) → group_code n site (tested ++ (instr.Turn exit ∷ [])) (within_group (opened labels exit (Some (suc (length tested) + group_size n site group))) exits) (suc m) group ≡ Ok middle
+      ahead_there : (middle : List Instr) → group_code n site (tested ++ (instr.Turn exit ∷ [])) (within_group (opened labels exit (Some (suc (length tested) + group_size n site (suc m) group))) exits) (suc m) group ≡ Ok middle
           → onwards (again_code n site middle place name c exit span) (λ counted. later_span_code n site counted place g (length tested) exit) ≡ Ok after
-          → Ahead (within_group (opened labels exit (Some (suc (length tested) + group_size n site group))) exits) (length middle)
+          → Ahead (within_group (opened labels exit (Some (suc (length tested) + group_size n site (suc m) group))) exits) (length middle)
       ahead_there middle there rest =
           let longer = both_longer (again_code n site middle place name c exit span) _ middle after (again_size n site span) (later_span_size n site g) rest
           (λ counted one. again_longer n site place name c exit span middle counted one) (λ counted one. later_span_longer n site place g (length tested) exit counted after one) in
-          let size = group_longer n site group (within_group (opened labels exit (Some (suc (length tested) + group_size n site group))) exits) (suc m) (tested ++ (instr.Turn exit ∷ [])) middle there in
+          let size = group_longer n site group (within_group (opened labels exit (Some (suc (length tested) + group_size n site (suc m) group))) exits) (suc m) (tested ++ (instr.Turn exit ∷ [])) middle there in
           let one = length_of_one_more tested (instr.Turn exit) in
-          in_loop labels exits exit (suc (length tested) + group_size n site group) (length middle) (omega (arith, ends, longer)) (omega (arith, size, one)) (earlier exits (length middle) (length after) (omega (arith, longer)) ahead)
+          in_loop labels exits exit (suc (length tested) + group_size n site (suc m) group) (length middle) (omega (arith, ends, longer)) (omega (arith, size, one)) (earlier exits (length middle) (length after) (omega (arith, longer)) ahead)
 
-  mutual
-    pub statement_goes : (tree : Statement) → StatementGoes tree
-    statement_goes (Labelled labels basic) exits m before after e ahead begins = basic_goes basic labels exits m before after e ahead begins
+  -- all of it
+  range_goes : (c : Cells) (own : ℕ) (are : AreCells code c own) (place : Place) (name : List ℕ) (span : Span) (g : Option Guard) (group : Group) (labels : List Naming) (exits : Exits) (m exit : ℕ) (before after : List Instr) → GroupGoes group
+      → exit ≡ length before + spanned_size n site span g (group_size n site (suc m) group)
+      → onwards (begin_code n site before place name c exit span) (λ begun. onwards (first_span_code n site begun g exit)
+      (λ tested. onwards (group_code n site (tested ++ (instr.Turn exit ∷ [])) (within_group (opened labels exit (Some (suc (length tested) + group_size n site (suc m) group))) exits) (suc m) group)
+      (λ middle. onwards (again_code n site middle place name c exit span) (λ counted. later_span_code n site counted place g (length tested) exit)))) ≡ Ok after → exit ≡ length after → Ahead exits (length after)
+      → Begins after code.image.code → Placed code before after (λ from to. Goes code from to)
+  range_goes c own are place name span g group labels exits m exit before after whole sized e ends ahead begins =
+      both_go (begin_code n site before place name c exit span) _ before after e
+      (λ begun there rest starts. let size = begin_longer n site place name c exit span before begun there in
+      let at = begin_at code n site numbered c own are place name span exit before begun there starts in
+      record { at = begin_goes c own are place name span exit (length before) (length begun) at.at (omega (arith, sized, size)); begins = at.begins })
+      (λ begun there rest. let begins_longer = begin_longer n site place name c exit span before begun there in
+      both_go (first_span_code n site begun g exit) _ begun after rest
+      (λ tested got more starts. let size = first_span_longer n site g exit begun tested got in
+      let at = first_span_at code n site numbered g exit begun tested got starts in
+      record { at = first_span_goes g exit (length begun) (length tested) at.at (omega (arith, sized, begins_longer, size)); begins = at.begins })
+      (λ tested got more. let size = first_span_longer n site g exit begun tested got in
+      span_turns_go c own are place name span g group labels exits m exit tested after whole more ends (omega (arith, sized, begins_longer, size)) ahead begins))
 
-    basic_goes : (basic : Basic) (labels : List Naming) (exits : Exits) (m : ℕ) (before after : List Instr) → basic_code n site before exits m labels basic ≡ Ok after → Ahead exits (length after)
-        → Begins after code.image.code → Placed code before after (λ from to. Goes code from to)
-    basic_goes (If place condition consequence alternative) labels exits m before after e ahead begins =
-        both_go (expression_code n site before condition) _ before after e
-        (λ tested there rest begun. weaker code before tested (λ from to at. expression_goes code site condition from to at) (expression_at code n site numbered condition before tested there begun))
-        (λ tested there rest. chosen_goes consequence alternative exits m tested after (statement_goes consequence) (else_goes alternative) rest ahead begins)
-    basic_goes (Do place group) labels exits m before after e ahead begins =
-        let exit = length before + group_size n site group in
-        let size = group_longer n site group (within_group (opened labels exit None) exits) (suc m) before after e in
-        group_goes group (within_group (opened labels exit None) exits) (suc m) before after e (in_group labels exits exit (length after) (omega (arith, size)) ahead) begins
-    basic_goes (DoCase place number alternative group) labels exits m before after e ahead begins =
-        let exit = length before + basic_size n site (DoCase place number alternative group) in
-        let own = loop_place (here_at site) m in
-        let inner = within_group (opened labels exit None) exits in
-        let ends : exit ≡ length after = sym (basic_longer n site (DoCase place number alternative group) labels exits m before after e) in
-        let given = number_given place (cell_of n site m 0) _ after e in
-        both_go (expression_code n site before number) _ before after given.2
-        (λ valued there rest begun. weaker code before valued (λ from to at. expression_goes code site number from to at) (expression_at code n site numbered number before valued there begun))
-        (λ valued there rest. selecting_goes alternative group inner place given.0 (own + 0) exit m valued after (cell_is code n site numbered m 0 given.0 given.1) (cases_go group) (uncased_goes alternative) rest ends
-        (in_group labels exits exit (length after) (omega (arith, ends)) ahead) begins)
-    basic_goes (DoLoop place g group) labels exits m before after e ahead begins =
-        let exit = length before + basic_size n site (DoLoop place g group) in
-        let ends : exit ≡ length after = sym (basic_longer n site (DoLoop place g group) labels exits m before after e) in
-        both_go (first_test_code n site before g exit) _ before after e
-        (λ tested first rest begun. let at = first_test_at code n site numbered g exit before tested first begun in
-        let size = first_test_longer n site g exit before tested first in
-        record { at = first_test_goes g exit (length before) (length tested) at.at (omega (arith, size)); begins = at.begins })
-        (λ tested first rest. let size = first_test_longer n site g exit before tested first in
-        turns_go g group labels exits m exit tested after (group_goes group) rest ends (omega (arith, size)) ahead begins)
-    basic_goes (DoFor place false variable span g group) labels exits m before after e ahead begins =
-        let exit = length before + basic_size n site (DoFor place false variable span g group) in
-        let own = loop_place (here_at site) m in
-        let ends : exit ≡ length after = sym (basic_longer n site (DoFor place false variable span g group) labels exits m before after e) in
-        let given = cells_given place (cells_of n site false m) _ after e in
-        let c = given.0 in
-        let are = cells_are code n site numbered m given.0 given.1 in
-        both_go (begin_code n site before place variable.name c exit span) _ before after
-        (unnested (begin_code n site before place variable.name c exit span) (λ begun. first_span_code n site begun g exit) _ after given.2)
-        (λ begun there rest starts. let size = begin_longer n site place variable.name c exit span before begun there in
-        weaker code before begun (λ from to at. at)
-        (let at = begin_at code n site numbered c own are place variable.name span exit before begun there starts in
-        record { at = begin_goes c own are place variable.name span exit (length before) (length begun) at.at (omega (arith, size)); begins = at.begins }))
-        (λ begun there rest. let begins_longer = begin_longer n site place variable.name c exit span before begun there in
-        both_go (first_span_code n site begun g exit) _ begun after rest
-        (λ tested got more starts. let size = first_span_longer n site g exit begun tested got in
-        let at = first_span_at code n site numbered g exit begun tested got starts in
-        record { at = first_span_goes g exit (length begun) (length tested) at.at (omega (arith, begins_longer, size)); begins = at.begins })
-        (λ tested got more. let size = first_span_longer n site g exit begun tested got in
-        span_turns_go c own are place variable.name span g group labels exits m exit tested after (group_goes group) more ends (omega (arith, begins_longer, size)) ahead begins))
-    basic_goes (Update place body close) labels exits m before after e ahead begins =
-        both_go (emit before place (option_map (λ groups. instr.Open groups ∷ []) (below 65536 (update_groups (here_at site) m)))) _ before after e
-        (λ begun there rest starts. weaker code before begun (λ from to at. one_goes code from to _ at tt) (opens_at code n site numbered (update_groups (here_at site) m) place before begun there starts))
-        (λ begun there rest. both_go (statements_code n site begun (of_block NoReturn (λ mark. length begun + statements_size n site body)) (suc m) body) (λ middle. emit_one middle place instr.Close) begun after rest
-        (λ middle inner late starts. list_goes body (of_block NoReturn (λ mark. length begun + statements_size n site body)) (suc m) begun middle inner (none_open (λ mark. length begun + statements_size n site body) (length middle)) starts)
-        (λ middle inner late. weaker code middle after (λ from to at. one_goes code from to _ at tt) (one_placed code middle after instr.Close (ok_is _ after late) begins)))
-    basic_goes (Null place) labels exits m before after e ahead begins = simply (Null place) labels exits m before after (null_goes place) e ahead begins
-    basic_goes (Assignment place receivers tree) labels exits m before after e ahead begins =
-        simply (Assignment place receivers tree) labels exits m before after (assignment_goes place receivers tree) e ahead begins
-    basic_goes (Exit place label) labels exits m before after e ahead begins = simply (Exit place label) labels exits m before after (exit_goes place label) e ahead begins
-    basic_goes (Repeat place label) labels exits m before after e ahead begins = simply (Repeat place label) labels exits m before after (repeat_goes place label) e ahead begins
-    basic_goes (Return place value) labels exits m before after e ahead begins = simply (Return place value) labels exits m before after (returning_goes place value) e ahead begins
-    basic_goes (Call place name arguments []) labels exits m before after e ahead begins =
-        simply (Call place name arguments []) labels exits m before after (λ ls ex k from to far at. procedure_goes arguments (name_meant (here_at site) name.name []) from to (at [])) e ahead begins
-    basic_goes (Read place channel receivers) labels exits m before after e ahead begins = simply (Read place channel receivers) labels exits m before after (read_goes place channel receivers) e ahead begins
-    basic_goes (Write place channel items) labels exits m before after e ahead begins = simply (Write place channel items) labels exits m before after (write_goes place channel items) e ahead begins
-    basic_goes (Event one) labels exits m before after e ahead begins =
-        simply (Event one) labels exits m before after (λ ls ex k from to far at. change_goes one.action (event_named site.set.phrases site.block one.name.name) from to at) e ahead begins
-    basic_goes (Cancel place names) labels exits m before after e ahead begins =
-        simply (Cancel place names) labels exits m before after (λ ls ex k from to far at. named_go instr.Cancel names from to (λ here number. tt) at) e ahead begins
-    basic_goes (Terminate place names) labels exits m before after e ahead begins =
-        simply (Terminate place names) labels exits m before after (λ ls ex k from to far at. named_go instr.Terminate names from to (λ here number. tt) at) e ahead begins
-    basic_goes (Wait place tree) labels exits m before after e ahead begins =
-        simply (Wait place tree) labels exits m before after (λ ls ex k from to far at. pause_goes delay.For tree from to at) e ahead begins
-    basic_goes (WaitUntil place tree) labels exits m before after e ahead begins =
-        simply (WaitUntil place tree) labels exits m before after (λ ls ex k from to far at. pause_goes delay.Until tree from to at) e ahead begins
-    basic_goes (WaitForDependent place) labels exits m before after e ahead begins =
-        simply (WaitForDependent place) labels exits m before after (λ ls ex k from to far at. one_goes code from to _ at tt) e ahead begins
-    basic_goes (WaitFor place tree) labels exits m before after e ahead begins =
-        simply (WaitFor place tree) labels exits m before after (λ ls ex k from to far at. event_pause_goes (stated_at_mark (here_at site) k) from to at) e ahead begins
-    basic_goes (SendError place at group its number) labels exits m before after e ahead begins =
-        simply (SendError place at group its number) labels exits m before after (λ ls ex k from to far there. one_goes code from to _ there tt) e ahead begins
-    basic_goes (OnErrorResponse place s r one) labels exits m before after e ahead begins =
-        simply (OnErrorResponse place s r one) labels exits m before after (λ ls ex k from to far at. one_goes code from to _ at.6 tt) e ahead begins
-    basic_goes (OffError place s) labels exits m before after e ahead begins =
-        simply (OffError place s) labels exits m before after (λ ls ex k from to far at. one_goes code from to _ at.3 tt) e ahead begins
-    basic_goes (Call place name arguments (receiver ∷ receivers)) labels exits m before after e ahead begins = absurd (cc)
-    basic_goes (DoFor place true variable span g group) labels exits m before after e ahead begins = absurd (cc)
-    basic_goes (Scheduled place s) labels exits m before after e ahead begins =
-        simply (Scheduled place s) labels exits m before after (λ ls ex k from to far at. schedule_goes k s from to at) e ahead begins
-    basic_goes (UpdatePriority place name tree) labels exits m before after e ahead begins =
-        simply (UpdatePriority place name tree) labels exits m before after (λ ls ex k from to far at. update_priority_goes name tree from to at) e ahead begins
-    basic_goes (OnErrorStatement place selector handler) labels exits m before after e ahead begins = absurd (cc)
+mutual
+  pub statement_goes : (code : Code) (n : Numbering) (site : Site) (numbered : IsNumbered code n) (tree : Statement) → StatementGoes code n site numbered tree
+  statement_goes code n site numbered (Labelled labels basic) exits m before after e ahead begins = basic_goes code n site numbered basic labels exits m before after e ahead begins
 
-    else_goes : (alternative : Alternative) → ElseGoes alternative
-    else_goes NoAlternative exits m before after e ahead begins = weaker code before after (λ from to at. none_goes code from to at) (none_placed code before after (ok_is before after e) begins)
-    else_goes (Otherwise one) exits m before after e ahead begins =
-        let jump = suc (length before) + statement_size n site one in
-        behind_one before after (instr.Jump jump) (inl (omega arith)) (statement_goes one exits m (before ++ (instr.Jump jump ∷ [])) after e ahead begins)
+  basic_goes : (code : Code) (n : Numbering) (site : Site) (numbered : IsNumbered code n) (basic : Basic) (labels : List Naming) (exits : Exits) (m : ℕ) (before after : List Instr) → basic_code n site before exits m labels basic ≡ Ok after → Ahead exits (length after)
+      → Begins after code.image.code → Placed code before after (λ from to. Goes code from to)
+  basic_goes code n site numbered (If place condition consequence alternative) labels exits m before after e ahead begins =
+      both_go code n site numbered (expression_code n site before condition) _ before after e
+      (λ tested there rest begun. weaker code before tested (λ from to at. expression_goes code site condition from to at) (expression_at code n site numbered condition before tested there begun))
+      (λ tested there rest. chosen_goes code n site numbered consequence alternative exits m tested after (statement_goes code n site numbered consequence) (else_goes code n site numbered alternative) rest ahead begins)
+  basic_goes code n site numbered (Do place group) labels exits m before after e ahead begins =
+      let exit = length before + group_size n site (suc m) group in
+      let size = group_longer n site group (within_group (opened labels exit None) exits) (suc m) before after e in
+      group_goes code n site numbered group (within_group (opened labels exit None) exits) (suc m) before after e (in_group labels exits exit (length after) (omega (arith, size)) ahead) begins
+  basic_goes code n site numbered (DoCase place number alternative group) labels exits m before after e ahead begins =
+      let exit = length before + basic_size n site m (DoCase place number alternative group) in
+      let own = loop_place (here_at site) m in
+      let inner = within_group (opened labels exit None) exits in
+      let ends : exit ≡ length after = sym (basic_longer n site (DoCase place number alternative group) labels exits m before after e) in
+      let given = number_given place (cell_of n site m 0) _ after e in
+      both_go code n site numbered (expression_code n site before number) _ before after given.2
+      (λ valued there rest begun. weaker code before valued (λ from to at. expression_goes code site number from to at) (expression_at code n site numbered number before valued there begun))
+      (λ valued there rest. selecting_goes code n site numbered alternative group inner place given.0 (own + 0) exit m valued after (cell_is code n site numbered m 0 given.0 given.1) (cases_go code n site numbered group) (uncased_goes code n site numbered alternative) rest ends
+      (in_group labels exits exit (length after) (omega (arith, ends)) ahead) begins)
+  basic_goes code n site numbered (DoLoop place g group) labels exits m before after e ahead begins =
+      let exit = length before + basic_size n site m (DoLoop place g group) in
+      let ends : exit ≡ length after = sym (basic_longer n site (DoLoop place g group) labels exits m before after e) in
+      both_go code n site numbered (first_test_code n site before g exit) _ before after e
+      (λ tested first rest begun. let at = first_test_at code n site numbered g exit before tested first begun in
+      let size = first_test_longer n site g exit before tested first in
+      record { at = first_test_goes code n site numbered g exit (length before) (length tested) at.at (omega (arith, size)); begins = at.begins })
+      (λ tested first rest. let size = first_test_longer n site g exit before tested first in
+      turns_go code n site numbered g group labels exits m exit tested after (group_goes code n site numbered group) rest ends (omega (arith, size)) ahead begins)
+  basic_goes code n site numbered (DoFor place temporary variable span g group) labels exits m before after e ahead begins =
+      let inner = group_site site temporary m in
+      let exit = length before + basic_size n site m (DoFor place temporary variable span g group) in
+      let ends : exit ≡ length after = sym (basic_longer n site (DoFor place temporary variable span g group) labels exits m before after e) in
+      let given = cells_given place (cells_of n site temporary m) _ after e in
+      range_goes code n inner numbered given.0 (end_place (here_at site) temporary m) (cells_are code n site numbered temporary m given.0 given.1) place variable.name span g group labels exits m exit before after
+      (group_goes code n inner numbered group) refl
+      (unnested (begin_code n inner before place variable.name given.0 exit span) (λ begun. first_span_code n inner begun g exit) _ after given.2) ends ahead begins
+  basic_goes code n site numbered (Update place body close) labels exits m before after e ahead begins =
+      both_go code n site numbered (emit before place (option_map (λ groups. instr.Open groups ∷ []) (below 65536 (update_groups (here_at site) m)))) _ before after e
+      (λ begun there rest starts. weaker code before begun (λ from to at. one_goes code from to _ at tt) (opens_at code n site numbered (update_groups (here_at site) m) place before begun there starts))
+      (λ begun there rest. both_go code n site numbered (block_code n site begun (of_body NoReturn) (suc m) body) (λ middle. emit_one middle place instr.Close) begun after rest
+      (λ middle inner late starts. block_goes code n site numbered body (of_body NoReturn) (suc m) begun middle inner (none_open (length middle)) starts)
+      (λ middle inner late. weaker code middle after (λ from to at. one_goes code from to _ at tt) (one_placed code middle after instr.Close (ok_is _ after late) begins)))
+  basic_goes code n site numbered (Null place) labels exits m before after e ahead begins = simply code n site numbered (Null place) labels exits m before after (null_goes code n site numbered place) e ahead begins
+  basic_goes code n site numbered (Assignment place receivers tree) labels exits m before after e ahead begins =
+      simply code n site numbered (Assignment place receivers tree) labels exits m before after (assignment_goes code n site numbered place receivers tree) e ahead begins
+  basic_goes code n site numbered (Exit place label) labels exits m before after e ahead begins = simply code n site numbered (Exit place label) labels exits m before after (exit_goes code n site numbered place label) e ahead begins
+  basic_goes code n site numbered (Repeat place label) labels exits m before after e ahead begins = simply code n site numbered (Repeat place label) labels exits m before after (repeat_goes code n site numbered place label) e ahead begins
+  basic_goes code n site numbered (Return place value) labels exits m before after e ahead begins = simply code n site numbered (Return place value) labels exits m before after (returning_goes code n site numbered place value) e ahead begins
+  basic_goes code n site numbered (Call place name arguments receivers) labels exits m before after e ahead begins =
+      simply code n site numbered (Call place name arguments receivers) labels exits m before after (λ ls ex k from to far at. procedure_goes code n site numbered arguments receivers (name_meant (here_at site) name.name []) from to (at [])) e ahead begins
+  basic_goes code n site numbered (Read place channel receivers) labels exits m before after e ahead begins = simply code n site numbered (Read place channel receivers) labels exits m before after (read_goes code n site numbered place channel receivers) e ahead begins
+  basic_goes code n site numbered (Write place channel items) labels exits m before after e ahead begins = simply code n site numbered (Write place channel items) labels exits m before after (write_goes code n site numbered place channel items) e ahead begins
+  basic_goes code n site numbered (Event one) labels exits m before after e ahead begins =
+      simply code n site numbered (Event one) labels exits m before after (λ ls ex k from to far at. change_goes code n site numbered one.action (event_named site.set.phrases site.block one.name.name) from to at) e ahead begins
+  basic_goes code n site numbered (Cancel place names) labels exits m before after e ahead begins =
+      simply code n site numbered (Cancel place names) labels exits m before after (λ ls ex k from to far at. named_go code n site numbered instr.Cancel names from to (λ here number. tt) at) e ahead begins
+  basic_goes code n site numbered (Terminate place names) labels exits m before after e ahead begins =
+      simply code n site numbered (Terminate place names) labels exits m before after (λ ls ex k from to far at. named_go code n site numbered instr.Terminate names from to (λ here number. tt) at) e ahead begins
+  basic_goes code n site numbered (Wait place tree) labels exits m before after e ahead begins =
+      simply code n site numbered (Wait place tree) labels exits m before after (λ ls ex k from to far at. pause_goes code n site numbered delay.For tree from to at) e ahead begins
+  basic_goes code n site numbered (WaitUntil place tree) labels exits m before after e ahead begins =
+      simply code n site numbered (WaitUntil place tree) labels exits m before after (λ ls ex k from to far at. pause_goes code n site numbered delay.Until tree from to at) e ahead begins
+  basic_goes code n site numbered (WaitForDependent place) labels exits m before after e ahead begins =
+      simply code n site numbered (WaitForDependent place) labels exits m before after (λ ls ex k from to far at. one_goes code from to _ at tt) e ahead begins
+  basic_goes code n site numbered (WaitFor place tree) labels exits m before after e ahead begins =
+      simply code n site numbered (WaitFor place tree) labels exits m before after (λ ls ex k from to far at. event_pause_goes code n site numbered (stated_at_mark (here_at site) k) from to at) e ahead begins
+  basic_goes code n site numbered (SendError place at group its number) labels exits m before after e ahead begins =
+      simply code n site numbered (SendError place at group its number) labels exits m before after (λ ls ex k from to far there. one_goes code from to _ there tt) e ahead begins
+  basic_goes code n site numbered (OnErrorResponse place s r one) labels exits m before after e ahead begins =
+      simply code n site numbered (OnErrorResponse place s r one) labels exits m before after (λ ls ex k from to far at. one_goes code from to _ at.6 tt) e ahead begins
+  basic_goes code n site numbered (OffError place s) labels exits m before after e ahead begins =
+      simply code n site numbered (OffError place s) labels exits m before after (λ ls ex k from to far at. one_goes code from to _ at.3 tt) e ahead begins
+  basic_goes code n site numbered (Scheduled place s) labels exits m before after e ahead begins =
+      simply code n site numbered (Scheduled place s) labels exits m before after (λ ls ex k from to far at. schedule_goes code n site numbered k s from to at) e ahead begins
+  basic_goes code n site numbered (UpdatePriority place name tree) labels exits m before after e ahead begins =
+      simply code n site numbered (UpdatePriority place name tree) labels exits m before after (λ ls ex k from to far at. update_priority_goes code n site numbered name tree from to at) e ahead begins
+  basic_goes code n site numbered (OnErrorStatement place s handler) labels exits m before after e ahead begins = absurd (cc)
 
-    uncased_goes : (alternative : Alternative) → UncasedGoes alternative
-    uncased_goes NoAlternative exits place m before after e ahead begins = weaker code before after (λ from to at. one_goes code from to _ at tt) (one_placed code before after (instr.Raise 1 6) (ok_is _ after e) begins)
-    uncased_goes (Otherwise one) exits place m before after e ahead begins = statement_goes one exits m before after e ahead begins
+  direct_goes : (code : Code) (n : Numbering) (site : Site) (numbered : IsNumbered code n) (tree : Statement) → DirectGoes code n site numbered tree
+  direct_goes code n site numbered (Labelled labels (OnErrorStatement place s handler)) exits m before after e ahead begins =
+      both_go code n site numbered (emit before place (handler_code s (length before) (statement_size n site (suc m) handler))) (λ begun. statement_code n site begun exits (suc m) handler) before after e
+      (λ begun there rest starts. weaker code before begun (λ from to at. first_goes code from to _ at.3 tt (one_goes code (suc from) to _ at.4 (inl (omega arith))))
+      (entry_at code n site numbered s (statement_size n site (suc m) handler) place before begun there starts))
+      (λ begun there rest. statement_goes code n site numbered handler exits (suc m) begun after rest ahead begins)
+  direct_goes code n site numbered (Labelled labels basic) exits m before after e ahead begins = basic_goes code n site numbered basic labels exits m before after e ahead begins
 
-    cases_go : (group : Group) → SelectionGoes group
-    cases_go (Groups list close) exits place cell own target m before after is e far ahead begins = selected_go list exits place cell own target m 1 before after is e far ahead begins
+  pub block_goes : (code : Code) (n : Numbering) (site : Site) (numbered : IsNumbered code n) (list : Statements) → BlockGoes code n site numbered list
+  block_goes code n site numbered NoStatements exits m before after e ahead begins = weaker code before after (λ from to at. none_goes code from to at) (none_placed code before after (ok_is before after e) begins)
+  block_goes code n site numbered (MoreStatements first others) exits m before after e ahead begins =
+      both_go code n site numbered (direct_code n site before exits m first) (λ middle. block_code n site middle exits (after_statement m first) others) before after e
+      (λ middle there rest begun. direct_goes code n site numbered first exits m before middle there
+      (earlier exits (length middle) (length after) (let longer = block_longer n site others exits (after_statement m first) middle after rest in omega (arith, longer)) ahead) begun)
+      (λ middle there rest. block_goes code n site numbered others exits (after_statement m first) middle after rest ahead begins)
 
-    selected_go : (list : Statements) → CasesGo list
-    selected_go NoStatements exits place cell own target m k before after is e far ahead begins = weaker code before after (λ from to at. none_goes code from to at) (none_placed code before after (ok_is before after e) begins)
-    selected_go (MoreStatements first others) exits place cell own target m k before after is e far ahead begins =
-        both_go (case_code before place cell k (statement_size n site first)) _ before after e
-        (λ tested there rest begun. weaker code before tested (λ from to at. case_goes code own k from (to + (statement_size n site first + 1)) to at (omega arith))
-        (case_at code cell own is k (statement_size n site first) place before tested there begun))
-        (λ tested there rest. selected_first_goes first others exits place cell own target m k tested after is (statement_goes first) (selected_go others) rest far ahead begins)
+  else_goes : (code : Code) (n : Numbering) (site : Site) (numbered : IsNumbered code n) (alternative : Alternative) → ElseGoes code n site numbered alternative
+  else_goes code n site numbered NoAlternative exits m before after e ahead begins = weaker code before after (λ from to at. none_goes code from to at) (none_placed code before after (ok_is before after e) begins)
+  else_goes code n site numbered (Otherwise one) exits m before after e ahead begins =
+      let jump = suc (length before) + statement_size n site m one in
+      behind_one code n site numbered before after (instr.Jump jump) (inl (omega arith)) (statement_goes code n site numbered one exits m (before ++ (instr.Jump jump ∷ [])) after e ahead begins)
 
-    group_goes : (group : Group) → GroupGoes group
-    group_goes (Groups list close) exits m before after e ahead begins = list_goes list exits m before after e ahead begins
+  uncased_goes : (code : Code) (n : Numbering) (site : Site) (numbered : IsNumbered code n) (alternative : Alternative) → UncasedGoes code n site numbered alternative
+  uncased_goes code n site numbered NoAlternative exits place m before after e ahead begins = weaker code before after (λ from to at. one_goes code from to _ at tt) (one_placed code before after (instr.Raise 1 6) (ok_is _ after e) begins)
+  uncased_goes code n site numbered (Otherwise one) exits place m before after e ahead begins = statement_goes code n site numbered one exits m before after e ahead begins
 
-    pub list_goes : (list : Statements) → ListGoes list
-    list_goes NoStatements exits m before after e ahead begins = weaker code before after (λ from to at. none_goes code from to at) (none_placed code before after (ok_is before after e) begins)
-    list_goes (MoreStatements first others) exits m before after e ahead begins =
-        both_go (statement_code n site before exits m first) (λ middle. statements_code n site middle exits (after_statement m first) others) before after e
-        (λ middle there rest begun. statement_goes first exits m before middle there
-        (earlier exits (length middle) (length after) (let longer = statements_longer n site others exits (after_statement m first) middle after rest in omega (arith, longer)) ahead) begun)
-        (λ middle there rest. list_goes others exits (after_statement m first) middle after rest ahead begins)
+  cases_go : (code : Code) (n : Numbering) (site : Site) (numbered : IsNumbered code n) (group : Group) → SelectionGoes code n site numbered group
+  cases_go code n site numbered (Groups list close) exits place cell own target m before after is e far ahead begins = selected_go code n site numbered list exits place cell own target m 1 before after is e far ahead begins
+
+  selected_go : (code : Code) (n : Numbering) (site : Site) (numbered : IsNumbered code n) (list : Statements) → CasesGo code n site numbered list
+  selected_go code n site numbered NoStatements exits place cell own target m k before after is e far ahead begins = weaker code before after (λ from to at. none_goes code from to at) (none_placed code before after (ok_is before after e) begins)
+  selected_go code n site numbered (MoreStatements first others) exits place cell own target m k before after is e far ahead begins =
+      both_go code n site numbered (case_code before place cell k (statement_size n site m first)) _ before after e
+      (λ tested there rest begun. weaker code before tested (λ from to at. case_goes code own k from (to + (statement_size n site m first + 1)) to at (omega arith))
+      (case_at code cell own is k (statement_size n site m first) place before tested there begun))
+      (λ tested there rest. selected_first_goes code n site numbered first others exits place cell own target m k tested after is (statement_goes code n site numbered first) (selected_go code n site numbered others) rest far ahead begins)
+
+  group_goes : (code : Code) (n : Numbering) (site : Site) (numbered : IsNumbered code n) (group : Group) → GroupGoes code n site numbered group
+  group_goes code n site numbered (Groups list close) exits m before after e ahead begins = list_goes code n site numbered list exits m before after e ahead begins
+
+  list_goes : (code : Code) (n : Numbering) (site : Site) (numbered : IsNumbered code n) (list : Statements) → ListGoes code n site numbered list
+  list_goes code n site numbered NoStatements exits m before after e ahead begins = weaker code before after (λ from to at. none_goes code from to at) (none_placed code before after (ok_is before after e) begins)
+  list_goes code n site numbered (MoreStatements first others) exits m before after e ahead begins =
+      both_go code n site numbered (statement_code n site before exits m first) (λ middle. statements_code n site middle exits (after_statement m first) others) before after e
+      (λ middle there rest begun. statement_goes code n site numbered first exits m before middle there
+      (earlier exits (length middle) (length after) (let longer = statements_longer n site others exits (after_statement m first) middle after rest in omega (arith, longer)) ahead) begun)
+      (λ middle there rest. list_goes code n site numbered others exits (after_statement m first) middle after rest ahead begins)

@@ -1,15 +1,14 @@
 -- The code by which groups keep something in own places stands where it was put.
-use Rattle.std.specs.Prelude.{◌≡◌, ◌≤◌, ℕ, suc, ◌+◌, false, List, [], ◌∷◌, ◌++◌, length, pos, Option, Some, None, Ok, slice_get}
+use Rattle.std.specs.Prelude.{◌≡◌, ◌≤◌, ℕ, suc, ◌+◌, Bool, true, false, List, [], ◌∷◌, ◌++◌, length, Some, None, Ok, slice_get}
 use Rattle.std.specs.Option.{option_map, option_and_then}
 use Rattle.std.proofs.Common.{refl, sym, ap, subst, ◌∙◌, inl, arith, append-nil}
 use Rattle.hal_base.specs.declared.refusal.Place.{Place}
 use Rattle.hal_operations.specs.declared.operation.Op1.TheVariants as op1
-use Rattle.hal_operations.specs.declared.operation.Op2.TheVariants as op2
 use Rattle.hal_code.specs.declared.choice.Choice.TheVariants as choice
 use Rattle.hal_states.specs.Spots.{Own, Held}
 use Rattle.hal_values.specs.declared.value.Kind.TheVariants as kind
 use Rattle.hal_meaning.specs.ReportNames.{first_place}
-use Rattle.hal_meaning.specs.Statements.{loop_place}
+use Rattle.hal_meaning.specs.Statements.{loop_place, end_place}
 use Rattle.hal_code.specs.declared.instr.Instr.{Instr}
 use Rattle.hal_code.specs.declared.instr.Instr.TheVariants as instr
 use Rattle.hal_agreement.specs.Codes.{Code}
@@ -91,22 +90,24 @@ abbrev pub AreCells : Code → Cells → ℕ → Type 0
 AreCells code c own = IsCell code c.last own × IsCell code c.step (suc own) × IsCell code c.value (suc (suc own)) × IsCell code c.begins (suc (suc (suc own)))
 
 module _ (code : Code) (n : Numbering) (site : Site) (numbered : IsNumbered code n) where
-  cells_four : (m : ℕ) (c : Cells) → cells_at n site m 0 1 2 3 ≡ Some c → AreCells code c (loop_place (here_at site) m)
-  cells_four m c is =
+  -- four of them, before the first of which so many others lie
+  cells_four : (m before : ℕ) (c : Cells) → cells_at n site m before (suc before) (suc (suc before)) (suc (suc (suc before))) ≡ Some c → AreCells code c (loop_place (here_at site) m + before)
+  cells_four m before c is =
       let own = loop_place (here_at site) m in
-      let one = then_is (λ last. option_and_then (λ step. option_and_then (λ value. option_map (λ begins. cells last step value begins) (cell_of n site m 3)) (cell_of n site m 2)) (cell_of n site m 1)) (cell_of n site m 0) c is in
-      let two = then_is (λ step. option_and_then (λ value. option_map (λ begins. cells one.0 step value begins) (cell_of n site m 3)) (cell_of n site m 2)) (cell_of n site m 1) c one.2 in
-      let three = then_is (λ value. option_map (λ begins. cells one.0 two.0 value begins) (cell_of n site m 3)) (cell_of n site m 2) c two.2 in
-      let four = mapped_is (λ begins. cells one.0 two.0 three.0 begins) (cell_of n site m 3) c three.2 in
-      subst (λ all. AreCells code all own) four.2 (
-        subst (λ p. IsCell code one.0 p) (let same : own + 0 ≡ own = omega arith in same) (cell_is code n site numbered m 0 one.0 one.1),
-        subst (λ p. IsCell code two.0 p) (let same : own + 1 ≡ suc own = omega arith in same) (cell_is code n site numbered m 1 two.0 two.1),
-        subst (λ p. IsCell code three.0 p) (let same : own + 2 ≡ suc (suc own) = omega arith in same) (cell_is code n site numbered m 2 three.0 three.1),
-        subst (λ p. IsCell code four.0 p) (let same : own + 3 ≡ suc (suc (suc own)) = omega arith in same) (cell_is code n site numbered m 3 four.0 four.1),
+      let one = then_is (λ last. option_and_then (λ step. option_and_then (λ value. option_map (λ begins. cells last step value begins) (cell_of n site m (suc (suc (suc before))))) (cell_of n site m (suc (suc before)))) (cell_of n site m (suc before))) (cell_of n site m before) c is in
+      let two = then_is (λ step. option_and_then (λ value. option_map (λ begins. cells one.0 step value begins) (cell_of n site m (suc (suc (suc before))))) (cell_of n site m (suc (suc before)))) (cell_of n site m (suc before)) c one.2 in
+      let three = then_is (λ value. option_map (λ begins. cells one.0 two.0 value begins) (cell_of n site m (suc (suc (suc before))))) (cell_of n site m (suc (suc before))) c two.2 in
+      let four = mapped_is (λ begins. cells one.0 two.0 three.0 begins) (cell_of n site m (suc (suc (suc before)))) c three.2 in
+      subst (λ all. AreCells code all (own + before)) four.2 (
+        cell_is code n site numbered m before one.0 one.1,
+        subst (λ p. IsCell code two.0 p) (let same : own + suc before ≡ suc (own + before) = omega arith in same) (cell_is code n site numbered m (suc before) two.0 two.1),
+        subst (λ p. IsCell code three.0 p) (let same : own + suc (suc before) ≡ suc (suc (own + before)) = omega arith in same) (cell_is code n site numbered m (suc (suc before)) three.0 three.1),
+        subst (λ p. IsCell code four.0 p) (let same : own + suc (suc (suc before)) ≡ suc (suc (suc (own + before))) = omega arith in same) (cell_is code n site numbered m (suc (suc (suc before))) four.0 four.1),
       )
 
-  pub cells_are : (m : ℕ) (c : Cells) → cells_of n site false m ≡ Some c → AreCells code c (loop_place (here_at site) m)
-  cells_are m c is = cells_four m c is
+  pub cells_are : (temporary : Bool) (m : ℕ) (c : Cells) → cells_of n site temporary m ≡ Some c → AreCells code c (end_place (here_at site) temporary m)
+  cells_are false m c is = let own = loop_place (here_at site) m in subst (λ p. AreCells code c p) (let same : own + 0 ≡ own = omega arith in same) (cells_four m 0 c is)
+  cells_are true m c is = let own = loop_place (here_at site) m in subst (λ p. AreCells code c p) (let same : own + 1 ≡ suc own = omega arith in same) (cells_four m 1 c is)
 
 module _ (code : Code) (c : Cells) (own : ℕ) (are : AreCells code c own) where
   pub holding_at : (before after : List Instr) → holding before c.value ≡ after → Begins after code.image.code → Placed code before after (λ from to. HoldsAt code (suc (suc own)) from to)

@@ -1,5 +1,5 @@
 -- The code of a statement has as many instructions as its size says.
-use Rattle.std.specs.Prelude.{◌≡◌, ℕ, suc, ◌+◌, nat_lt, Bool, true, false, if◌then◌else◌, List, [], ◌∷◌, ◌++◌, length, pos, Option, Some, None, Ok, Err}
+use Rattle.std.specs.Prelude.{◌≡◌, ℕ, suc, ◌+◌, Bool, true, false, List, [], ◌∷◌, ◌++◌, length, pos, Option, Some, None, Ok, Err}
 use Rattle.std.specs.Option.{option_map, option_and_then}
 use Rattle.std.proofs.Common.{refl, ap, ◌∙◌, subst, append-nil, arith}
 use Rattle.hal_base.specs.declared.refusal.Place.{Place}
@@ -10,7 +10,6 @@ use Rattle.hal_scope.specs.Uses.{holds_event}
 use Rattle.hal_constants.specs.Constants.{is_none}
 use Rattle.hal_meaning.specs.Bodies.{Body}
 use Rattle.hal_meaning.specs.Events.{event_named}
-use Rattle.hal_meaning.specs.Expressions.{inputs_at}
 use Rattle.hal_meaning.specs.Marks.{after_statement, after_alternative}
 use Rattle.hal_meaning.specs.RealTime.{stated_at_mark}
 use Rattle.hal_meaning.specs.Sets.{body_at}
@@ -26,22 +25,24 @@ use Rattle.hal_code.specs.declared.operand.Places.{Places}
 use Rattle.hal_code.specs.declared.operand.Places.TheVariants as places
 use Rattle.hal_code.specs.declared.operand.Time as operand-time
 use Rattle.hal_agreement.specs.PlacedExpressions.{places_of}
-use Rattle.hal_agreement.specs.PlacedStatements.{patches, ToFinish, ByReturn, ByResult, NoReturn, Leaving, Exits, exit_of, again_of, opened, within_group, of_block}
-use Rattle.hal_agreement.specs.Sites.{Site, here_at}
+use Rattle.hal_agreement.specs.PlacedStatements.{patches, ToFinish, ByReturn, ByResult, NoReturn, Leaving, Exits, exit_of, again_of, opened, within_group}
+use Rattle.hal_agreement.specs.Sites.{Site, here_at, group_site}
 use Rattle.hal_gen_expr.specs.Emitting.{Emitted, onwards, emit}
 use Rattle.hal_gen_expr.specs.ExpressionCode.{emit_one, integer_instr, name_code, integer_code, chosen_code, part_code, expression_code}
 use Rattle.hal_gen_expr.specs.Leaves.{value_of}
+use Rattle.hal_gen_expr.specs.declared.aims.Aim.TheVariants as aims
 use Rattle.hal_gen_expr.specs.Led.{Led, led_by, sizes_led}
 use Rattle.hal_gen_expr.specs.Numbering.{Numbering, below}
 use Rattle.hal_referents.specs.Referents.{Referent, DataOf, ConstantOf, EventOf, BlockOf, BuiltinOf, Unmeant}
 use Rattle.hal_gen_expr.specs.Referents.{referent}
 use Rattle.hal_gen_expr.proofs.Appending.{behind, emit_behind, onwards_behind, if_behind, grows_by, chosen_behind, part_behind, expression_grows, call_grows}
+use Rattle.hal_gen.specs.BlockExits.{of_body}
 use Rattle.hal_gen.specs.Constants.{channel_of}
-use Rattle.hal_gen.specs.Leaves.{kind_of_receiver, return_of, as_result, result_of, event_change_of, event_pause_of, first_event, last_event, named_process, and_asked, each_of, named_or_own_of, numbers_of, side_numbers, response_entry, response_code, off_of, raise_of}
+use Rattle.hal_gen.specs.Leaves.{kind_of_receiver, return_of, as_result, result_of, event_change_of, event_pause_of, first_event, last_event, named_process, and_asked, each_of, named_or_own_of, numbers_of, side_numbers, response_entry, response_code, handler_entry, handler_code, off_of, raise_of}
 use Rattle.hal_gen.specs.Receiving.{patch_code, patched_code, stored_code, received_code, addressed_code, receiver_code, receiver_size}
 use Rattle.hal_gen.specs.Timing.{time_operand, time_code, time_size, pause_code, start_code, start_size, start_operand, priority_code, priority_size, round_code, round_size, until_code, until_size, limit_code, limit_size, limit_operand, schedule_by, schedule_of, schedule_code, schedule_size, named_or_self, update_priority_code}
-use Rattle.hal_gen.specs.Sizes.{first_span_size, later_span_size, value_size, next_values_size, step_size, begin_size, again_size, uncased_size, cases_size, selected_size, expression_size, items_size, receivers_size, reads_size, first_test_size, test_size, jump_size, names_size, call_size, statement_size, basic_size, alternative_size, group_size, statements_size}
-use Rattle.hal_gen.specs.StatementCode.{first_span_code, later_span_code, with_cells, receivers_code, items_code, with_number, reads_code, condition_code, first_test_code, test_code, jump_to, procedure_code, returning_code, statement_code, basic_code, alternative_code, uncased_code, cases_code, selected_code, group_code, statements_code}
+use Rattle.hal_gen.specs.Sizes.{spanned_size, return_size, first_span_size, later_span_size, value_size, next_values_size, step_size, begin_size, again_size, uncased_size, cases_size, selected_size, expression_size, items_size, receivers_size, reads_size, first_test_size, test_size, jump_size, names_size, call_size, statement_size, basic_size, alternative_size, group_size, statements_size}
+use Rattle.hal_gen.specs.StatementCode.{first_span_code, later_span_code, spanned_code, with_cells, receivers_code, items_code, with_number, reads_code, condition_code, first_test_code, test_code, jump_to, procedure_code, returning_code, statement_code, basic_code, direct_code, block_code, alternative_code, uncased_code, cases_code, selected_code, group_code, statements_code}
 use Rattle.hal_gen.specs.KeptCode.{cell_of, keeping, case_tests, case_code, cells_of, holding, negative_tests, lesser_tests, bounds_keeping, bounding, nexting, counting}
 use Rattle.hal_gen.specs.SpanCode.{variable_of, store_code, fetch_code, step_code, begun_code, counted_code, counted_in, value_code, next_values_code, begin_code, again_code}
 use Rattle.hal_gen.specs.declared.kept.Cells.{Cells}
@@ -129,8 +130,8 @@ module _ (n : Numbering) (site : Site) (front : List Instr) (place : Place) wher
   addressed_behind : (subscript : Subscript) (o : Option Led) (before : List Instr) → addressed_code n site (front ++ before) place subscript o ≡ behind front (addressed_code n site before place subscript o)
   addressed_behind subscript None before = refl
   addressed_behind subscript (Some l) before =
-      onwards_behind front (chosen_code n site before place subscript l) _ (λ middle. received_code n site middle place (is_arrayed (sizes_led l)) subscript)
-      (λ middle. received_code n site middle place (is_arrayed (sizes_led l)) subscript) (chosen_behind n site front subscript l place before) (λ code. received_behind subscript (is_arrayed (sizes_led l)) code)
+      onwards_behind front (chosen_code n site before place aims.Cell subscript l) _ (λ middle. received_code n site middle place (is_arrayed (sizes_led l)) subscript)
+      (λ middle. received_code n site middle place (is_arrayed (sizes_led l)) subscript) (chosen_behind n site front subscript aims.Cell l place before) (λ code. received_behind subscript (is_arrayed (sizes_led l)) code)
 
 receiver_behind : (n : Numbering) (site : Site) (front : List Instr) (receiver : Reference) (before : List Instr) → receiver_code n site (front ++ before) receiver ≡ behind front (receiver_code n site before receiver)
 receiver_behind n site front (Refers place name path subscript) before = addressed_behind n site front place subscript (led_by path (referent site name)) before
@@ -306,7 +307,7 @@ result_gives ByResult body is e = subst (λ l. length l ≡ length (as_result bo
 result_gives NoReturn body is e = absurd (cc)
 
 returning_longer : (n : Numbering) (site : Site) (exits : Exits) (place : Place) (value : Option Expression) (before after : List Instr) → returning_code n site before exits place value ≡ Ok after
-    → Longer before after (basic_size n site (Return place value))
+    → Longer before after (return_size n site value)
 returning_longer n site exits place None before after e = emitted_longer before after place (return_of exits.leaving) 1 e (return_gives exits.leaving)
 returning_longer n site exits place (Some tree) before after e =
     both_longer (expression_code n site before tree) (λ middle. emit middle place (result_of exits.leaving (body_at site.set site.unit))) before after (expression_size n site tree) (length (as_result (body_at site.set site.unit)) + 1) e
@@ -329,15 +330,14 @@ named_gives : (site : Site) (asks : ℕ → Instr) (names : List Naming) → Giv
 named_gives site asks [] is e = subst (λ l. length l ≡ 1) (let same : (asks 255 ∷ []) ≡ is = cc in same) refl
 named_gives site asks (name ∷ names) is e = each_gives site asks (name ∷ names) is e
 
-procedure_longer : (n : Numbering) (site : Site) (place : Place) (arguments : Expressions) (r : Referent) (before after : List Instr) → procedure_code n site before place arguments r ≡ Ok after
-    → Longer before after (call_size n site arguments place r)
-procedure_longer n site place arguments (BlockOf unit) before after e =
-    call_grows n site false unit arguments (inputs_at site.set unit) place before after e
-procedure_longer n site place arguments (DataOf k kept shape) before after e = absurd (cc)
-procedure_longer n site place arguments (ConstantOf v) before after e = absurd (cc)
-procedure_longer n site place arguments (EventOf v) before after e = absurd (cc)
-procedure_longer n site place arguments (BuiltinOf v) before after e = absurd (cc)
-procedure_longer n site place arguments Unmeant before after e = absurd (cc)
+procedure_longer : (n : Numbering) (site : Site) (place : Place) (arguments : Expressions) (receivers : List Reference) (r : Referent) (before after : List Instr) → procedure_code n site before place arguments receivers r ≡ Ok after
+    → Longer before after (call_size n site arguments receivers place r)
+procedure_longer n site place arguments receivers (BlockOf unit) before after e = call_grows n site arguments receivers unit place before after e
+procedure_longer n site place arguments receivers (DataOf k kept shape) before after e = absurd (cc)
+procedure_longer n site place arguments receivers (ConstantOf v) before after e = absurd (cc)
+procedure_longer n site place arguments receivers (EventOf v) before after e = absurd (cc)
+procedure_longer n site place arguments receivers (BuiltinOf v) before after e = absurd (cc)
+procedure_longer n site place arguments receivers Unmeant before after e = absurd (cc)
 
 same_length : (before after : List Instr) → onwards (Ok before) Ok ≡ Ok after → Longer before after 0
 same_length before after e = let same : before ≡ after = cc in let there = ap length same in omega (arith, there)
@@ -422,136 +422,157 @@ cells_longer : (before after : List Instr) (place : Place) (o : Option Cells) (g
 cells_longer before after place None go size e each = absurd (cc)
 cells_longer before after place (Some c) go size e each = each c e
 
-module _ (n : Numbering) (site : Site) where
-  mutual
-    pub statement_longer : (tree : Statement) (exits : Exits) (m : ℕ) (before after : List Instr) → statement_code n site before exits m tree ≡ Ok after → Longer before after (statement_size n site tree)
-    statement_longer (Labelled labels basic) exits m before after e = basic_longer basic labels exits m before after e
+-- all of a DO FOR, by its group
+module _ (n : Numbering) (site : Site) (place : Place) (name : List ℕ) (c : Cells) (span : Span) (g : Option Guard) where
+  pub spanned_longer : (labels : List Naming) (exits : Exits) (size : ℕ) (group : List Instr → Exits → Emitted) (before after : List Instr)
+      → ((start : List Instr) (inner : Exits) (middle : List Instr) → group start inner ≡ Ok middle → Longer start middle size)
+      → spanned_code n site before exits labels place name c span g size group ≡ Ok after → Longer before after (spanned_size n site span g size)
+  spanned_longer labels exits size group before after each e =
+      let exit = length before + spanned_size n site span g size in
+      let rest = both_longer (begin_code n site before place name c exit span) _ before after (begin_size n site span) (first_span_size n site g + (1 + (size + (again_size n site span + later_span_size n site g))))
+      (unnested (begin_code n site before place name c exit span) (λ begun. first_span_code n site begun g exit) _ after e)
+      (λ begun there. begin_longer n site place name c exit span before begun there)
+      (λ begun there. both_longer (first_span_code n site begun g exit) _ begun after (first_span_size n site g) (1 + (size + (again_size n site span + later_span_size n site g))) there
+      (λ tested got. first_span_longer n site g exit begun tested got)
+      (λ tested got. later tested after (instr.Turn exit) (size + (again_size n site span + later_span_size n site g))
+      (both_longer (group (tested ++ (instr.Turn exit ∷ [])) (within_group (opened labels exit (Some (suc (length tested) + size))) exits)) _ (tested ++ (instr.Turn exit ∷ [])) after size
+      (again_size n site span + later_span_size n site g) got
+      (λ middle one. each (tested ++ (instr.Turn exit ∷ [])) (within_group (opened labels exit (Some (suc (length tested) + size))) exits) middle one)
+      (λ middle one. both_longer (again_code n site middle place name c exit span) _ middle after (again_size n site span) (later_span_size n site g) one
+      (λ counted two. again_longer n site place name c exit span middle counted two)
+      (λ counted two. later_span_longer n site place g (length tested) exit counted after two)))))
+      in omega (arith, rest)
 
-    pub basic_longer : (basic : Basic) (labels : List Naming) (exits : Exits) (m : ℕ) (before after : List Instr) → basic_code n site before exits m labels basic ≡ Ok after
-        → Longer before after (basic_size n site basic)
-    basic_longer (Null place) labels exits m before after e = same_length before after e
-    basic_longer (Assignment place receivers tree) labels exits m before after e =
-        both_longer (expression_code n site before tree) (λ middle. receivers_code n site middle place receivers) before after (expression_size n site tree) (receivers_size n site receivers) e
-        (λ middle there. expression_longer n site tree before middle there) (λ middle there. receivers_longer n site place receivers middle after there)
-    basic_longer (If place condition consequence alternative) labels exits m before after e =
-        let rest = both_longer (expression_code n site before condition) _ before after (expression_size n site condition) (1 + (statement_size n site consequence + (jump_size alternative + alternative_size n site alternative))) e
-        (λ tested there. expression_longer n site condition before tested there)
-        (λ tested there. later tested after (instr.JumpNot (suc (length tested) + (statement_size n site consequence + jump_size alternative))) (statement_size n site consequence + (jump_size alternative + alternative_size n site alternative))
-        (both_longer (statement_code n site (tested ++ (instr.JumpNot (suc (length tested) + (statement_size n site consequence + jump_size alternative)) ∷ [])) exits m consequence) _
-        (tested ++ (instr.JumpNot (suc (length tested) + (statement_size n site consequence + jump_size alternative)) ∷ [])) after (statement_size n site consequence) (jump_size alternative + alternative_size n site alternative) there
-        (λ middle one. statement_longer consequence exits m (tested ++ (instr.JumpNot (suc (length tested) + (statement_size n site consequence + jump_size alternative)) ∷ [])) middle one)
-        (λ middle other. alternative_longer alternative exits (after_statement m consequence) middle after other)))
-        in omega (arith, rest)
-    basic_longer (Do place group) labels exits m before after e = group_longer group (within_group (opened labels (length before + group_size n site group) None) exits) (suc m) before after e
-    basic_longer (DoCase place number alternative group) labels exits m before after e =
-        let exit = length before + basic_size n site (DoCase place number alternative group) in
-        let inner = within_group (opened labels exit None) exits in
-        number_longer before after place (cell_of n site m 0) _ (basic_size n site (DoCase place number alternative group)) e
-        (λ cell given. let rest = both_longer (expression_code n site before number) _ before after (expression_size n site number) (2 + (cases_size n site group + uncased_size n site alternative)) given
-        (λ valued there. expression_longer n site number before valued there)
-        (λ valued there. let two = keeping_longer valued (keeping valued cell) cell refl in
-        let more = both_longer (cases_code n site (keeping valued cell) inner place cell exit (after_alternative (suc m) alternative) group) _ (keeping valued cell) after (cases_size n site group) (uncased_size n site alternative) there
-        (λ middle one. cases_longer group inner place cell exit (after_alternative (suc m) alternative) (keeping valued cell) middle one)
-        (λ middle one. uncased_longer alternative inner place (suc m) middle after one) in omega (arith, two, more))
-        in omega (arith, rest))
-    basic_longer (DoLoop place g group) labels exits m before after e =
-        let exit = length before + basic_size n site (DoLoop place g group) in
-        let rest = both_longer (first_test_code n site before g exit) _ before after (first_test_size n site g) (1 + (group_size n site group + test_size n site g)) e
-        (λ tested there. first_test_longer n site g exit before tested there)
-        (λ tested there. later tested after (instr.Turn exit) (group_size n site group + test_size n site g)
-        (both_longer (group_code n site (tested ++ (instr.Turn exit ∷ [])) (within_group (opened labels exit (Some (suc (length tested) + group_size n site group))) exits) (suc m) group) _
-        (tested ++ (instr.Turn exit ∷ [])) after (group_size n site group) (test_size n site g) there
-        (λ middle one. group_longer group (within_group (opened labels exit (Some (suc (length tested) + group_size n site group))) exits) (suc m) (tested ++ (instr.Turn exit ∷ [])) middle one)
-        (λ middle other. test_longer n site g (length tested) exit middle after other)))
-        in omega (arith, rest)
-    basic_longer (DoFor place temporary variable span g group) labels exits m before after e =
-        let exit = length before + basic_size n site (DoFor place temporary variable span g group) in
-        cells_longer before after place (cells_of n site temporary m) _ (basic_size n site (DoFor place temporary variable span g group)) e
-        (λ c given. let rest = both_longer (begin_code n site before place variable.name c exit span) _ before after (begin_size n site span)
-        (first_span_size n site g + (1 + (group_size n site group + (again_size n site span + later_span_size n site g))))
-        (unnested (begin_code n site before place variable.name c exit span) (λ begun. first_span_code n site begun g exit) _ after given)
-        (λ begun there. begin_longer n site place variable.name c exit span before begun there)
-        (λ begun there. both_longer (first_span_code n site begun g exit) _ begun after (first_span_size n site g) (1 + (group_size n site group + (again_size n site span + later_span_size n site g))) there
-        (λ tested got. first_span_longer n site g exit begun tested got)
-        (λ tested got. later tested after (instr.Turn exit) (group_size n site group + (again_size n site span + later_span_size n site g))
-        (both_longer (group_code n site (tested ++ (instr.Turn exit ∷ [])) (within_group (opened labels exit (Some (suc (length tested) + group_size n site group))) exits) (suc m) group) _ (tested ++ (instr.Turn exit ∷ [])) after (group_size n site group)
-        (again_size n site span + later_span_size n site g) got
-        (λ middle one. group_longer group (within_group (opened labels exit (Some (suc (length tested) + group_size n site group))) exits) (suc m) (tested ++ (instr.Turn exit ∷ [])) middle one)
-        (λ middle one. both_longer (again_code n site middle place variable.name c exit span) _ middle after (again_size n site span) (later_span_size n site g) one
-        (λ counted two. again_longer n site place variable.name c exit span middle counted two)
-        (λ counted two. later_span_longer n site place g (length tested) exit counted after two)))))
-        in omega (arith, rest))
-    basic_longer (Exit place label) labels exits m before after e =
-        emitted_longer before after place (jump_to (exit_of exits.groups (label_name label))) 1 e (map_one (λ at. instr.Jump at ∷ []) 1 (exit_of exits.groups (label_name label)) (λ at. refl))
-    basic_longer (Repeat place label) labels exits m before after e =
-        emitted_longer before after place (jump_to (again_of exits.groups (label_name label))) 1 e (map_one (λ at. instr.Jump at ∷ []) 1 (again_of exits.groups (label_name label)) (λ at. refl))
-    basic_longer (Return place value) labels exits m before after e = returning_longer n site exits place value before after e
-    basic_longer (Call place name arguments []) labels exits m before after e = procedure_longer n site place arguments (referent site name.name) before after e
-    basic_longer (Call place name arguments (receiver ∷ receivers)) labels exits m before after e = absurd (cc)
-    basic_longer (Read place channel receivers) labels exits m before after e =
-        number_longer before after place (channel_of site channel) _ (reads_size n site receivers) e (λ number there. reads_longer n site number receivers before after there)
-    basic_longer (Write place channel items) labels exits m before after e =
-        number_longer before after place (channel_of site channel) _ (items_size n site items + 1) e
-        (λ number there. both_longer (items_code n site before items) _ before after (items_size n site items) 1 there (λ middle one. items_longer n site items before middle one)
-        (λ middle one. put middle after (instr.Print number ∷ []) 1 one refl))
-    basic_longer (Event one) labels exits m before after e =
-        emitted_longer before after one.place (event_change_of site one) 1 e (map_one _ 1 (below 65536 (event_named site.set.phrases site.block one.name.name)) (λ number. refl))
-    basic_longer (Cancel place names) labels exits m before after e = emitted_longer before after place (named_or_own_of site instr.Cancel names) (names_size names) e (named_gives site instr.Cancel names)
-    basic_longer (Terminate place names) labels exits m before after e =
-        emitted_longer before after place (named_or_own_of site instr.Terminate names) (names_size names) e (named_gives site instr.Terminate names)
-    basic_longer (Scheduled place s) labels exits m before after e = schedule_longer n site place (stated_at_mark (here_at site) m) s before after e
-    basic_longer (UpdatePriority place name tree) labels exits m before after e = update_priority_longer n site place name tree before after e
-    basic_longer (Wait place tree) labels exits m before after e = pause_longer n site place delay.For tree before after e
-    basic_longer (WaitUntil place tree) labels exits m before after e = pause_longer n site place delay.Until tree before after e
-    basic_longer (WaitForDependent place) labels exits m before after e = put before after (instr.Wait delay.Dependents ∷ []) 1 e refl
-    basic_longer (WaitFor place tree) labels exits m before after e =
-        emitted_longer before after place (event_pause_of site (stated_at_mark (here_at site) m)) 1 e (event_pause_gives site (stated_at_mark (here_at site) m))
-    basic_longer (Update place body close) labels exits m before after e =
-        let opens = option_map (λ groups. instr.Open groups ∷ []) (below 65536 (update_groups (here_at site) m)) in
-        let rest = both_longer (emit before place opens) _ before after 1 (statements_size n site body + 1) e
-        (λ begun there. emitted_longer before begun place opens 1 there (map_one (λ groups. instr.Open groups ∷ []) 1 (below 65536 (update_groups (here_at site) m)) (λ groups. refl)))
-        (λ begun there. both_longer (statements_code n site begun (of_block NoReturn (λ mark. length begun + statements_size n site body)) (suc m) body) _ begun after (statements_size n site body) 1 there
-        (λ middle one. statements_longer body (of_block NoReturn (λ mark. length begun + statements_size n site body)) (suc m) begun middle one) (λ middle one. put middle after (instr.Close ∷ []) 1 one refl))
-        in omega (arith, rest)
-    basic_longer (SendError place group_at group number_at number) labels exits m before after e =
-        emitted_longer before after place (raise_of group number) 1 e (two_mapped (λ g k. instr.Raise g k ∷ []) 1 (below 256 group) (below 256 number) (λ g k. refl))
-    basic_longer (OnErrorResponse place s r one) labels exits m before after e =
-        emitted_longer before after place (response_code site s r one) 1 e (two_mapped (response_entry r) 1 (numbers_of s) (side_numbers site one) (λ errors side. refl))
-    basic_longer (OffError place s) labels exits m before after e = emitted_longer before after place (off_of s) 1 e (map_one _ 1 (numbers_of s) (λ errors. refl))
-    basic_longer (OnErrorStatement place selector handler) labels exits m before after e = absurd (cc)
+mutual
+  pub statement_longer : (n : Numbering) (site : Site) (tree : Statement) (exits : Exits) (m : ℕ) (before after : List Instr) → statement_code n site before exits m tree ≡ Ok after → Longer before after (statement_size n site m tree)
+  statement_longer n site (Labelled labels basic) exits m before after e = basic_longer n site basic labels exits m before after e
 
-    pub alternative_longer : (alternative : Alternative) (exits : Exits) (m : ℕ) (before after : List Instr) → alternative_code n site before exits m alternative ≡ Ok after
-        → Longer before after (jump_size alternative + alternative_size n site alternative)
-    alternative_longer NoAlternative exits m before after e = same_length before after e
-    alternative_longer (Otherwise one) exits m before after e =
-        let jump = instr.Jump (suc (length before) + statement_size n site one) in
-        later before after jump (statement_size n site one) (statement_longer one exits m (before ++ (jump ∷ [])) after e)
+  pub basic_longer : (n : Numbering) (site : Site) (basic : Basic) (labels : List Naming) (exits : Exits) (m : ℕ) (before after : List Instr) → basic_code n site before exits m labels basic ≡ Ok after
+      → Longer before after (basic_size n site m basic)
+  basic_longer n site (Null place) labels exits m before after e = same_length before after e
+  basic_longer n site (Assignment place receivers tree) labels exits m before after e =
+      both_longer (expression_code n site before tree) (λ middle. receivers_code n site middle place receivers) before after (expression_size n site tree) (receivers_size n site receivers) e
+      (λ middle there. expression_longer n site tree before middle there) (λ middle there. receivers_longer n site place receivers middle after there)
+  basic_longer n site (If place condition consequence alternative) labels exits m before after e =
+      let rest = both_longer (expression_code n site before condition) _ before after (expression_size n site condition) (1 + (statement_size n site m consequence + (jump_size alternative + alternative_size n site (after_statement m consequence) alternative))) e
+      (λ tested there. expression_longer n site condition before tested there)
+      (λ tested there. later tested after (instr.JumpNot (suc (length tested) + (statement_size n site m consequence + jump_size alternative))) (statement_size n site m consequence + (jump_size alternative + alternative_size n site (after_statement m consequence) alternative))
+      (both_longer (statement_code n site (tested ++ (instr.JumpNot (suc (length tested) + (statement_size n site m consequence + jump_size alternative)) ∷ [])) exits m consequence) _
+      (tested ++ (instr.JumpNot (suc (length tested) + (statement_size n site m consequence + jump_size alternative)) ∷ [])) after (statement_size n site m consequence) (jump_size alternative + alternative_size n site (after_statement m consequence) alternative) there
+      (λ middle one. statement_longer n site consequence exits m (tested ++ (instr.JumpNot (suc (length tested) + (statement_size n site m consequence + jump_size alternative)) ∷ [])) middle one)
+      (λ middle other. alternative_longer n site alternative exits (after_statement m consequence) middle after other)))
+      in omega (arith, rest)
+  basic_longer n site (Do place group) labels exits m before after e = group_longer n site group (within_group (opened labels (length before + group_size n site (suc m) group) None) exits) (suc m) before after e
+  basic_longer n site (DoCase place number alternative group) labels exits m before after e =
+      let exit = length before + basic_size n site m (DoCase place number alternative group) in
+      let inner = within_group (opened labels exit None) exits in
+      number_longer before after place (cell_of n site m 0) _ (basic_size n site m (DoCase place number alternative group)) e
+      (λ cell given. let rest = both_longer (expression_code n site before number) _ before after (expression_size n site number) (2 + (cases_size n site (after_alternative (suc m) alternative) group + uncased_size n site (suc m) alternative)) given
+      (λ valued there. expression_longer n site number before valued there)
+      (λ valued there. let two = keeping_longer valued (keeping valued cell) cell refl in
+      let more = both_longer (cases_code n site (keeping valued cell) inner place cell exit (after_alternative (suc m) alternative) group) _ (keeping valued cell) after (cases_size n site (after_alternative (suc m) alternative) group) (uncased_size n site (suc m) alternative) there
+      (λ middle one. cases_longer n site group inner place cell exit (after_alternative (suc m) alternative) (keeping valued cell) middle one)
+      (λ middle one. uncased_longer n site alternative inner place (suc m) middle after one) in omega (arith, two, more))
+      in omega (arith, rest))
+  basic_longer n site (DoLoop place g group) labels exits m before after e =
+      let exit = length before + basic_size n site m (DoLoop place g group) in
+      let rest = both_longer (first_test_code n site before g exit) _ before after (first_test_size n site g) (1 + (group_size n site (suc m) group + test_size n site g)) e
+      (λ tested there. first_test_longer n site g exit before tested there)
+      (λ tested there. later tested after (instr.Turn exit) (group_size n site (suc m) group + test_size n site g)
+      (both_longer (group_code n site (tested ++ (instr.Turn exit ∷ [])) (within_group (opened labels exit (Some (suc (length tested) + group_size n site (suc m) group))) exits) (suc m) group) _
+      (tested ++ (instr.Turn exit ∷ [])) after (group_size n site (suc m) group) (test_size n site g) there
+      (λ middle one. group_longer n site group (within_group (opened labels exit (Some (suc (length tested) + group_size n site (suc m) group))) exits) (suc m) (tested ++ (instr.Turn exit ∷ [])) middle one)
+      (λ middle other. test_longer n site g (length tested) exit middle after other)))
+      in omega (arith, rest)
+  basic_longer n site (DoFor place temporary variable span g group) labels exits m before after e =
+      let inner = group_site site temporary m in
+      cells_longer before after place (cells_of n site temporary m) _ (basic_size n site m (DoFor place temporary variable span g group)) e
+      (λ c given. spanned_longer n inner place variable.name c span g labels exits (group_size n inner (suc m) group) (λ start within. group_code n inner start within (suc m) group) before after
+      (λ start within middle there. group_longer n inner group within (suc m) start middle there) given)
+  basic_longer n site (Exit place label) labels exits m before after e =
+      emitted_longer before after place (jump_to (exit_of exits.groups (label_name label))) 1 e (map_one (λ at. instr.Jump at ∷ []) 1 (exit_of exits.groups (label_name label)) (λ at. refl))
+  basic_longer n site (Repeat place label) labels exits m before after e =
+      emitted_longer before after place (jump_to (again_of exits.groups (label_name label))) 1 e (map_one (λ at. instr.Jump at ∷ []) 1 (again_of exits.groups (label_name label)) (λ at. refl))
+  basic_longer n site (Return place value) labels exits m before after e = returning_longer n site exits place value before after e
+  basic_longer n site (Call place name arguments receivers) labels exits m before after e = procedure_longer n site place arguments receivers (referent site name.name) before after e
+  basic_longer n site (Read place channel receivers) labels exits m before after e =
+      number_longer before after place (channel_of site channel) _ (reads_size n site receivers) e (λ number there. reads_longer n site number receivers before after there)
+  basic_longer n site (Write place channel items) labels exits m before after e =
+      number_longer before after place (channel_of site channel) _ (items_size n site items + 1) e
+      (λ number there. both_longer (items_code n site before items) _ before after (items_size n site items) 1 there (λ middle one. items_longer n site items before middle one)
+      (λ middle one. put middle after (instr.Print number ∷ []) 1 one refl))
+  basic_longer n site (Event one) labels exits m before after e =
+      emitted_longer before after one.place (event_change_of site one) 1 e (map_one _ 1 (below 65536 (event_named site.set.phrases site.block one.name.name)) (λ number. refl))
+  basic_longer n site (Cancel place names) labels exits m before after e = emitted_longer before after place (named_or_own_of site instr.Cancel names) (names_size names) e (named_gives site instr.Cancel names)
+  basic_longer n site (Terminate place names) labels exits m before after e =
+      emitted_longer before after place (named_or_own_of site instr.Terminate names) (names_size names) e (named_gives site instr.Terminate names)
+  basic_longer n site (Scheduled place s) labels exits m before after e = schedule_longer n site place (stated_at_mark (here_at site) m) s before after e
+  basic_longer n site (UpdatePriority place name tree) labels exits m before after e = update_priority_longer n site place name tree before after e
+  basic_longer n site (Wait place tree) labels exits m before after e = pause_longer n site place delay.For tree before after e
+  basic_longer n site (WaitUntil place tree) labels exits m before after e = pause_longer n site place delay.Until tree before after e
+  basic_longer n site (WaitForDependent place) labels exits m before after e = put before after (instr.Wait delay.Dependents ∷ []) 1 e refl
+  basic_longer n site (WaitFor place tree) labels exits m before after e =
+      emitted_longer before after place (event_pause_of site (stated_at_mark (here_at site) m)) 1 e (event_pause_gives site (stated_at_mark (here_at site) m))
+  basic_longer n site (Update place body close) labels exits m before after e =
+      let opens = option_map (λ groups. instr.Open groups ∷ []) (below 65536 (update_groups (here_at site) m)) in
+      let rest = both_longer (emit before place opens) _ before after 1 (statements_size n site (suc m) body + 1) e
+      (λ begun there. emitted_longer before begun place opens 1 there (map_one (λ groups. instr.Open groups ∷ []) 1 (below 65536 (update_groups (here_at site) m)) (λ groups. refl)))
+      (λ begun there. both_longer (block_code n site begun (of_body NoReturn) (suc m) body) _ begun after (statements_size n site (suc m) body) 1 there
+      (λ middle one. block_longer n site body (of_body NoReturn) (suc m) begun middle one) (λ middle one. put middle after (instr.Close ∷ []) 1 one refl))
+      in omega (arith, rest)
+  basic_longer n site (SendError place group_at group number_at number) labels exits m before after e =
+      emitted_longer before after place (raise_of group number) 1 e (two_mapped (λ g k. instr.Raise g k ∷ []) 1 (below 256 group) (below 256 number) (λ g k. refl))
+  basic_longer n site (OnErrorResponse place s r one) labels exits m before after e =
+      emitted_longer before after place (response_code site s r one) 1 e (two_mapped (response_entry r) 1 (numbers_of s) (side_numbers site one) (λ errors side. refl))
+  basic_longer n site (OffError place s) labels exits m before after e = emitted_longer before after place (off_of s) 1 e (map_one _ 1 (numbers_of s) (λ errors. refl))
+  basic_longer n site (OnErrorStatement place s handler) labels exits m before after e = absurd (cc)
 
-    pub uncased_longer : (alternative : Alternative) (exits : Exits) (place : Place) (m : ℕ) (before after : List Instr) → uncased_code n site before exits place m alternative ≡ Ok after
-        → Longer before after (uncased_size n site alternative)
-    uncased_longer NoAlternative exits place m before after e = put before after (instr.Raise 1 6 ∷ []) 1 e refl
-    uncased_longer (Otherwise one) exits place m before after e = statement_longer one exits m before after e
+  pub direct_longer : (n : Numbering) (site : Site) (tree : Statement) (exits : Exits) (m : ℕ) (before after : List Instr) → direct_code n site before exits m tree ≡ Ok after → Longer before after (statement_size n site m tree)
+  direct_longer n site (Labelled labels (OnErrorStatement place s handler)) exits m before after e =
+      both_longer (emit before place (handler_code s (length before) (statement_size n site (suc m) handler))) _ before after 2 (statement_size n site (suc m) handler) e
+      (λ begun there. emitted_longer before begun place (handler_code s (length before) (statement_size n site (suc m) handler)) 2 there
+      (map_one (handler_entry (length before) (statement_size n site (suc m) handler)) 2 (numbers_of s) (λ errors. refl)))
+      (λ begun there. statement_longer n site handler exits (suc m) begun after there)
+  direct_longer n site (Labelled labels basic) exits m before after e = basic_longer n site basic labels exits m before after e
 
-    pub cases_longer : (group : Group) (exits : Exits) (place : Place) (cell target m : ℕ) (before after : List Instr) → cases_code n site before exits place cell target m group ≡ Ok after
-        → Longer before after (cases_size n site group)
-    cases_longer (Groups list close) exits place cell target m before after e = selected_longer list exits place cell target m 1 before after e
+  pub block_longer : (n : Numbering) (site : Site) (list : Statements) (exits : Exits) (m : ℕ) (before after : List Instr) → block_code n site before exits m list ≡ Ok after → Longer before after (statements_size n site m list)
+  block_longer n site NoStatements exits m before after e = same_length before after e
+  block_longer n site (MoreStatements first others) exits m before after e =
+      both_longer (direct_code n site before exits m first) (λ middle. block_code n site middle exits (after_statement m first) others) before after (statement_size n site m first) (statements_size n site (after_statement m first) others) e
+      (λ middle there. direct_longer n site first exits m before middle there) (λ middle there. block_longer n site others exits (after_statement m first) middle after there)
 
-    pub selected_longer : (list : Statements) (exits : Exits) (place : Place) (cell target m k : ℕ) (before after : List Instr)
-        → selected_code n site before exits place cell target m k list ≡ Ok after → Longer before after (selected_size n site list)
-    selected_longer NoStatements exits place cell target m k before after e = same_length before after e
-    selected_longer (MoreStatements first others) exits place cell target m k before after e =
-        let rest = both_longer (case_code before place cell k (statement_size n site first)) _ before after 5 (statement_size n site first + (1 + selected_size n site others)) e
-        (λ tested there. case_longer place cell k (statement_size n site first) before tested there)
-        (λ tested there. both_longer (statement_code n site tested exits m first) _ tested after (statement_size n site first) (1 + selected_size n site others) there
-        (λ middle one. statement_longer first exits m tested middle one)
-        (λ middle one. later middle after (instr.Jump target) (selected_size n site others) (selected_longer others exits place cell target (after_statement m first) (suc k) (middle ++ (instr.Jump target ∷ [])) after one)))
-        in omega (arith, rest)
+  pub alternative_longer : (n : Numbering) (site : Site) (alternative : Alternative) (exits : Exits) (m : ℕ) (before after : List Instr) → alternative_code n site before exits m alternative ≡ Ok after
+      → Longer before after (jump_size alternative + alternative_size n site m alternative)
+  alternative_longer n site NoAlternative exits m before after e = same_length before after e
+  alternative_longer n site (Otherwise one) exits m before after e =
+      let jump = instr.Jump (suc (length before) + statement_size n site m one) in
+      later before after jump (statement_size n site m one) (statement_longer n site one exits m (before ++ (jump ∷ [])) after e)
 
-    pub group_longer : (group : Group) (exits : Exits) (m : ℕ) (before after : List Instr) → group_code n site before exits m group ≡ Ok after → Longer before after (group_size n site group)
-    group_longer (Groups list close) exits m before after e = statements_longer list exits m before after e
+  pub uncased_longer : (n : Numbering) (site : Site) (alternative : Alternative) (exits : Exits) (place : Place) (m : ℕ) (before after : List Instr) → uncased_code n site before exits place m alternative ≡ Ok after
+      → Longer before after (uncased_size n site m alternative)
+  uncased_longer n site NoAlternative exits place m before after e = put before after (instr.Raise 1 6 ∷ []) 1 e refl
+  uncased_longer n site (Otherwise one) exits place m before after e = statement_longer n site one exits m before after e
 
-    pub statements_longer : (list : Statements) (exits : Exits) (m : ℕ) (before after : List Instr) → statements_code n site before exits m list ≡ Ok after → Longer before after (statements_size n site list)
-    statements_longer NoStatements exits m before after e = same_length before after e
-    statements_longer (MoreStatements first others) exits m before after e =
-        both_longer (statement_code n site before exits m first) (λ middle. statements_code n site middle exits (after_statement m first) others) before after (statement_size n site first) (statements_size n site others) e
-        (λ middle there. statement_longer first exits m before middle there) (λ middle there. statements_longer others exits (after_statement m first) middle after there)
+  pub cases_longer : (n : Numbering) (site : Site) (group : Group) (exits : Exits) (place : Place) (cell target m : ℕ) (before after : List Instr) → cases_code n site before exits place cell target m group ≡ Ok after
+      → Longer before after (cases_size n site m group)
+  cases_longer n site (Groups list close) exits place cell target m before after e = selected_longer n site list exits place cell target m 1 before after e
+
+  pub selected_longer : (n : Numbering) (site : Site) (list : Statements) (exits : Exits) (place : Place) (cell target m k : ℕ) (before after : List Instr)
+      → selected_code n site before exits place cell target m k list ≡ Ok after → Longer before after (selected_size n site m list)
+  selected_longer n site NoStatements exits place cell target m k before after e = same_length before after e
+  selected_longer n site (MoreStatements first others) exits place cell target m k before after e =
+      let rest = both_longer (case_code before place cell k (statement_size n site m first)) _ before after 5 (statement_size n site m first + (1 + selected_size n site (after_statement m first) others)) e
+      (λ tested there. case_longer place cell k (statement_size n site m first) before tested there)
+      (λ tested there. both_longer (statement_code n site tested exits m first) _ tested after (statement_size n site m first) (1 + selected_size n site (after_statement m first) others) there
+      (λ middle one. statement_longer n site first exits m tested middle one)
+      (λ middle one. later middle after (instr.Jump target) (selected_size n site (after_statement m first) others) (selected_longer n site others exits place cell target (after_statement m first) (suc k) (middle ++ (instr.Jump target ∷ [])) after one)))
+      in omega (arith, rest)
+
+  pub group_longer : (n : Numbering) (site : Site) (group : Group) (exits : Exits) (m : ℕ) (before after : List Instr) → group_code n site before exits m group ≡ Ok after → Longer before after (group_size n site m group)
+  group_longer n site (Groups list close) exits m before after e = statements_longer n site list exits m before after e
+
+  pub statements_longer : (n : Numbering) (site : Site) (list : Statements) (exits : Exits) (m : ℕ) (before after : List Instr) → statements_code n site before exits m list ≡ Ok after → Longer before after (statements_size n site m list)
+  statements_longer n site NoStatements exits m before after e = same_length before after e
+  statements_longer n site (MoreStatements first others) exits m before after e =
+      both_longer (statement_code n site before exits m first) (λ middle. statements_code n site middle exits (after_statement m first) others) before after (statement_size n site m first) (statements_size n site (after_statement m first) others) e
+      (λ middle there. statement_longer n site first exits m before middle there) (λ middle there. statements_longer n site others exits (after_statement m first) middle after there)

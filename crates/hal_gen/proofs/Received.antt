@@ -4,17 +4,21 @@ use Rattle.std.proofs.Common.{sym, subst}
 use Rattle.hal_base.specs.declared.refusal.Place.{Place}
 use Rattle.hal_grammar.specs.Leaves.{Naming}
 use Rattle.hal_grammar.specs.Expressions.{Reference, Refers, Subscript, Unsubscripted, ByName, ByInteger, ByParts, Subscripts, NoSubscripts, MoreSubscripts}
-use Rattle.hal_states.specs.Spots.{Held}
+use Rattle.hal_states.specs.Spots.{Spot, Held}
 use Rattle.hal_constants.specs.Constants.{is_none}
 use Rattle.hal_meaning.specs.Expressions.{sizes_named}
 use Rattle.hal_meaning.specs.Statements.{components_in}
-use Rattle.hal_meaning.specs.Variables.{is_arrayed, name_meant}
+use Rattle.hal_meaning.specs.Variables.{is_arrayed, kind_of_first, Meant, name_meant, spot_meant}
+use Rattle.hal_meaning.specs.Elements.{chosen}
+use Rattle.hal_values.specs.declared.value.Kind.{Kind}
+use Rattle.hal_code.specs.declared.row.Target.TheVariants as targets
+use Rattle.hal_gen_expr.specs.declared.aims.Aim.TheVariants as aims
 use Rattle.hal_code.specs.declared.instr.Instr.{Instr}
 use Rattle.hal_code.specs.declared.instr.Instr.TheVariants as instr
 use Rattle.hal_code.specs.declared.operand.Places.{Places}
 use Rattle.hal_code.specs.declared.operand.Places.TheVariants as places
 use Rattle.hal_agreement.specs.Codes.{Code}
-use Rattle.hal_agreement.specs.PlacedExpressions.{Has, One, ChosenAt, places_of}
+use Rattle.hal_agreement.specs.PlacedExpressions.{Has, One, AddressAt, ElementAt, ChosenAt, places_of}
 use Rattle.hal_agreement.specs.PlacedStatements.{patches, KeptAt, StoredAt, ReceivedAt, AddressedAt, ReceiverAt, ReceiversAt}
 use Rattle.hal_agreement.specs.Sites.{Site, here_at}
 use Rattle.hal_gen_expr.specs.Emitting.{Emitted}
@@ -26,7 +30,7 @@ use Rattle.hal_gen_expr.specs.Referents.{referent}
 use Rattle.hal_gen_expr.specs.Standing.{Begins, IsNumbered, Placed}
 use Rattle.hal_gen_expr.proofs.Expressed.{ok_is, if_emitted, name_at, integer_at, chosen_at, part_at}
 use Rattle.hal_gen_expr.proofs.Growing.{weaker, one_placed, first_placed, both_placed}
-use Rattle.hal_gen_expr.proofs.Referring.{meaning_of, name_means}
+use Rattle.hal_gen_expr.proofs.Referring.{meaning_of, name_means, always_means}
 use Rattle.hal_gen.specs.Receiving.{patch_code, patched_code, stored_code, received_code, addressed_code, receiver_code}
 use Rattle.hal_gen.specs.StatementCode.{receivers_code}
 
@@ -71,12 +75,16 @@ module _ (code : Code) (n : Numbering) (site : Site) (numbered : IsNumbered code
   kept_by true place before after e begins = stored_at NoSubscripts place before after e begins
   kept_by false place before after e begins = stored_at NoSubscripts place before after e begins
 
+  -- the address of a cell while the own places hold something
+  element_there : {kind : Kind} {spots : List Held → Spot} {from : ℕ} (held : List Held) → ElementAt code [] (targets.Cell kind) spots from → AddressAt code held kind (spots held) from
+  element_there held at = record { number = at.number; view = at.view; cell = at.address; row = at.row; plain = at.viewed held }
+
   kept_at : (path : List Naming) (r : Referent) (place : Place) (before after : List Instr) → addressed_code n site before place Unsubscripted (led_by path r) ≡ Ok after → Begins after code.image.code
       → Placed code before after (λ from to. (held : List Held) → KeptAt code path held (meaning_of site held r) from to)
   kept_at path (DataOf k kept shape) place before after e begins =
-      weaker code before after (λ from to at. λ held. ((at.1 held).0, subst (λ m. One code m instr.Keep to) (sym (at.1 held).1) at.2))
-      (both_placed code (chosen_code n site before place Unsubscripted (led_to path k kept shape)) (λ middle. received_code n site middle place (is_arrayed (sizes_named path shape)) Unsubscripted) before after e
-      (λ middle there begun. chosen_at code n site numbered Unsubscripted (led_to path k kept shape) place before middle there begun)
+      weaker code before after (λ from to at. λ held. (element_there held at.1.0, subst (λ m. One code m instr.Keep to) (sym at.1.1) at.2))
+      (both_placed code (chosen_code n site before place aims.Cell Unsubscripted (led_to path k kept shape)) (λ middle. received_code n site middle place (is_arrayed (sizes_named path shape)) Unsubscripted) before after e
+      (λ middle there begun. chosen_at code n site numbered Unsubscripted aims.Cell (led_to path k kept shape) place before middle there begun)
       (λ middle there. kept_by (is_arrayed (sizes_named path shape)) place middle after there begins))
   kept_at path (ConstantOf v) place before after e begins = absurd (cc)
   kept_at path (EventOf v) place before after e begins = absurd (cc)
@@ -84,13 +92,19 @@ module _ (code : Code) (n : Numbering) (site : Site) (numbered : IsNumbered code
   kept_at path (BuiltinOf b) place before after e begins = absurd (cc)
   kept_at path Unmeant place before after e begins = absurd (cc)
 
+  -- data that a name means, with a subscript, whatever the own places hold
+  abbrev AddressedThere : Subscript → List Naming → (List Held → Meant) → ℕ → ℕ → Type 0
+  AddressedThere subscript path meant from to =
+      (held : List Held)
+      → AddressedAt code site path subscript (λ shape begin end. ChosenAt code site (targets.Cell (kind_of_first (chosen path shape.components))) path subscript (λ now. spot_meant (meant now)) shape begin end) (meant held) from to
+
   -- a receiver with one
   addressed_at : (subscript : Subscript) (path : List Naming) (r : Referent) (place : Place) (before after : List Instr) → addressed_code n site before place subscript (led_by path r) ≡ Ok after → Begins after code.image.code
-      → Placed code before after (λ from to. (held : List Held) → AddressedAt code site path subscript (λ at shape begin end. ChosenAt code site held path subscript at shape begin end) (meaning_of site held r) from to)
+      → Placed code before after (λ from to. AddressedThere subscript path (λ held. meaning_of site held r) from to)
   addressed_at subscript path (DataOf k kept shape) place before after e begins =
-      weaker code before after (λ from to at. λ held. (at.0, at.1 held, at.2))
-      (both_placed code (chosen_code n site before place subscript (led_to path k kept shape)) (λ middle. received_code n site middle place (is_arrayed (sizes_named path shape)) subscript) before after e
-      (λ middle there begun. chosen_at code n site numbered subscript (led_to path k kept shape) place before middle there begun)
+      weaker code before after (λ from to at. λ held. (at.0, at.1, at.2))
+      (both_placed code (chosen_code n site before place aims.Cell subscript (led_to path k kept shape)) (λ middle. received_code n site middle place (is_arrayed (sizes_named path shape)) subscript) before after e
+      (λ middle there begun. chosen_at code n site numbered subscript aims.Cell (led_to path k kept shape) place before middle there begun)
       (λ middle there. received_at subscript (is_arrayed (sizes_named path shape)) place middle after there begins))
   addressed_at subscript path (ConstantOf v) place before after e begins = absurd (cc)
   addressed_at subscript path (EventOf v) place before after e begins = absurd (cc)
@@ -100,10 +114,9 @@ module _ (code : Code) (n : Numbering) (site : Site) (numbered : IsNumbered code
 
   subscripted_at : (subscript : Subscript) (path : List Naming) (name : List ℕ) (place : Place) (before after : List Instr) → addressed_code n site before place subscript (led_by path (referent site name)) ≡ Ok after
       → Begins after code.image.code
-      → Placed code before after (λ from to. (held : List Held) → AddressedAt code site path subscript (λ at shape begin end. ChosenAt code site held path subscript at shape begin end) (name_meant (here_at site) name held) from to)
+      → Placed code before after (λ from to. AddressedThere subscript path (name_meant (here_at site) name) from to)
   subscripted_at subscript path name place before after e begins =
-      weaker code before after
-      (λ from to at. λ held. subst (λ m. AddressedAt code site path subscript (λ at shape begin end. ChosenAt code site held path subscript at shape begin end) m from to) (sym (name_means site held name)) (at held))
+      weaker code before after (λ from to at. subst (λ m. AddressedThere subscript path m from to) (sym (always_means site name)) at)
       (addressed_at subscript path (referent site name) place before after e begins)
 
   pub receiver_at : (receiver : Reference) (before after : List Instr) → receiver_code n site before receiver ≡ Ok after → Begins after code.image.code

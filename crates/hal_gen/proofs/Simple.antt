@@ -17,7 +17,8 @@ use Rattle.hal_values.specs.Tables.{process_count}
 use Rattle.hal_states.specs.Spots.{Held}
 use Rattle.hal_meaning.specs.Bodies.{Body}
 use Rattle.hal_meaning.specs.Events.{event_named}
-use Rattle.hal_meaning.specs.Expressions.{inputs_at}
+use Rattle.hal_meaning.specs.Calls.{parameter_named}
+use Rattle.hal_meaning.specs.Expressions.{inputs_at, outputs_at}
 use Rattle.hal_meaning.specs.RealTime.{process_named, side_of, side_of_action}
 use Rattle.hal_meaning.specs.Sets.{body_at}
 use Rattle.hal_meaning.specs.Statements.{kind_named, kind_meant}
@@ -30,25 +31,28 @@ use Rattle.hal_code.specs.declared.operand.Delay.TheVariants as delay
 use Rattle.hal_code.specs.Controlling as machine
 use Rattle.hal_code.specs.declared.operand.EventChange.{EventChange}
 use Rattle.hal_code.specs.declared.operand.EventChange.TheVariants as change
+use Rattle.hal_code.specs.declared.operand.Response.TheVariants as response
 use Rattle.hal_agreement.specs.Codes.{Code}
 use Rattle.hal_agreement.specs.PlacedExpressions.{Has, One, ExpressionAt}
-use Rattle.hal_agreement.specs.PlacedStatements.{Leaving, ToFinish, ByReturn, ByResult, NoReturn, Exits, ChannelAt, ItemsAt, ConditionAt, FirstTestAt, TestAt, ReturnAt, ResultBy, ResultAt, CalledAt, ReadsAt, EventAt, EachAt, NamedOrOwnAt, Selects, sets, response_of, changes}
+use Rattle.hal_agreement.specs.PlacedStatements.{Leaving, ToFinish, ByReturn, ByResult, NoReturn, Exits, ChannelAt, ItemsAt, ConditionAt, FirstTestAt, TestAt, ReturnAt, ResultBy, ResultAt, AssignedAt, CalledAt, ReadsAt, EventAt, EachAt, NamedOrOwnAt, Selects, sets, response_of, changes}
 use Rattle.hal_agreement.specs.PlacedTimes.{There, NamedAt}
 use Rattle.hal_agreement.specs.Sites.{Site, here_at}
 use Rattle.hal_gen_expr.specs.Emitting.{emit}
 use Rattle.hal_gen_expr.specs.ExpressionCode.{emit_one, expression_code, arguments_code}
+use Rattle.hal_gen_expr.specs.Calling.{spot_code, spots_code, passed_to_code}
 use Rattle.hal_gen_expr.specs.Leaves.{call_of}
 use Rattle.hal_gen_expr.specs.Numbering.{Numbering, below}
 use Rattle.hal_referents.specs.Referents.{Referent, DataOf, ConstantOf, EventOf, BlockOf, BuiltinOf, Unmeant}
 use Rattle.hal_gen_expr.specs.Referents.{referent}
 use Rattle.hal_gen_expr.specs.Standing.{Begins, IsNumbered, Placed}
-use Rattle.hal_gen_expr.proofs.Expressed.{call_given, ok_is, expression_at, arguments_at}
+use Rattle.hal_gen_expr.proofs.Expressed.{call_given, ok_is, expression_at, arguments_at, area_placed}
 use Rattle.hal_gen_expr.proofs.Growing.{append_append, weaker, one_placed, none_placed, first_placed, both_there, both_placed, emitted}
-use Rattle.hal_gen_expr.proofs.Named.{two_placed, call_placed, given_is}
+use Rattle.hal_gen_expr.proofs.Numbered.{given_is}
+use Rattle.hal_gen_expr.proofs.Named.{two_placed, call_placed}
 use Rattle.hal_gen_expr.proofs.Numbered.{below_is, mapped_is, then_is}
 use Rattle.hal_gen_expr.proofs.Referring.{meaning_of, name_means}
 use Rattle.hal_gen.specs.Constants.{integer_of, channel_of}
-use Rattle.hal_gen.specs.Leaves.{kind_referred, kind_of_receiver, return_of, gives_text, text_result, as_result, result_of, stated_number, first_event, event_pause_of, named_process, and_asked, each_of, named_or_own_of, event_change_of, from_one, numbers_of, change_of, side_numbers, response_code, off_of, raise_of}
+use Rattle.hal_gen.specs.Leaves.{kind_referred, kind_of_receiver, return_of, gives_text, text_result, as_result, result_of, stated_number, first_event, event_pause_of, named_process, and_asked, each_of, named_or_own_of, event_change_of, from_one, numbers_of, change_of, side_numbers, response_code, handler_entry, handler_code, off_of, raise_of}
 use Rattle.hal_gen.specs.Receiving.{receiver_code, receiver_size}
 use Rattle.hal_gen.specs.StatementCode.{items_code, reads_code, condition_code, first_test_code, test_code, procedure_code, returning_code}
 use Rattle.hal_gen.proofs.Constancy.{number_given, constant_at}
@@ -196,25 +200,38 @@ module _ (code : Code) (n : Numbering) (site : Site) (numbered : IsNumbered code
       (λ middle there. let given = emitted middle place (result_of exits.leaving (body_at site.set site.unit)) after there in
       result_placed exits.leaving (body_at site.set site.unit) middle after given.0 given.1 given.2 begins))
 
-  procedure_by : (arguments : Expressions) (r : Referent) (place : Place) (before after : List Instr) → procedure_code n site before place arguments r ≡ Ok after → Begins after code.image.code
-      → Placed code before after (λ from to. (held : List Held) → CalledAt code site arguments (meaning_of site held r) from to)
-  procedure_by arguments (BlockOf unit) place before after e begins =
-      let call = call_given (arguments_code n site before place unit (inputs_at site.set unit) arguments) (call_of n site false unit) place after e in
-      weaker code before after (λ from to at. λ held. at)
-      (both_placed code (arguments_code n site before place unit (inputs_at site.set unit) arguments) (λ middle. Ok (middle ++ call.0)) before after call.2
-      (λ middle there begun. arguments_at code n site numbered arguments unit (inputs_at site.set unit) place before middle there begun)
-      (λ middle there. call_placed code n site numbered false unit middle after call.0 call.1 (ok_is (middle ++ call.0) after there) begins))
-  procedure_by arguments (DataOf k kept shape) place before after e begins = absurd (cc)
-  procedure_by arguments (ConstantOf v) place before after e begins = absurd (cc)
-  procedure_by arguments (EventOf one) place before after e begins = absurd (cc)
-  procedure_by arguments (BuiltinOf b) place before after e begins = absurd (cc)
-  procedure_by arguments Unmeant place before after e begins = absurd (cc)
+  -- ASSIGN arguments
+  assigned_at : (names : List Naming) (receivers : List Reference) (unit : ℕ) (place : Place) (before after : List Instr) → spots_code n site before place unit names receivers ≡ Ok after → Begins after code.image.code
+      → Placed code before after (λ from to. AssignedAt code site unit names receivers from to)
+  unfolding spot_code
+  assigned_at [] [] unit place before after e begins = none_placed code before after (ok_is before after e) begins
+  assigned_at (name ∷ names) (receiver ∷ receivers) unit place before after e begins =
+      both_placed code (spot_code n site before unit name receiver) (λ middle. spots_code n site middle place unit names receivers) before after e
+      (λ middle there begun. area_placed code n site numbered receiver (parameter_named site.set unit name).shape before middle there begun) (λ middle there. assigned_at names receivers unit place middle after there begins)
+  assigned_at [] (receiver ∷ receivers) unit place before after e begins = absurd (cc)
+  assigned_at (name ∷ names) [] unit place before after e begins = absurd (cc)
 
-  pub procedure_at : (name : List ℕ) (arguments : Expressions) (place : Place) (before after : List Instr) → procedure_code n site before place arguments (referent site name) ≡ Ok after → Begins after code.image.code
-      → Placed code before after (λ from to. (held : List Held) → CalledAt code site arguments (name_meant (here_at site) name held) from to)
-  procedure_at name arguments place before after e begins =
-      weaker code before after (λ from to at. λ held. subst (λ m. CalledAt code site arguments m from to) (sym (name_means site held name)) (at held))
-      (procedure_by arguments (referent site name) place before after e begins)
+  procedure_by : (arguments : Expressions) (receivers : List Reference) (r : Referent) (place : Place) (before after : List Instr) → procedure_code n site before place arguments receivers r ≡ Ok after → Begins after code.image.code
+      → Placed code before after (λ from to. (held : List Held) → CalledAt code site arguments receivers (meaning_of site held r) from to)
+  procedure_by arguments receivers (BlockOf unit) place before after e begins =
+      let call = call_given (passed_to_code n site before place arguments receivers unit) (call_of n site false unit) place after e in
+      weaker code before after (λ from to at. λ held. (at.1.0, at.0, at.1.1, at.1.2, at.2))
+      (both_placed code (passed_to_code n site before place arguments receivers unit) (λ middle. Ok (middle ++ call.0)) before after call.2
+      (λ last there begun. both_placed code (arguments_code n site before place unit (inputs_at site.set unit) arguments) (λ middle. spots_code n site middle place unit (outputs_at site.set unit) receivers) before last there
+      (λ middle here starts. arguments_at code n site numbered arguments unit (inputs_at site.set unit) place before middle here starts)
+      (λ middle here. assigned_at (outputs_at site.set unit) receivers unit place middle last here begun))
+      (λ last there. call_placed code n site numbered false unit last after call.0 call.1 (ok_is (last ++ call.0) after there) begins))
+  procedure_by arguments receivers (DataOf k kept shape) place before after e begins = absurd (cc)
+  procedure_by arguments receivers (ConstantOf v) place before after e begins = absurd (cc)
+  procedure_by arguments receivers (EventOf one) place before after e begins = absurd (cc)
+  procedure_by arguments receivers (BuiltinOf b) place before after e begins = absurd (cc)
+  procedure_by arguments receivers Unmeant place before after e begins = absurd (cc)
+
+  pub procedure_at : (name : List ℕ) (arguments : Expressions) (receivers : List Reference) (place : Place) (before after : List Instr) → procedure_code n site before place arguments receivers (referent site name) ≡ Ok after → Begins after code.image.code
+      → Placed code before after (λ from to. (held : List Held) → CalledAt code site arguments receivers (name_meant (here_at site) name held) from to)
+  procedure_at name arguments receivers place before after e begins =
+      weaker code before after (λ from to at. λ held. subst (λ m. CalledAt code site arguments receivers m from to) (sym (name_means site held name)) (at held))
+      (procedure_by arguments receivers (referent site name) place before after e begins)
 
   pub stated_is : (x number : ℕ) → stated_number site x ≡ Some number → (x ≡ number) × There site x
   stated_is x number is =
@@ -323,6 +340,15 @@ module _ (code : Code) (n : Numbering) (site : Site) (numbered : IsNumbered code
   off_at s place before after is begins =
       let given = single_placed (λ (errors : ℕ × ℕ). instr.Off errors.0 errors.1) (numbers_of s) place before after is begins in
       weaker code before after (λ from to at. (given.0.0, given.0.1, selects s given.0 given.1, at)) given.2
+
+  -- ON ERROR with a statement of this size, and the jump over it
+  pub entry_at : (s : Selector) (size : ℕ) (place : Place) (before after : List Instr) → emit before place (handler_code s (length before) size) ≡ Ok after → Begins after code.image.code
+      → Placed code before after (λ from to. (group : ℕ) × (number : ℕ) × Selects s group number × Has code from (sets group number response.Statement change.Nothing 0 (suc (suc from))) × One code (suc from) (instr.Jump (suc (suc from) + size)) to)
+  entry_at s size place before after is begins =
+      let given = emitted before place (handler_code s (length before) size) after is in
+      let one = mapped_is (handler_entry (length before) size) (numbers_of s) given.0 given.1 in
+      let there = two_placed code n site numbered before after (sets one.0.0 one.0.1 response.Statement change.Nothing 0 (suc (suc (length before)))) (instr.Jump (suc (suc (length before)) + size)) (ap (λ l. before ++ l) one.2 ∙ given.2) begins in
+      record { at = (one.0.0, one.0.1, selects s one.0 one.1, there.at.0, there.at.1); begins = there.begins }
 
   pub event_change_at : (one : Eventful) (before after : List Instr) → emit before one.place (event_change_of site one) ≡ Ok after → Begins after code.image.code
       → Placed code before after (λ from to. One code from (changes one.action (event_named site.set.phrases site.block one.name.name)) to)

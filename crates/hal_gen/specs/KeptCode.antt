@@ -1,5 +1,5 @@
 -- The own places of groups, by the numbers of their views, and the code that keeps something there or compares it, behind the code so far.
-use Rattle.std.specs.Prelude.{ℕ, ◌+◌, Bool, true, false, List, [], ◌∷◌, ◌++◌, length, pos, Option, None, slice_get}
+use Rattle.std.specs.Prelude.{ℕ, ◌+◌, Bool, true, false, List, [], ◌∷◌, ◌++◌, length, pos, Option, slice_get}
 use Rattle.std.specs.Option.{option_map, option_and_then}
 use Rattle.hal_base.specs.declared.refusal.Place.{Place}
 use Rattle.hal_operations.specs.declared.operation.Op1.TheVariants as op1
@@ -30,7 +30,7 @@ case_tests cell target number = instr.Cell cell ∷ instr.Fetch ∷ instr.Int (p
 abbrev pub case_code : List Instr → Place → ℕ → ℕ → ℕ → Emitted
 case_code before place cell number size = emit before place (option_map (case_tests cell (length before + (size + 6))) (below 2147483648 number))
 
--- those of a DO FOR: of its end, its step, the value that its variable gets, and whether a turn begins. One with a TEMPORARY has no code yet
+-- those of a DO FOR: of its end, its step, the value that its variable gets, and whether a turn begins; its TEMPORARY variable stands before them
 abbrev pub cells : ℕ → ℕ → ℕ → ℕ → Cells
 cells last step value begins = record { last = last; step = step; value = value; begins = begins }
 
@@ -40,7 +40,7 @@ cells_at n site m a b c d =
 
 abbrev pub cells_of : Numbering → Site → Bool → ℕ → Option Cells
 cells_of n site false m = cells_at n site m 0 1 2 3
-cells_of n site true m = None
+cells_of n site true m = cells_at n site m 1 2 3 4
 
 -- what a cell holds comes on the stack
 abbrev pub holding : List Instr → ℕ → List Instr

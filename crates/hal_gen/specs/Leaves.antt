@@ -1,5 +1,5 @@
 -- The code of statements without parts, and of the parts of statements that are no expressions: None where there is none yet.
-use Rattle.std.specs.Prelude.{ℕ, zero, suc, nat_lt, length, Bool, true, false, List, [], ◌∷◌, ◌++◌, Option, Some, None, if◌then◌else◌}
+use Rattle.std.specs.Prelude.{ℕ, zero, suc, ◌+◌, nat_lt, length, Bool, true, false, List, [], ◌∷◌, ◌++◌, Option, Some, None, if◌then◌else◌}
 use Rattle.std.specs.Option.{option_map, option_and_then}
 use Rattle.hal_grammar.specs.Leaves.{Naming}
 use Rattle.hal_grammar.specs.Declarations as declarations
@@ -22,6 +22,7 @@ use Rattle.hal_code.specs.declared.instr.Instr.TheVariants as instr
 use Rattle.hal_code.specs.declared.operand.Delay.TheVariants as delay
 use Rattle.hal_code.specs.declared.operand.EventChange.{EventChange}
 use Rattle.hal_code.specs.declared.operand.EventChange.TheVariants as change
+use Rattle.hal_code.specs.declared.operand.Response.TheVariants as response
 use Rattle.hal_agreement.specs.PlacedStatements.{Leaving, ToFinish, ByReturn, ByResult, changes, sets, response_of}
 use Rattle.hal_agreement.specs.Sites.{Site, here_at}
 use Rattle.hal_gen_expr.specs.Numbering.{below}
@@ -143,6 +144,13 @@ response_entry r errors side = sets errors.0 errors.1 (response_of r) side.0 sid
 
 abbrev pub response_code : Site → Selector → Response → Option Eventful → Option (List Instr)
 response_code site s r e = option_and_then (λ errors. option_map (response_entry r errors) (side_numbers site e)) (numbers_of s)
+
+-- ON ERROR with a statement of this size, behind so many instructions, and a jump over the statement
+abbrev pub handler_entry : ℕ → ℕ → ℕ × ℕ → List Instr
+handler_entry from size errors = sets errors.0 errors.1 response.Statement change.Nothing 0 (suc (suc from)) ∷ instr.Jump (suc (suc from) + size) ∷ []
+
+abbrev pub handler_code : Selector → ℕ → ℕ → Option (List Instr)
+handler_code s from size = option_map (handler_entry from size) (numbers_of s)
 
 abbrev pub off_of : Selector → Option (List Instr)
 off_of s = option_map (λ (errors : ℕ × ℕ). instr.Off errors.0 errors.1 ∷ []) (numbers_of s)

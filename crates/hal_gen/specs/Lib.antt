@@ -5,6 +5,7 @@ pub mod Receiving
 pub mod KeptCode
 pub mod Sizes
 pub mod SpanCode
+pub mod BlockExits
 pub mod StatementCode
 pub mod Leading
 pub mod SeenExits

@@ -14,6 +14,7 @@ use Rattle.hal_agreement.specs.PlacedStatements.{patches}
 use Rattle.hal_agreement.specs.Sites.{Site}
 use Rattle.hal_gen_expr.specs.Emitting.{Emitted, onwards, length_of}
 use Rattle.hal_gen_expr.specs.ExpressionCode.{emit_one, name_code, integer_code, chosen_code, part_code}
+use Rattle.hal_gen_expr.specs.declared.aims.Aim.TheVariants as aims
 use Rattle.hal_gen_expr.specs.Led.{Led, led_by, sizes_led}
 use Rattle.hal_gen_expr.specs.Numbering.{Numbering}
 use Rattle.hal_gen_expr.specs.Referents.{referent}
@@ -42,7 +43,7 @@ received_code n site before place arrayed subscript = stored_code n site before 
 abbrev pub addressed_code : Numbering → Site → List Instr → Place → Subscript → Option Led → Emitted
 addressed_code n site before place subscript None = Err place
 addressed_code n site before place subscript (Some l) =
-    onwards (chosen_code n site before place subscript l) (λ middle. received_code n site middle place (is_arrayed (sizes_led l)) subscript)
+    onwards (chosen_code n site before place aims.Cell subscript l) (λ middle. received_code n site middle place (is_arrayed (sizes_led l)) subscript)
 
 abbrev pub receiver_code : Numbering → Site → List Instr → Reference → Emitted
 receiver_code n site before (Refers place name path subscript) = addressed_code n site before place subscript (led_by path (referent site name))

@@ -16,6 +16,6 @@ seen_leaving rust.ByReturn = ByReturn
 seen_leaving rust.ByResult = ByResult
 seen_leaving rust.NoReturn = NoReturn
 
--- no statement of ON ERROR has code yet, so each mark of one leads to the block's end
+-- an error alone leads to a statement of ON ERROR, so code doesn't go by where one stands
 abbrev pub seen_exits : rust-exits.Exits → Exits
-seen_exits e = record { groups = map seen_opened e.groups.items; leaving = seen_leaving e.leaving; handler = λ mark. e.end }
+seen_exits e = record { groups = map seen_opened e.groups.items; leaving = seen_leaving e.leaving; handler = λ mark. 0 }

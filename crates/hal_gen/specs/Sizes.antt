@@ -1,15 +1,15 @@
 -- How many instructions statements have: so targets are known before the code that stands in between.
-use Rattle.std.specs.Prelude.{ℕ, ◌+◌, false, List, [], ◌∷◌, length, Option, Some, None}
+use Rattle.std.specs.Prelude.{ℕ, suc, ◌+◌, false, List, [], ◌∷◌, length, Option, Some, None}
 use Rattle.hal_base.specs.declared.refusal.Place.{Place}
 use Rattle.hal_grammar.specs.Leaves.{Naming}
 use Rattle.hal_grammar.specs.Expressions.{Expression, Expressions, NoExpressions, MoreExpressions, Reference}
-use Rattle.hal_grammar.specs.Statements.{Guard, While, Until, Span, Stepped, Listed, Statement, Labelled, Basic, Assignment, If, Do, DoCase, DoLoop, DoFor, Exit, Repeat, Return, Call, Read, Write, Scheduled, UpdatePriority, Cancel, Terminate, Wait, WaitUntil, WaitForDependent, WaitFor, Event, Update, OnErrorResponse, OffError, SendError, Alternative, NoAlternative, Otherwise, Group, Groups, Statements, NoStatements, MoreStatements}
-use Rattle.hal_meaning.specs.Expressions.{inputs_at}
+use Rattle.hal_grammar.specs.Statements.{Guard, While, Until, Span, Stepped, Listed, Statement, Labelled, Basic, Assignment, If, Do, DoCase, DoLoop, DoFor, Exit, Repeat, Return, Call, Read, Write, Scheduled, UpdatePriority, Cancel, Terminate, Wait, WaitUntil, WaitForDependent, WaitFor, Event, Update, OnErrorStatement, OnErrorResponse, OffError, SendError, Alternative, NoAlternative, Otherwise, Group, Groups, Statements, NoStatements, MoreStatements}
+use Rattle.hal_meaning.specs.Marks.{after_statement, after_alternative}
 use Rattle.hal_meaning.specs.Sets.{body_at}
-use Rattle.hal_agreement.specs.Sites.{Site}
+use Rattle.hal_agreement.specs.Sites.{Site, group_site}
 use Rattle.hal_gen_expr.specs.Emitting.{length_of}
-use Rattle.hal_gen_expr.specs.ExpressionCode.{behind_arguments, expression_code, arguments_code}
-use Rattle.hal_gen_expr.specs.Leaves.{call_of}
+use Rattle.hal_gen_expr.specs.Calling.{called_code}
+use Rattle.hal_gen_expr.specs.ExpressionCode.{expression_code}
 use Rattle.hal_gen_expr.specs.Numbering.{Numbering}
 use Rattle.hal_referents.specs.Referents.{Referent, BlockOf}
 use Rattle.hal_gen_expr.specs.Referents.{referent}
@@ -78,6 +78,10 @@ again_size n site (Stepped first last step) = 21
 again_size n site (Listed NoExpressions) = 0
 again_size n site (Listed (MoreExpressions first others)) = next_values_size n site others
 
+-- a DO FOR whose group has so many instructions
+abbrev pub spanned_size : Numbering → Site → Span → Option Guard → ℕ → ℕ
+spanned_size n site span g size = ((begin_size n site span + first_span_size n site g) + 1) + (size + (again_size n site span + later_span_size n site g))
+
 -- a jump over what stands after ELSE
 abbrev pub jump_size : Alternative → ℕ
 jump_size NoAlternative = 0
@@ -97,64 +101,66 @@ return_size n site None = 1
 return_size n site (Some tree) = expression_size n site tree + (length (as_result (body_at site.set site.unit)) + 1)
 
 -- CALL of what a name refers to
-abbrev pub call_size : Numbering → Site → Expressions → Place → Referent → ℕ
-call_size n site arguments place (BlockOf unit) = length_of (behind_arguments place (arguments_code n site [] place unit (inputs_at site.set unit) arguments) (call_of n site false unit))
-call_size n site arguments place other = 0
+abbrev pub call_size : Numbering → Site → Expressions → List Reference → Place → Referent → ℕ
+call_size n site arguments receivers place (BlockOf unit) = length_of (called_code n site [] place arguments receivers unit)
+call_size n site arguments receivers place other = 0
 
+-- statements before which the next mark has this number
 abbrev mutual
-  pub statement_size : Numbering → Site → Statement → ℕ
-  statement_size n site (Labelled labels basic) = basic_size n site basic
+  pub statement_size : Numbering → Site → ℕ → Statement → ℕ
+  statement_size n site m (Labelled labels basic) = basic_size n site m basic
 
-  pub basic_size : Numbering → Site → Basic → ℕ
-  basic_size n site (Assignment place receivers tree) = expression_size n site tree + receivers_size n site receivers
-  basic_size n site (If place condition consequence alternative) =
-      (expression_size n site condition + 1) + (statement_size n site consequence + (jump_size alternative + alternative_size n site alternative))
-  basic_size n site (Do place group) = group_size n site group
-  basic_size n site (DoCase place number alternative group) = (expression_size n site number + 2) + (cases_size n site group + uncased_size n site alternative)
-  basic_size n site (DoLoop place g group) = (first_test_size n site g + 1) + (group_size n site group + test_size n site g)
-  basic_size n site (DoFor place temporary variable span g group) =
-      ((begin_size n site span + first_span_size n site g) + 1) + (group_size n site group + (again_size n site span + later_span_size n site g))
-  basic_size n site (Exit place label) = 1
-  basic_size n site (Repeat place label) = 1
-  basic_size n site (Return place value) = return_size n site value
-  basic_size n site (Call place name arguments receivers) = call_size n site arguments place (referent site name.name)
-  basic_size n site (Read place channel receivers) = reads_size n site receivers
-  basic_size n site (Write place channel items) = items_size n site items + 1
-  basic_size n site (Cancel place names) = names_size names
-  basic_size n site (Terminate place names) = names_size names
-  basic_size n site (Scheduled place s) = schedule_size n site s
-  basic_size n site (UpdatePriority place name tree) = expression_size n site tree + 1
-  basic_size n site (Wait place tree) = time_size n site tree + 1
-  basic_size n site (WaitUntil place tree) = time_size n site tree + 1
-  basic_size n site (WaitForDependent place) = 1
-  basic_size n site (WaitFor place tree) = 1
-  basic_size n site (Event e) = 1
-  basic_size n site (Update place body close) = statements_size n site body + 2
-  basic_size n site (OnErrorResponse place s r e) = 1
-  basic_size n site (OffError place s) = 1
-  basic_size n site (SendError place group_at group number_at number) = 1
-  basic_size n site other = 0
+  pub basic_size : Numbering → Site → ℕ → Basic → ℕ
+  basic_size n site m (Assignment place receivers tree) = expression_size n site tree + receivers_size n site receivers
+  basic_size n site m (If place condition consequence alternative) =
+      (expression_size n site condition + 1) + (statement_size n site m consequence + (jump_size alternative + alternative_size n site (after_statement m consequence) alternative))
+  basic_size n site m (Do place group) = group_size n site (suc m) group
+  basic_size n site m (DoCase place number alternative group) = (expression_size n site number + 2) + (cases_size n site (after_alternative (suc m) alternative) group + uncased_size n site (suc m) alternative)
+  basic_size n site m (DoLoop place g group) = (first_test_size n site g + 1) + (group_size n site (suc m) group + test_size n site g)
+  basic_size n site m (DoFor place temporary variable span g group) =
+      spanned_size n (group_site site temporary m) span g (group_size n (group_site site temporary m) (suc m) group)
+  basic_size n site m (Exit place label) = 1
+  basic_size n site m (Repeat place label) = 1
+  basic_size n site m (Return place value) = return_size n site value
+  basic_size n site m (Call place name arguments receivers) = call_size n site arguments receivers place (referent site name.name)
+  basic_size n site m (Read place channel receivers) = reads_size n site receivers
+  basic_size n site m (Write place channel items) = items_size n site items + 1
+  basic_size n site m (Cancel place names) = names_size names
+  basic_size n site m (Terminate place names) = names_size names
+  basic_size n site m (Scheduled place s) = schedule_size n site s
+  basic_size n site m (UpdatePriority place name tree) = expression_size n site tree + 1
+  basic_size n site m (Wait place tree) = time_size n site tree + 1
+  basic_size n site m (WaitUntil place tree) = time_size n site tree + 1
+  basic_size n site m (WaitForDependent place) = 1
+  basic_size n site m (WaitFor place tree) = 1
+  basic_size n site m (Event e) = 1
+  basic_size n site m (Update place body close) = statements_size n site (suc m) body + 2
+  basic_size n site m (OnErrorStatement place s handler) = 2 + statement_size n site (suc m) handler
+  basic_size n site m (OnErrorResponse place s r e) = 1
+  basic_size n site m (OffError place s) = 1
+  basic_size n site m (SendError place group_at group number_at number) = 1
+  basic_size n site m other = 0
 
-  pub alternative_size : Numbering → Site → Alternative → ℕ
-  alternative_size n site NoAlternative = 0
-  alternative_size n site (Otherwise one) = statement_size n site one
+  pub alternative_size : Numbering → Site → ℕ → Alternative → ℕ
+  alternative_size n site m NoAlternative = 0
+  alternative_size n site m (Otherwise one) = statement_size n site m one
 
   -- what DO CASE does where its number selects no statement
-  pub uncased_size : Numbering → Site → Alternative → ℕ
-  uncased_size n site NoAlternative = 1
-  uncased_size n site (Otherwise one) = statement_size n site one
+  pub uncased_size : Numbering → Site → ℕ → Alternative → ℕ
+  uncased_size n site m NoAlternative = 1
+  uncased_size n site m (Otherwise one) = statement_size n site m one
 
   -- the statements of DO CASE, each with a test before it and a jump behind it
-  pub cases_size : Numbering → Site → Group → ℕ
-  cases_size n site (Groups list close) = selected_size n site list
+  pub cases_size : Numbering → Site → ℕ → Group → ℕ
+  cases_size n site m (Groups list close) = selected_size n site m list
 
-  pub selected_size : Numbering → Site → Statements → ℕ
-  selected_size n site NoStatements = 0
-  selected_size n site (MoreStatements first others) = (5 + (statement_size n site first + 1)) + selected_size n site others
+  pub selected_size : Numbering → Site → ℕ → Statements → ℕ
+  selected_size n site m NoStatements = 0
+  selected_size n site m (MoreStatements first others) = (5 + (statement_size n site m first + 1)) + selected_size n site (after_statement m first) others
 
-  pub group_size : Numbering → Site → Group → ℕ
-  group_size n site (Groups list close) = statements_size n site list
+  pub group_size : Numbering → Site → ℕ → Group → ℕ
+  group_size n site m (Groups list close) = statements_size n site m list
 
-  pub statements_size : Numbering → Site → Statements → ℕ
-  statements_size n site NoStatements = 0
-  statements_size n site (MoreStatements first others) = statement_size n site first + statements_size n site others
+  pub statements_size : Numbering → Site → ℕ → Statements → ℕ
+  statements_size n site m NoStatements = 0
+  statements_size n site m (MoreStatements first others) = statement_size n site m first + statements_size n site (after_statement m first) others

@@ -5,7 +5,6 @@ use Rattle.hal_base.specs.declared.refusal.Place.{Place}
 use Rattle.hal_grammar.specs.Leaves.{Naming}
 use Rattle.hal_grammar.specs.Expressions.{Expression, Expressions, NoExpressions, MoreExpressions, Reference}
 use Rattle.hal_grammar.specs.Statements.{Guard, While, Until, Span, Statement, Labelled, Basic, Null, Assignment, If, Do, DoCase, DoLoop, DoFor, Exit, Repeat, Return, Call, Read, Write, Cancel, Terminate, Wait, WaitUntil, WaitForDependent, WaitFor, Event, Scheduled, UpdatePriority, Update, OnErrorStatement, OnErrorResponse, OffError, SendError, Alternative, NoAlternative, Otherwise, Group, Groups, Statements, NoStatements, MoreStatements}
-use Rattle.hal_meaning.specs.Expressions.{inputs_at}
 use Rattle.hal_meaning.specs.Marks.{after_statement, after_alternative}
 use Rattle.hal_meaning.specs.RealTime.{stated_at_mark}
 use Rattle.hal_meaning.specs.Sets.{body_at}
@@ -13,22 +12,23 @@ use Rattle.hal_meaning.specs.Statements.{label_name, update_groups}
 use Rattle.hal_code.specs.declared.instr.Instr.{Instr}
 use Rattle.hal_code.specs.declared.instr.Instr.TheVariants as instr
 use Rattle.hal_code.specs.declared.operand.Delay.TheVariants as delay
-use Rattle.hal_agreement.specs.PlacedStatements.{exit_of, again_of, opened, NoReturn, Exits, within_group, of_block}
-use Rattle.hal_agreement.specs.Sites.{Site, here_at}
+use Rattle.hal_agreement.specs.PlacedStatements.{exit_of, again_of, opened, NoReturn, Exits, within_group}
+use Rattle.hal_agreement.specs.Sites.{Site, here_at, group_site}
 use Rattle.hal_gen_expr.specs.Emitting.{Emitted, onwards, emit}
-use Rattle.hal_gen_expr.specs.ExpressionCode.{emit_one, behind_arguments, expression_code, arguments_code}
-use Rattle.hal_gen_expr.specs.Leaves.{call_of}
+use Rattle.hal_gen_expr.specs.Calling.{called_code}
+use Rattle.hal_gen_expr.specs.ExpressionCode.{emit_one, expression_code}
 use Rattle.hal_gen_expr.specs.Numbering.{Numbering, below}
 use Rattle.hal_referents.specs.Referents.{Referent, BlockOf}
 use Rattle.hal_gen_expr.specs.Referents.{referent}
 use Rattle.hal_gen.specs.Constants.{channel_of}
-use Rattle.hal_gen.specs.Leaves.{kind_of_receiver, return_of, result_of, event_change_of, event_pause_of, named_or_own_of, response_code, off_of, raise_of}
+use Rattle.hal_gen.specs.Leaves.{kind_of_receiver, return_of, result_of, event_change_of, event_pause_of, named_or_own_of, response_code, handler_code, off_of, raise_of}
 use Rattle.hal_gen.specs.KeptCode.{cell_of, keeping, case_code, cells_of}
 use Rattle.hal_gen.specs.Receiving.{receiver_code, receiver_size}
 use Rattle.hal_gen.specs.SpanCode.{begin_code, again_code}
 use Rattle.hal_gen.specs.Timing.{pause_code, schedule_code, update_priority_code}
 use Rattle.hal_gen.specs.declared.kept.Cells.{Cells}
-use Rattle.hal_gen.specs.Sizes.{statement_size, group_size, statements_size, jump_size, basic_size}
+use Rattle.hal_gen.specs.BlockExits.{of_body}
+use Rattle.hal_gen.specs.Sizes.{spanned_size, statement_size, group_size, jump_size, basic_size}
 
 -- receivers get the value on the stack from left to right, each but the last one from a copy
 abbrev pub receivers_code : Numbering → Site → List Instr → Place → List Reference → Emitted
@@ -84,6 +84,14 @@ span_start_code n site before place name c exit span g = onwards (begin_code n s
 abbrev pub span_end_code : Numbering → Site → List Instr → Place → List ℕ → Cells → ℕ → Span → Option Guard → ℕ → Emitted
 span_end_code n site before place name c exit span g turn = onwards (again_code n site before place name c exit span) (λ counted. later_span_code n site counted place g turn exit)
 
+-- all of it, where its group has so many instructions and this code
+abbrev pub spanned_code : Numbering → Site → List Instr → Exits → List Naming → Place → List ℕ → Cells → Span → Option Guard → ℕ → (List Instr → Exits → Emitted) → Emitted
+spanned_code n site before exits labels place name c span g size group =
+    onwards (span_start_code n site before place name c (length before + spanned_size n site span g size) span g)
+    (λ tested. onwards (group (tested ++ (instr.Turn (length before + spanned_size n site span g size) ∷ []))
+    (within_group (opened labels (length before + spanned_size n site span g size) (Some (suc (length tested) + size))) exits))
+    (λ middle. span_end_code n site middle place name c (length before + spanned_size n site span g size) span g (length tested)))
+
 -- something is done with the own places of a DO FOR
 abbrev pub with_cells : Place → Option Cells → (Cells → Emitted) → Emitted
 with_cells place None go = Err place
@@ -93,11 +101,10 @@ with_cells place (Some c) go = go c
 abbrev pub jump_to : Option ℕ → Option (List Instr)
 jump_to target = option_map (λ at. instr.Jump at ∷ []) target
 
--- CALL of a PROCEDURE without ASSIGN arguments
-abbrev pub procedure_code : Numbering → Site → List Instr → Place → Expressions → Referent → Emitted
-procedure_code n site before place arguments (BlockOf unit) =
-    behind_arguments place (arguments_code n site before place unit (inputs_at site.set unit) arguments) (call_of n site false unit)
-procedure_code n site before place arguments other = Err place
+-- CALL of a PROCEDURE
+abbrev pub procedure_code : Numbering → Site → List Instr → Place → Expressions → List Reference → Referent → Emitted
+procedure_code n site before place arguments receivers (BlockOf unit) = called_code n site before place arguments receivers unit
+procedure_code n site before place arguments receivers other = Err place
 
 abbrev pub returning_code : Numbering → Site → List Instr → Exits → Place → Option Expression → Emitted
 returning_code n site before exits place None = emit before place (return_of exits.leaving)
@@ -114,30 +121,28 @@ abbrev mutual
   basic_code n site before exits m labels (Assignment place receivers tree) = onwards (expression_code n site before tree) (λ middle. receivers_code n site middle place receivers)
   basic_code n site before exits m labels (If place condition consequence alternative) =
       onwards (expression_code n site before condition)
-      (λ tested. onwards (statement_code n site (tested ++ (instr.JumpNot (suc (length tested) + (statement_size n site consequence + jump_size alternative)) ∷ [])) exits m consequence)
+      (λ tested. onwards (statement_code n site (tested ++ (instr.JumpNot (suc (length tested) + (statement_size n site m consequence + jump_size alternative)) ∷ [])) exits m consequence)
       (λ middle. alternative_code n site middle exits (after_statement m consequence) alternative))
-  basic_code n site before exits m labels (Do place group) = group_code n site before (within_group (opened labels (length before + group_size n site group) None) exits) (suc m) group
+  basic_code n site before exits m labels (Do place group) = group_code n site before (within_group (opened labels (length before + group_size n site (suc m) group) None) exits) (suc m) group
   basic_code n site before exits m labels (DoCase place number alternative group) =
       with_number place (cell_of n site m 0)
       (λ cell. onwards (expression_code n site before number)
-      (λ valued. onwards (cases_code n site (keeping valued cell) (within_group (opened labels (length before + basic_size n site (DoCase place number alternative group)) None) exits) place cell
-      (length before + basic_size n site (DoCase place number alternative group)) (after_alternative (suc m) alternative) group)
-      (λ middle. uncased_code n site middle (within_group (opened labels (length before + basic_size n site (DoCase place number alternative group)) None) exits) place (suc m) alternative)))
+      (λ valued. onwards (cases_code n site (keeping valued cell) (within_group (opened labels (length before + basic_size n site m (DoCase place number alternative group)) None) exits) place cell
+      (length before + basic_size n site m (DoCase place number alternative group)) (after_alternative (suc m) alternative) group)
+      (λ middle. uncased_code n site middle (within_group (opened labels (length before + basic_size n site m (DoCase place number alternative group)) None) exits) place (suc m) alternative)))
   basic_code n site before exits m labels (DoLoop place g group) =
-      onwards (first_test_code n site before g (length before + basic_size n site (DoLoop place g group)))
-      (λ tested. onwards (group_code n site (tested ++ (instr.Turn (length before + basic_size n site (DoLoop place g group)) ∷ []))
-      (within_group (opened labels (length before + basic_size n site (DoLoop place g group)) (Some (suc (length tested) + group_size n site group))) exits) (suc m) group)
-      (λ middle. test_code n site middle g (length tested) (length before + basic_size n site (DoLoop place g group))))
+      onwards (first_test_code n site before g (length before + basic_size n site m (DoLoop place g group)))
+      (λ tested. onwards (group_code n site (tested ++ (instr.Turn (length before + basic_size n site m (DoLoop place g group)) ∷ []))
+      (within_group (opened labels (length before + basic_size n site m (DoLoop place g group)) (Some (suc (length tested) + group_size n site (suc m) group))) exits) (suc m) group)
+      (λ middle. test_code n site middle g (length tested) (length before + basic_size n site m (DoLoop place g group))))
   basic_code n site before exits m labels (DoFor place temporary variable span g group) =
       with_cells place (cells_of n site temporary m)
-      (λ c. onwards (span_start_code n site before place variable.name c (length before + basic_size n site (DoFor place temporary variable span g group)) span g)
-      (λ tested. onwards (group_code n site (tested ++ (instr.Turn (length before + basic_size n site (DoFor place temporary variable span g group)) ∷ []))
-      (within_group (opened labels (length before + basic_size n site (DoFor place temporary variable span g group)) (Some (suc (length tested) + group_size n site group))) exits) (suc m) group)
-      (λ middle. span_end_code n site middle place variable.name c (length before + basic_size n site (DoFor place temporary variable span g group)) span g (length tested))))
+      (λ c. spanned_code n (group_site site temporary m) before exits labels place variable.name c span g (group_size n (group_site site temporary m) (suc m) group)
+      (λ start inner. group_code n (group_site site temporary m) start inner (suc m) group))
   basic_code n site before exits m labels (Exit place label) = emit before place (jump_to (exit_of exits.groups (label_name label)))
   basic_code n site before exits m labels (Repeat place label) = emit before place (jump_to (again_of exits.groups (label_name label)))
   basic_code n site before exits m labels (Return place value) = returning_code n site before exits place value
-  basic_code n site before exits m labels (Call place name arguments []) = procedure_code n site before place arguments (referent site name.name)
+  basic_code n site before exits m labels (Call place name arguments receivers) = procedure_code n site before place arguments receivers (referent site name.name)
   basic_code n site before exits m labels (Read place channel receivers) = with_number place (channel_of site channel) (λ number. reads_code n site before number receivers)
   basic_code n site before exits m labels (Write place channel items) =
       with_number place (channel_of site channel) (λ number. onwards (items_code n site before items) (λ middle. emit_one middle place (instr.Print number)))
@@ -152,18 +157,29 @@ abbrev mutual
   basic_code n site before exits m labels (WaitFor place tree) = emit before place (event_pause_of site (stated_at_mark (here_at site) m))
   basic_code n site before exits m labels (Update place body close) =
       onwards (emit before place (option_map (λ groups. instr.Open groups ∷ []) (below 65536 (update_groups (here_at site) m))))
-      (λ begun. onwards (statements_code n site begun (of_block NoReturn (λ mark. length begun + statements_size n site body)) (suc m) body) (λ middle. emit_one middle place instr.Close))
+      (λ begun. onwards (block_code n site begun (of_body NoReturn) (suc m) body) (λ middle. emit_one middle place instr.Close))
   basic_code n site before exits m labels (SendError place group_at group number_at number) = emit before place (raise_of group number)
   basic_code n site before exits m labels (OnErrorResponse place s r e) = emit before place (response_code site s r e)
   basic_code n site before exits m labels (OffError place s) = emit before place (off_of s)
-  basic_code n site before exits m labels (Call place name arguments (receiver ∷ receivers)) = Err place
-  basic_code n site before exits m labels (OnErrorStatement place selector handler) = Err place
+  basic_code n site before exits m labels (OnErrorStatement place s handler) = Err place
+
+  -- a statement that stands directly in a block's body: ON ERROR with a statement has code there alone
+  pub direct_code : Numbering → Site → List Instr → Exits → ℕ → Statement → Emitted
+  direct_code n site before exits m (Labelled labels (OnErrorStatement place s handler)) =
+      onwards (emit before place (handler_code s (length before) (statement_size n site (suc m) handler))) (λ begun. statement_code n site begun exits (suc m) handler)
+  direct_code n site before exits m (Labelled labels basic) = basic_code n site before exits m labels basic
+
+  -- the statements of a block's body, one after another
+  pub block_code : Numbering → Site → List Instr → Exits → ℕ → Statements → Emitted
+  block_code n site before exits m NoStatements = Ok before
+  block_code n site before exits m (MoreStatements first others) =
+      onwards (direct_code n site before exits m first) (λ middle. block_code n site middle exits (after_statement m first) others)
 
   -- what stands after ELSE, with a jump over it behind the consequence
   pub alternative_code : Numbering → Site → List Instr → Exits → ℕ → Alternative → Emitted
   alternative_code n site before exits m NoAlternative = Ok before
   alternative_code n site before exits m (Otherwise one) =
-      statement_code n site (before ++ (instr.Jump (suc (length before) + statement_size n site one) ∷ [])) exits m one
+      statement_code n site (before ++ (instr.Jump (suc (length before) + statement_size n site m one) ∷ [])) exits m one
 
   -- what DO CASE at this place does where its number selects no statement
   pub uncased_code : Numbering → Site → List Instr → Exits → Place → ℕ → Alternative → Emitted
@@ -178,7 +194,7 @@ abbrev mutual
   pub selected_code : Numbering → Site → List Instr → Exits → Place → ℕ → ℕ → ℕ → ℕ → Statements → Emitted
   selected_code n site before exits place cell target m k NoStatements = Ok before
   selected_code n site before exits place cell target m k (MoreStatements first others) =
-      onwards (case_code before place cell k (statement_size n site first))
+      onwards (case_code before place cell k (statement_size n site m first))
       (λ tested. onwards (statement_code n site tested exits m first)
       (λ middle. selected_code n site (middle ++ (instr.Jump target ∷ [])) exits place cell target (after_statement m first) (suc k) others))
 

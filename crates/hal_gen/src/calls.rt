@@ -1,6 +1,6 @@
 //! CALL.
 
-ghost use Rattle.std.specs.Prelude.{◌≡◌, [], IfOk, map};
+ghost use Rattle.std.specs.Prelude.{◌≡◌, IfOk, map};
 ghost use Rattle.hal_tree.specs.Rows.{expressions};
 ghost use Rattle.hal_tree.specs.SeenExpressions.{seen_expression, seen_reference};
 ghost use Rattle.hal_tree.specs.SeenLeaves.{seen_name};
@@ -14,7 +14,7 @@ ghost use Rattle.hal_gen.specs.StatementCode as codes;
 
 use hal_base::Place;
 use hal_code::Instr;
-use hal_gen_expr::{Site, Uncoded, emit_called, referent};
+use hal_gen_expr::{Site, Uncoded, emit_procedure, referent};
 use hal_referents::{Meant, Referent};
 use hal_tree::{Expr, Identifier, Reference};
 use std::alloc::AllocError;
@@ -43,25 +43,8 @@ fn block_of(meant: Meant<'_>) -> Option<usize>
     }
 }
 
-/// Adds the code of CALL of what this name refers to, a PROCEDURE without ASSIGN arguments.
+/// Adds the code of CALL of what this name refers to (language document, Units).
 #[tactic(auto, using(crate::proofs::Called::procedure_given))]
-fn emit_procedure(
-    name: &Identifier,
-    arguments: &Vec<Expr>,
-    code: &mut Vec<Instr>,
-    site: &Site<'_>,
-    place: Place,
-) -> Result<(), Uncoded>
-    requires site { IsSite site.now }
-    ensures { Emits (codes.procedure_code (seen_numbering site.now) (seen_site site.now) code.old.items place (expressions (map seen_expression arguments.now.items)) (referent (seen_site site.now) (seen_name name.now).name)) result code.new.items }
-{
-    match block_of(referent(site, &name.name)) {
-        None => Err(Uncoded::At(place)),
-        Some(unit) => emit_called(arguments, code, site, place, false, unit),
-    }
-}
-
-/// Adds the code of CALL; one with ASSIGN arguments has none yet (language document, Units).
 pub(crate) fn emit_call(
     name: &Identifier,
     arguments: &Vec<Expr>,
@@ -71,12 +54,11 @@ pub(crate) fn emit_call(
     place: Place,
 ) -> Result<(), Uncoded>
     requires site { IsSite site.now }
-    ensures { Emits (procedures.call_code (seen_numbering site.now) (seen_site site.now) code.old.items place (seen_name name.now) (expressions (map seen_expression arguments.now.items)) (map seen_reference receivers.now)) result code.new.items }
+    ensures { Emits (codes.procedure_code (seen_numbering site.now) (seen_site site.now) code.old.items place (expressions (map seen_expression arguments.now.items)) (map seen_reference receivers.now) (referent (seen_site site.now) (seen_name name.now).name)) result code.new.items }
 {
-    if receivers.is_empty() {
-        emit_procedure(name, arguments, code, site, place)
-    } else {
-        Err(Uncoded::At(place))
+    match block_of(referent(site, &name.name)) {
+        None => Err(Uncoded::At(place)),
+        Some(unit) => emit_procedure(arguments, receivers, code, site, place, unit),
     }
 }
 
@@ -85,14 +67,15 @@ pub(crate) fn emit_call(
 pub(crate) fn call_size(
     name: &Identifier,
     arguments: &Vec<Expr>,
+    receivers: &[Reference],
     site: &Site<'_>,
     place: Place,
 ) -> Result<usize, AllocError>
     requires site { IsSite site.now }
-    ensures { IfOk result (λ size. size ≡ sizes.call_size (seen_numbering site.now) (seen_site site.now) (expressions (map seen_expression arguments.now.items)) place (referent (seen_site site.now) (seen_name name.now).name)) }
+    ensures { IfOk result (λ size. size ≡ sizes.call_size (seen_numbering site.now) (seen_site site.now) (expressions (map seen_expression arguments.now.items)) (map seen_reference receivers.now) place (referent (seen_site site.now) (seen_name name.now).name)) }
 {
     let mut code = Vec::new(site.alloc);
-    match emit_procedure(name, arguments, &mut code, site, place) {
+    match emit_call(name, arguments, receivers, &mut code, site, place) {
         Ok(()) => Ok(code.len()),
         Err(Uncoded::At(_)) => Ok(0),
         Err(Uncoded::Memory(error)) => Err(error),

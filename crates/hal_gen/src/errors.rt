@@ -1,6 +1,6 @@
-//! ON ERROR with SYSTEM or IGNORE, OFF ERROR and SEND ERROR.
+//! ON ERROR, OFF ERROR and SEND ERROR.
 
-ghost use Rattle.std.specs.Prelude.{◌≡◌, Some};
+ghost use Rattle.std.specs.Prelude.{◌≡◌, Some, length};
 ghost use Rattle.std.specs.Option.{option_map};
 ghost use Rattle.hal_tree.specs.SeenStatements.{seen_event, seen_response, seen_selector, seen_action};
 ghost use Rattle.hal_agreement.specs.PlacedStatements as placed;
@@ -10,9 +10,11 @@ ghost use Rattle.hal_gen_expr.specs.SeenSites.{seen_site, IsSite};
 ghost use Rattle.hal_gen.specs.Leaves as leaves;
 
 use crate::events::event_number;
+use crate::marks::next;
+use crate::sizes::sum;
 use hal_base::Place;
 use hal_code::{Choice, EventChange, Instr, Response};
-use hal_gen_expr::{Site, Uncoded, emit_one};
+use hal_gen_expr::{Site, Uncoded, emit_one, emit_two};
 use hal_tree::{EventAction, Selector};
 
 /// A number of one byte, which is no 0.
@@ -104,6 +106,31 @@ pub(crate) fn emit_response(
         target: 0,
     };
     emit_one(code, place, entry)
+}
+
+/// Adds ON ERROR with a statement of so many instructions, which is to stand behind it, and a jump over the statement (language document, Errors).
+pub(crate) fn emit_entry(
+    code: &mut Vec<Instr>,
+    place: Place,
+    selector: Selector,
+    size: usize,
+) -> Result<(), Uncoded>
+    ensures { Emits (emitting.emit code.old.items place (leaves.handler_code (seen_selector selector) (length code.old.items) size)) result code.new.items }
+{
+    let Some((group, number)) = numbers_of(selector) else {
+        return Err(Uncoded::At(place));
+    };
+    let begin = next(next(code.len())?)?;
+    let end = sum(begin, size)?;
+    let entry = Instr::On {
+        group,
+        number,
+        response: Choice::Known(Response::Statement),
+        change: Choice::Known(EventChange::Nothing),
+        event: 0,
+        target: begin as u64,
+    };
+    emit_two(code, place, Some(entry), Instr::Jump(end as u64))
 }
 
 /// Adds OFF ERROR (language document, Errors).

@@ -5,6 +5,7 @@ ghost use Rattle.std.specs.Option.{option_map};
 ghost use Rattle.hal_tree.specs.SeenLeaves.{seen_name};
 ghost use Rattle.hal_agreement.specs.PlacedStatements as placed;
 ghost use Rattle.hal_meaning.specs.Statements as meaning;
+ghost use Rattle.hal_gen.specs.BlockExits as blocks;
 ghost use Rattle.hal_gen.specs.Leading as leading;
 ghost use Rattle.hal_gen.specs.SeenExits.{seen_exits, seen_leaving, seen_opened};
 
@@ -41,19 +42,16 @@ pub struct Exits<'a> {
     /// The groups that are open around them, the innermost first.
     pub groups: Vec<Opened<'a>>,
     pub leaving: Leaving,
-    /// Where the block ends.
-    pub end: usize,
 }
 
 impl<'a> Exits<'a> {
-    /// Those of the statements of a block, around which no group is open.
-    pub fn of_block(alloc: Global, leaving: Leaving, end: usize) -> Exits<'a>
-        ensures { seen_exits result ≡ placed.of_block (seen_leaving leaving) (λ mark. end) }
+    /// Those of the statements of a block's body, around which no group is open.
+    pub fn of_body(alloc: Global, leaving: Leaving) -> Exits<'a>
+        ensures { seen_exits result ≡ blocks.of_body (seen_leaving leaving) }
     {
         Exits {
             groups: Vec::new(alloc),
             leaving,
-            end,
         }
     }
 
@@ -67,7 +65,6 @@ impl<'a> Exits<'a> {
         Ok(Exits {
             groups,
             leaving: self.leaving,
-            end: self.end,
         })
     }
 }

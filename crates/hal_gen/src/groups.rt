@@ -120,18 +120,19 @@ pub(crate) fn emit_again(
     emit_jump(code, place, again_of(&exits.groups, label))
 }
 
-/// Where control goes from inside a group without turns whose code begins there.
+/// Where control goes from inside a group without turns whose code begins there; before its statements the next mark has this number.
 pub(crate) fn in_group<'a>(
     exits: &Exits<'a>,
     labels: &'a [Identifier],
     group: &Group,
     site: &Site<'_>,
+    mark: usize,
     begin: usize,
 ) -> Result<Exits<'a>, AllocError>
     requires site { IsSite site.now }
-    ensures { IfOk result (λ inner. seen_exits inner ≡ placed.within_group (placed.opened (map seen_name labels.now) (begin + sizes.group_size (seen_numbering site.now) (seen_site site.now) (seen_group group.now)) None) (seen_exits exits.now)) }
+    ensures { IfOk result (λ inner. seen_exits inner ≡ placed.within_group (placed.opened (map seen_name labels.now) (begin + sizes.group_size (seen_numbering site.now) (seen_site site.now) mark (seen_group group.now)) None) (seen_exits exits.now)) }
 {
-    let exit = sum(begin, group_size(group, site)?)?;
+    let exit = sum(begin, group_size(group, site, mark)?)?;
     exits.within(
         site.alloc,
         Opened {
@@ -161,19 +162,20 @@ pub(crate) fn in_cases<'a>(
     )
 }
 
-/// Where control goes from inside a loop whose TURN stands there, and whose end there.
+/// The same of a loop whose TURN stands there, and whose end there.
 pub(crate) fn in_loop<'a>(
     exits: &Exits<'a>,
     labels: &'a [Identifier],
     group: &Group,
     site: &Site<'_>,
+    mark: usize,
     turn: usize,
     exit: usize,
 ) -> Result<Exits<'a>, AllocError>
     requires site { IsSite site.now }
-    ensures { IfOk result (λ inner. seen_exits inner ≡ placed.within_group (placed.opened (map seen_name labels.now) exit (Some (suc turn + sizes.group_size (seen_numbering site.now) (seen_site site.now) (seen_group group.now)))) (seen_exits exits.now)) }
+    ensures { IfOk result (λ inner. seen_exits inner ≡ placed.within_group (placed.opened (map seen_name labels.now) exit (Some (suc turn + sizes.group_size (seen_numbering site.now) (seen_site site.now) mark (seen_group group.now)))) (seen_exits exits.now)) }
 {
-    let again = sum(next(turn)?, group_size(group, site)?)?;
+    let again = sum(next(turn)?, group_size(group, site, mark)?)?;
     exits.within(
         site.alloc,
         Opened {
@@ -189,12 +191,16 @@ pub(crate) fn other_branch(
     consequence: &Statement,
     alternative: &Option<Box<Statement>>,
     site: &Site<'_>,
+    mark: usize,
     test: usize,
 ) -> Result<usize, AllocError>
     requires site { IsSite site.now }
-    ensures { IfOk result (λ other. other ≡ suc test + (sizes.statement_size (seen_numbering site.now) (seen_site site.now) (seen_statement consequence.now) + sizes.jump_size (seen_alternative alternative.now))) }
+    ensures { IfOk result (λ other. other ≡ suc test + (sizes.statement_size (seen_numbering site.now) (seen_site site.now) mark (seen_statement consequence.now) + sizes.jump_size (seen_alternative alternative.now))) }
 {
-    let size = sum(statement_size(consequence, site)?, jump_size(alternative))?;
+    let size = sum(
+        statement_size(consequence, site, mark)?,
+        jump_size(alternative),
+    )?;
     sum(next(test)?, size)
 }
 

@@ -81,15 +81,22 @@ pub(crate) fn emit_case(
     emit_case_tests(code, place, cell, number, target)
 }
 
-/// The views of the own places of a DO FOR without a TEMPORARY.
-fn cells_from_first(site: &Site<'_>, mark: usize) -> Option<Cells>
+/// The views of four own places of the group of this mark, before each of which so many of its places lie.
+fn cells_at(
+    site: &Site<'_>,
+    mark: usize,
+    last: u32,
+    step: u32,
+    value: u32,
+    begins: u32,
+) -> Option<Cells>
     requires site { IsSite site.now }
-    ensures { result ≡ codes.cells_at (seen_numbering site.now) (seen_site site.now) mark 0 1 2 3 }
+    ensures { result ≡ codes.cells_at (seen_numbering site.now) (seen_site site.now) mark last step value begins }
 {
-    let last = cell_of(site, mark, 0)?;
-    let step = cell_of(site, mark, 1)?;
-    let value = cell_of(site, mark, 2)?;
-    let begins = cell_of(site, mark, 3)?;
+    let last = cell_of(site, mark, last)?;
+    let step = cell_of(site, mark, step)?;
+    let value = cell_of(site, mark, value)?;
+    let begins = cell_of(site, mark, begins)?;
     Some(Cells {
         last,
         step,
@@ -98,15 +105,15 @@ fn cells_from_first(site: &Site<'_>, mark: usize) -> Option<Cells>
     })
 }
 
-/// Those of a DO FOR; one with a TEMPORARY has no code yet.
+/// Those of a DO FOR, whose TEMPORARY variable stands before them (language document, Storage).
 pub(crate) fn cells_of(site: &Site<'_>, temporary: bool, mark: usize) -> Option<Cells>
     requires site { IsSite site.now }
     ensures { result ≡ codes.cells_of (seen_numbering site.now) (seen_site site.now) temporary mark }
 {
     if temporary {
-        None
+        cells_at(site, mark, 1, 2, 3, 4)
     } else {
-        cells_from_first(site, mark)
+        cells_at(site, mark, 0, 1, 2, 3)
     }
 }
 

@@ -23,8 +23,8 @@ use hal_base::Place;
 use hal_code::{Choice, Instr, Places};
 use hal_elements::Component;
 use hal_gen_expr::{
-    Site, Uncoded, are_none, emit_chosen, emit_integer, emit_name, emit_one, emit_part, is_arrayed,
-    leads, led_by, places_of, push, referent, sizes_led,
+    Aim, Site, Uncoded, are_none, emit_chosen, emit_integer, emit_name, emit_one, emit_part,
+    is_arrayed, leads, led_by, places_of, push, referent, sizes_led,
 };
 use hal_referents::{Meant, Referent};
 use hal_tree::{Identifier, Reference, Sub, Subscript};
@@ -165,7 +165,14 @@ pub(crate) fn emit_receiver(
     let Some(led) = led_by(&receiver.further, referent(site, &receiver.name)) else {
         return Err(Uncoded::At(receiver.place));
     };
-    emit_chosen(&receiver.subscript, code, site, receiver.place, led)?;
+    emit_chosen(
+        &receiver.subscript,
+        code,
+        site,
+        receiver.place,
+        Aim::Cell,
+        led,
+    )?;
     emit_received(
         &receiver.subscript,
         code,

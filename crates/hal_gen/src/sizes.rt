@@ -1,22 +1,26 @@
 //! How many instructions statements have: so targets are known before the code that stands in between. An error comes where the code would have more
 //! than memory has room for.
 
-ghost use Rattle.std.specs.Prelude.{◌≡◌, ◌+◌, IfOk, length, map};
+ghost use Rattle.std.specs.Prelude.{◌≡◌, ◌+◌, suc, IfOk, length, map};
 ghost use Rattle.std.specs.Option.{option_map};
 ghost use Rattle.hal_grammar.specs.Statements as grammar;
 ghost use Rattle.hal_tree.specs.Rows.{expressions, statements};
 ghost use Rattle.hal_tree.specs.SeenExpressions.{seen_expression, seen_reference};
 ghost use Rattle.hal_tree.specs.SeenLeaves.{seen_name};
 ghost use Rattle.hal_tree.specs.SeenStatements.{seen_alternative, seen_basic, seen_group, seen_guard, seen_span, seen_statement};
+ghost use Rattle.hal_meaning.specs.Marks as marks;
 ghost use Rattle.hal_meaning.specs.Sets.{body_at};
+ghost use Rattle.hal_agreement.specs.Sites as sites;
 ghost use Rattle.hal_gen_expr.specs.SeenSites.{seen_site, seen_numbering, IsSite};
 ghost use Rattle.hal_gen.specs.Leaves as leaves;
 ghost use Rattle.hal_gen.specs.Sizes as sizes;
 
 use crate::calls::call_size;
+use crate::marks::{after_alternative, after_statement, next};
 use crate::receivers::receiver_size;
 use crate::returns::gives_text;
 use crate::schedules::schedule_size;
+use crate::sites::group_site;
 use crate::times::time_size;
 use hal_gen_expr::{Site, Uncoded, emit_expression};
 use hal_tree::{Basic, Expr, Group, Guard, Identifier, Reference, Span, Statement};
@@ -50,14 +54,6 @@ pub(crate) fn expression_size(tree: &Expr, site: &Site<'_>) -> Result<usize, All
         Err(Uncoded::At(_)) => Ok(0),
         Err(Uncoded::Memory(error)) => Err(error),
     }
-}
-
-/// The size of a condition, with the jump behind it.
-fn condition_size(tree: &Expr, site: &Site<'_>) -> Result<usize, AllocError>
-    requires site { IsSite site.now }
-    ensures { IfOk result (λ size. size ≡ sizes.expression_size (seen_numbering site.now) (seen_site site.now) (seen_expression tree.now) + 1) }
-{
-    sum(expression_size(tree, site)?, 1)
 }
 
 /// The size of the number of a DO CASE, with what keeps it.
@@ -329,26 +325,28 @@ fn return_size(value: &Option<Expr>, site: &Site<'_>) -> Result<usize, AllocErro
     }
 }
 
-/// The size of a statement (image document, Code that stands for a set).
+/// The size of a statement before which the next mark has this number (image document, Code that stands for a set).
 #[cycle(sizes)]
 #[tactic(auto, using(hal_tree::proofs::MadeStatements::made_statement))]
-pub fn statement_size(tree: &Statement, site: &Site<'_>) -> Result<usize, AllocError>
+pub fn statement_size(tree: &Statement, site: &Site<'_>, mark: usize) -> Result<usize, AllocError>
     requires site { IsSite site.now }
-    ensures { IfOk result (λ size. size ≡ sizes.statement_size (seen_numbering site.now) (seen_site site.now) (seen_statement tree.now)) }
+    ensures { IfOk result (λ size. size ≡ sizes.statement_size (seen_numbering site.now) (seen_site site.now) mark (seen_statement tree.now)) }
 {
-    basic_size(&tree.basic, site)
+    basic_size(&tree.basic, site, mark)
 }
 
 /// The size of statements one after another.
 #[cycle(sizes)]
 #[tactic(auto, unfolding(crate::specs::Sums::with_statements))]
-pub fn statements_size(trees: &[Statement], site: &Site<'_>) -> Result<usize, AllocError>
+fn statements_size(trees: &[Statement], site: &Site<'_>, mark: usize) -> Result<usize, AllocError>
     requires site { IsSite site.now }
-    ensures { IfOk result (λ size. size ≡ sizes.statements_size (seen_numbering site.now) (seen_site site.now) (statements (map seen_statement trees.now))) }
+    ensures { IfOk result (λ size. size ≡ sizes.statements_size (seen_numbering site.now) (seen_site site.now) mark (statements (map seen_statement trees.now))) }
 {
     let mut size: usize = 0;
+    let mut following = mark;
     for tree in trees {
-        size = sum(size, statement_size(tree, site)?)?;
+        size = sum(size, statement_size(tree, site, following)?)?;
+        following = after_statement(tree, following)?;
     }
     Ok(size)
 }
@@ -356,47 +354,60 @@ pub fn statements_size(trees: &[Statement], site: &Site<'_>) -> Result<usize, Al
 /// The size of a group.
 #[cycle(sizes)]
 #[tactic(auto, using(hal_tree::proofs::MadeStatements::parts_of_group))]
-pub(crate) fn group_size(tree: &Group, site: &Site<'_>) -> Result<usize, AllocError>
+pub(crate) fn group_size(tree: &Group, site: &Site<'_>, mark: usize) -> Result<usize, AllocError>
     requires site { IsSite site.now }
-    ensures { IfOk result (λ size. size ≡ sizes.group_size (seen_numbering site.now) (seen_site site.now) (seen_group tree.now)) }
+    ensures { IfOk result (λ size. size ≡ sizes.group_size (seen_numbering site.now) (seen_site site.now) mark (seen_group tree.now)) }
 {
-    statements_size(&tree.statements, site)
+    statements_size(&tree.statements, site, mark)
 }
 
 /// The size of what stands after ELSE.
 #[cycle(sizes)]
-fn alternative_size(tree: &Option<Box<Statement>>, site: &Site<'_>) -> Result<usize, AllocError>
+fn alternative_size(
+    tree: &Option<Box<Statement>>,
+    site: &Site<'_>,
+    mark: usize,
+) -> Result<usize, AllocError>
     requires site { IsSite site.now }
-    ensures { IfOk result (λ size. size ≡ sizes.alternative_size (seen_numbering site.now) (seen_site site.now) (seen_alternative tree.now)) }
+    ensures { IfOk result (λ size. size ≡ sizes.alternative_size (seen_numbering site.now) (seen_site site.now) mark (seen_alternative tree.now)) }
 {
     match tree {
         None => Ok(0),
-        Some(statement) => statement_size(statement, site),
+        Some(statement) => statement_size(statement, site, mark),
     }
 }
 
 /// The size of what DO CASE does where its number selects no statement.
 #[cycle(sizes)]
-fn uncased_size(tree: &Option<Box<Statement>>, site: &Site<'_>) -> Result<usize, AllocError>
+fn uncased_size(
+    tree: &Option<Box<Statement>>,
+    site: &Site<'_>,
+    mark: usize,
+) -> Result<usize, AllocError>
     requires site { IsSite site.now }
-    ensures { IfOk result (λ size. size ≡ sizes.uncased_size (seen_numbering site.now) (seen_site site.now) (seen_alternative tree.now)) }
+    ensures { IfOk result (λ size. size ≡ sizes.uncased_size (seen_numbering site.now) (seen_site site.now) mark (seen_alternative tree.now)) }
 {
     match tree {
         None => Ok(1),
-        Some(statement) => statement_size(statement, site),
+        Some(statement) => statement_size(statement, site, mark),
     }
 }
 
 /// The size of the statements of DO CASE, each with a test before it and a jump behind it.
 #[cycle(sizes)]
 #[tactic(auto, unfolding(crate::specs::Sums::with_cases))]
-fn selected_size(trees: &[Statement], site: &Site<'_>) -> Result<usize, AllocError>
+fn selected_size(trees: &[Statement], site: &Site<'_>, mark: usize) -> Result<usize, AllocError>
     requires site { IsSite site.now }
-    ensures { IfOk result (λ size. size ≡ sizes.selected_size (seen_numbering site.now) (seen_site site.now) (statements (map seen_statement trees.now))) }
+    ensures { IfOk result (λ size. size ≡ sizes.selected_size (seen_numbering site.now) (seen_site site.now) mark (statements (map seen_statement trees.now))) }
 {
     let mut size: usize = 0;
+    let mut following = mark;
     for tree in trees {
-        size = sum(size, sum(5, sum(statement_size(tree, site)?, 1)?)?)?;
+        size = sum(
+            size,
+            sum(5, sum(statement_size(tree, site, following)?, 1)?)?,
+        )?;
+        following = after_statement(tree, following)?;
     }
     Ok(size)
 }
@@ -404,55 +415,82 @@ fn selected_size(trees: &[Statement], site: &Site<'_>) -> Result<usize, AllocErr
 /// The size of a group of DO CASE.
 #[cycle(sizes)]
 #[tactic(auto, using(hal_tree::proofs::MadeStatements::parts_of_group))]
-fn cases_size(tree: &Group, site: &Site<'_>) -> Result<usize, AllocError>
+fn cases_size(tree: &Group, site: &Site<'_>, mark: usize) -> Result<usize, AllocError>
     requires site { IsSite site.now }
-    ensures { IfOk result (λ size. size ≡ sizes.cases_size (seen_numbering site.now) (seen_site site.now) (seen_group tree.now)) }
+    ensures { IfOk result (λ size. size ≡ sizes.cases_size (seen_numbering site.now) (seen_site site.now) mark (seen_group tree.now)) }
 {
-    selected_size(&tree.statements, site)
+    selected_size(&tree.statements, site, mark)
 }
 
-/// The size of a DO CASE.
+/// The size of a DO CASE of this mark.
 pub(crate) fn selection_size(
     group: &Group,
     number: &Expr,
     alternative: &Option<Box<Statement>>,
     site: &Site<'_>,
+    mark: usize,
 ) -> Result<usize, AllocError>
     requires site { IsSite site.now }
-    ensures { IfOk result (λ size. size ≡ (sizes.expression_size (seen_numbering site.now) (seen_site site.now) (seen_expression number.now) + 2) + (sizes.cases_size (seen_numbering site.now) (seen_site site.now) (seen_group group.now) + sizes.uncased_size (seen_numbering site.now) (seen_site site.now) (seen_alternative alternative.now))) }
+    ensures { IfOk result (λ size. size ≡ (sizes.expression_size (seen_numbering site.now) (seen_site site.now) (seen_expression number.now) + 2) + (sizes.cases_size (seen_numbering site.now) (seen_site site.now) (marks.after_alternative (suc mark) (seen_alternative alternative.now)) (seen_group group.now) + sizes.uncased_size (seen_numbering site.now) (seen_site site.now) (suc mark) (seen_alternative alternative.now))) }
 {
     let begin = number_size(number, site)?;
-    let cases = cases_size(group, site)?;
-    let other = uncased_size(alternative, site)?;
+    let inner = next(mark)?;
+    let following = after_alternative(alternative, inner)?;
+    let cases = cases_size(group, site, following)?;
+    let other = uncased_size(alternative, site, inner)?;
     sum_of(begin, cases, other)
 }
 
-/// The size of a DO FOR.
+/// The size of a DO FOR, at the site of its group, before which the next mark has this number.
 #[cycle(sizes)]
 pub(crate) fn spanned_size(
     group: &Group,
     span: &Span,
     guard: &Option<Guard>,
     site: &Site<'_>,
+    mark: usize,
 ) -> Result<usize, AllocError>
     requires site { IsSite site.now }
-    ensures { IfOk result (λ size. size ≡ ((sizes.begin_size (seen_numbering site.now) (seen_site site.now) (seen_span span.now) + sizes.first_span_size (seen_numbering site.now) (seen_site site.now) (option_map seen_guard guard.now)) + 1) + (sizes.group_size (seen_numbering site.now) (seen_site site.now) (seen_group group.now) + (sizes.again_size (seen_numbering site.now) (seen_site site.now) (seen_span span.now) + sizes.later_span_size (seen_numbering site.now) (seen_site site.now) (option_map seen_guard guard.now)))) }
+    ensures { IfOk result (λ size. size ≡ sizes.spanned_size (seen_numbering site.now) (seen_site site.now) (seen_span span.now) (option_map seen_guard guard.now) (sizes.group_size (seen_numbering site.now) (seen_site site.now) mark (seen_group group.now))) }
 {
     let test = sum(begin_size(span, site)?, first_span_size(guard, site)?)?;
     let begin = sum(test, 1)?;
     let later = sum(again_size(span, site)?, later_span_size(guard, site)?)?;
-    let turn = sum(group_size(group, site)?, later)?;
+    let turn = sum(group_size(group, site, mark)?, later)?;
     sum(begin, turn)
 }
 
-/// The size of a loop.
+/// The size of a DO FOR of this mark.
 #[cycle(sizes)]
-pub(crate) fn loop_size(group: &Group, guard: &Guard, site: &Site<'_>) -> Result<usize, AllocError>
+fn range_size(
+    group: &Group,
+    span: &Span,
+    guard: &Option<Guard>,
+    temporary: bool,
+    site: &Site<'_>,
+    mark: usize,
+) -> Result<usize, AllocError>
     requires site { IsSite site.now }
-    ensures { IfOk result (λ size. size ≡ (sizes.first_test_size (seen_numbering site.now) (seen_site site.now) (seen_guard guard.now) + 1) + (sizes.group_size (seen_numbering site.now) (seen_site site.now) (seen_group group.now) + sizes.test_size (seen_numbering site.now) (seen_site site.now) (seen_guard guard.now))) }
+    ensures { IfOk result (λ size. size ≡ sizes.spanned_size (seen_numbering site.now) (sites.group_site (seen_site site.now) temporary mark) (seen_span span.now) (option_map seen_guard guard.now) (sizes.group_size (seen_numbering site.now) (sites.group_site (seen_site site.now) temporary mark) (suc mark) (seen_group group.now))) }
+{
+    let inner = group_site(site, temporary, mark);
+    spanned_size(group, span, guard, &inner, next(mark)?)
+}
+
+/// The size of a loop of this mark.
+#[cycle(sizes)]
+pub(crate) fn loop_size(
+    group: &Group,
+    guard: &Guard,
+    site: &Site<'_>,
+    mark: usize,
+) -> Result<usize, AllocError>
+    requires site { IsSite site.now }
+    ensures { IfOk result (λ size. size ≡ (sizes.first_test_size (seen_numbering site.now) (seen_site site.now) (seen_guard guard.now) + 1) + (sizes.group_size (seen_numbering site.now) (seen_site site.now) (suc mark) (seen_group group.now) + sizes.test_size (seen_numbering site.now) (seen_site site.now) (seen_guard guard.now))) }
 {
     let begin = sum(first_test_size(guard, site)?, 1)?;
-    let turn = sum(group_size(group, site)?, test_size(guard, site)?)?;
+    let inner = group_size(group, site, next(mark)?)?;
+    let turn = sum(inner, test_size(guard, site)?)?;
     sum(begin, turn)
 }
 
@@ -470,12 +508,21 @@ fn branch_size(
     sum(test, sum(consequence, other)?)
 }
 
+/// The size of the UPDATE block of this mark.
+#[cycle(sizes)]
+fn update_size(body: &Vec<Statement>, site: &Site<'_>, mark: usize) -> Result<usize, AllocError>
+    requires site { IsSite site.now }
+    ensures { IfOk result (λ size. size ≡ sizes.statements_size (seen_numbering site.now) (seen_site site.now) (suc mark) (statements (map seen_statement body.now.items)) + 2) }
+{
+    sum(statements_size(body, site, next(mark)?)?, 2)
+}
+
 /// The size of a statement without labels.
 #[cycle(sizes)]
 #[tactic(auto, using(hal_tree::proofs::MadeStatements::made_null, hal_tree::proofs::MadeStatements::made_assignment, hal_tree::proofs::MadeStatements::made_if, hal_tree::proofs::MadeStatements::made_do, hal_tree::proofs::MadeStatements::made_do_case, hal_tree::proofs::MadeStatements::made_do_loop, hal_tree::proofs::MadeStatements::made_do_for, hal_tree::proofs::MadeStatements::made_exit, hal_tree::proofs::MadeStatements::made_repeat, hal_tree::proofs::MadeStatements::made_return, hal_tree::proofs::MadeStatements::made_call_statement, hal_tree::proofs::MadeStatements::made_read, hal_tree::proofs::MadeStatements::made_write, hal_tree::proofs::MadeStatements::made_update, hal_tree::proofs::MadeStatements::made_schedule_statement, hal_tree::proofs::MadeStatements::made_cancel, hal_tree::proofs::MadeStatements::made_terminate, hal_tree::proofs::MadeStatements::made_wait, hal_tree::proofs::MadeStatements::made_wait_until, hal_tree::proofs::MadeStatements::made_wait_for_dependent, hal_tree::proofs::MadeStatements::made_wait_for, hal_tree::proofs::MadeStatements::made_event, hal_tree::proofs::MadeStatements::made_update_priority, hal_tree::proofs::MadeStatements::made_on_error_statement, hal_tree::proofs::MadeStatements::made_on_error_response, hal_tree::proofs::MadeStatements::made_off_error, hal_tree::proofs::MadeStatements::made_send_error))]
-fn basic_size(tree: &Basic, site: &Site<'_>) -> Result<usize, AllocError>
+fn basic_size(tree: &Basic, site: &Site<'_>, mark: usize) -> Result<usize, AllocError>
     requires site { IsSite site.now }
-    ensures { IfOk result (λ size. size ≡ sizes.basic_size (seen_numbering site.now) (seen_site site.now) (seen_basic tree.now)) }
+    ensures { IfOk result (λ size. size ≡ sizes.basic_size (seen_numbering site.now) (seen_site site.now) mark (seen_basic tree.now)) }
 {
     match tree {
         Basic::If {
@@ -485,12 +532,12 @@ fn basic_size(tree: &Basic, site: &Site<'_>) -> Result<usize, AllocError>
             alternative,
         } => {
             let tested = expression_size(condition, site)?;
-            let followed = statement_size(consequence, site)?;
-            let otherwise = alternative_size(alternative, site)?;
-            let jump = jump_size(alternative);
-            branch_size(tested, followed, jump, otherwise)
+            let followed = statement_size(consequence, site, mark)?;
+            let following = after_statement(consequence, mark)?;
+            let otherwise = alternative_size(alternative, site, following)?;
+            branch_size(tested, followed, jump_size(alternative), otherwise)
         }
-        Basic::Do { place: _, group } => group_size(group, site),
+        Basic::Do { place: _, group } => group_size(group, site, next(mark)?),
         Basic::DoCase {
             place: _,
             selector,
@@ -498,28 +545,30 @@ fn basic_size(tree: &Basic, site: &Site<'_>) -> Result<usize, AllocError>
             group,
         } => {
             let begin = number_size(selector, site)?;
-            let cases = cases_size(group, site)?;
-            let other = uncased_size(alternative, site)?;
+            let inner = next(mark)?;
+            let following = after_alternative(alternative, inner)?;
+            let cases = cases_size(group, site, following)?;
+            let other = uncased_size(alternative, site, inner)?;
             sum_of(begin, cases, other)
         }
         Basic::DoLoop {
             place: _,
             guard,
             group,
-        } => loop_size(group, guard, site),
+        } => loop_size(group, guard, site, mark),
         Basic::DoFor {
             place: _,
-            temporary: _,
+            temporary,
             variable: _,
             span,
             guard,
             group,
-        } => spanned_size(group, span, guard, site),
+        } => range_size(group, span, guard, *temporary, site, mark),
         Basic::Update {
             place: _,
             body,
             close: _,
-        } => sum(statements_size(body, site)?, 2),
+        } => update_size(body, site, mark),
         Basic::Assignment {
             place: _,
             receivers,
@@ -552,8 +601,8 @@ fn basic_size(tree: &Basic, site: &Site<'_>) -> Result<usize, AllocError>
             place,
             name,
             arguments,
-            receivers: _,
-        } => call_size(name, arguments, site, *place),
+            receivers,
+        } => call_size(name, arguments, receivers, site, *place),
         Basic::Null { .. } => Ok(0),
         Basic::Schedule { place: _, schedule } => schedule_size(schedule, site),
         Basic::UpdatePriority {
@@ -561,6 +610,10 @@ fn basic_size(tree: &Basic, site: &Site<'_>) -> Result<usize, AllocError>
             name: _,
             priority,
         } => sum(expression_size(priority, site)?, 1),
-        Basic::OnErrorStatement { .. } => Ok(0),
+        Basic::OnErrorStatement {
+            place: _,
+            selector: _,
+            handler,
+        } => sum(2, statement_size(handler, site, next(mark)?)?),
     }
 }

@@ -1,13 +1,15 @@
 //! The code of statements.
 
-ghost use Rattle.std.specs.Prelude.{◌≡◌, ◌+◌, suc, length, map};
+ghost use Rattle.std.specs.Prelude.{suc, map};
+ghost use Rattle.std.specs.Option.{option_map};
 ghost use Rattle.hal_tree.specs.Rows.{statements};
 ghost use Rattle.hal_tree.specs.SeenLeaves.{seen_name};
-ghost use Rattle.hal_tree.specs.SeenStatements.{seen_alternative, seen_basic, seen_group, seen_statement};
+ghost use Rattle.hal_tree.specs.SeenStatements.{seen_alternative, seen_basic, seen_group, seen_guard, seen_span, seen_statement};
 ghost use Rattle.hal_meaning.specs.Marks as marks;
 ghost use Rattle.hal_agreement.specs.PlacedStatements as placed;
 ghost use Rattle.hal_gen_expr.specs.Emits.{Emits};
 ghost use Rattle.hal_gen_expr.specs.SeenSites.{seen_site, seen_numbering, IsSite};
+ghost use Rattle.hal_gen.specs.BlockExits as blocks;
 ghost use Rattle.hal_gen.specs.SeenExits.{seen_exits};
 ghost use Rattle.hal_gen.specs.SeenLocks.{AreGroups};
 ghost use Rattle.hal_gen.specs.Sizes as sizes;
@@ -15,14 +17,14 @@ ghost use Rattle.hal_gen.specs.StatementCode as codes;
 
 use crate::calls::emit_call;
 use crate::channels::{emit_input, emit_output};
-use crate::errors::{emit_off, emit_raise, emit_response};
+use crate::errors::{emit_entry, emit_off, emit_raise, emit_response};
 use crate::events::{emit_event, emit_event_pause};
 use crate::exits::{Exits, Leaving};
 use crate::groups::{
     emit_again, emit_exit, emit_first_test, emit_open, emit_test, in_cases, in_group, in_loop,
     other_branch,
 };
-use crate::kept::{cell_of, cells_of, emit_case, push_keeping};
+use crate::kept::{Cells, cell_of, cells_of, emit_case, push_keeping};
 use crate::locks::Locks;
 use crate::loops::{Spanned, emit_span_end, emit_span_start};
 use crate::marks::{after_alternative, after_statement, next};
@@ -30,12 +32,14 @@ use crate::real_time::{Ask, emit_named};
 use crate::receivers::emit_receivers;
 use crate::returns::emit_return;
 use crate::schedules::{emit_schedule, emit_update_priority};
-use crate::sizes::{loop_size, selection_size, spanned_size, statement_size, statements_size, sum};
+use crate::sites::group_site;
+use crate::sizes::{loop_size, selection_size, spanned_size, statement_size, sum};
 use crate::times::{emit_wait, emit_wait_until};
 use hal_base::Place;
 use hal_code::{Delay, Instr};
 use hal_gen_expr::{Site, Uncoded, emit_expression, emit_one, push};
-use hal_tree::{Basic, Group, Identifier, Statement};
+use hal_tree::{Basic, Group, Guard, Identifier, Span, Statement};
+use hal_words::Name;
 
 /// A DO CASE.
 #[derive(Clone, Copy)]
@@ -47,11 +51,24 @@ struct Selection {
     end: usize,
 }
 
+/// A DO FOR, without its group.
+#[derive(Clone, Copy)]
+struct Range<'a> {
+    labels: &'a [Identifier],
+    place: Place,
+    /// The views of its own places.
+    cells: Cells,
+    /// The name of its variable.
+    name: &'a Name,
+    span: &'a Span,
+    guard: &'a Option<Guard>,
+}
+
 /// Adds the code of a statement before which the next mark has this number, or tells the place of the first part of it that has none yet (image document, Code
 /// that stands for a set).
 #[cycle(statements)]
 #[tactic(auto, using(hal_tree::proofs::MadeStatements::made_statement))]
-pub fn emit_statement<'a>(
+fn emit_statement<'a>(
     tree: &'a Statement,
     code: &mut Vec<Instr>,
     site: &Site<'_>,
@@ -69,7 +86,7 @@ pub fn emit_statement<'a>(
 /// Adds the code of statements one after another (image document, Code that stands for a set).
 #[cycle(statements)]
 #[tactic(auto, unfolding(hal_tree::specs::Rows::statements))]
-pub fn emit_statements<'a>(
+fn emit_statements<'a>(
     list: &'a [Statement],
     code: &mut Vec<Instr>,
     site: &Site<'_>,
@@ -125,17 +142,70 @@ fn emit_alternative<'a>(
     match tree {
         None => Ok(()),
         Some(statement) => {
-            let end = sum(next(code.len())?, statement_size(statement, site)?)?;
-            push(code, Instr::Jump(end as u64))?;
             let following = after_statement(consequence, mark)?;
+            let size = statement_size(statement, site, following)?;
+            let end = sum(next(code.len())?, size)?;
+            push(code, Instr::Jump(end as u64))?;
             emit_statement(statement, code, site, locks, exits, following)
         }
     }
 }
 
-/// Adds the code of the statements of an UPDATE block, whose end stands behind them.
+/// Adds the code of a statement that stands directly in a block's body, where alone ON ERROR with a statement has code (language document, rule 903).
 #[cycle(statements)]
-#[tactic(auto, using(crate::proofs::Ended::ended))]
+#[tactic(auto, using(hal_tree::proofs::MadeStatements::made_statement, hal_tree::proofs::MadeStatements::made_on_error_statement))]
+pub fn emit_direct<'a>(
+    tree: &'a Statement,
+    code: &mut Vec<Instr>,
+    site: &Site<'_>,
+    locks: &Locks<'_>,
+    exits: &Exits<'a>,
+    mark: usize,
+) -> Result<(), Uncoded>
+    requires site { IsSite site.now }
+    requires locks { AreGroups site.now locks.now }
+    ensures { Emits (codes.direct_code (seen_numbering site.now) (seen_site site.now) code.old.items (seen_exits exits.now) mark (seen_statement tree.now)) result code.new.items }
+{
+    match &tree.basic {
+        Basic::OnErrorStatement {
+            place,
+            selector,
+            handler,
+        } => {
+            let following = next(mark)?;
+            let size = statement_size(handler, site, following)?;
+            emit_entry(code, *place, *selector, size)?;
+            emit_statement(handler, code, site, locks, exits, following)
+        }
+        _ => emit_basic(&tree.basic, &tree.labels, code, site, locks, exits, mark),
+    }
+}
+
+/// Adds the code of the statements of a block's body one after another (image document, Code that stands for a set).
+#[cycle(statements)]
+#[tactic(auto, unfolding(hal_tree::specs::Rows::statements))]
+fn emit_block<'a>(
+    list: &'a [Statement],
+    code: &mut Vec<Instr>,
+    site: &Site<'_>,
+    locks: &Locks<'_>,
+    exits: &Exits<'a>,
+    mark: usize,
+) -> Result<(), Uncoded>
+    requires site { IsSite site.now }
+    requires locks { AreGroups site.now locks.now }
+    ensures { Emits (codes.block_code (seen_numbering site.now) (seen_site site.now) code.old.items (seen_exits exits.now) mark (statements (map seen_statement list.now))) result code.new.items }
+{
+    let mut following = mark;
+    for tree in list {
+        emit_direct(tree, code, site, locks, exits, following)?;
+        following = after_statement(tree, following)?;
+    }
+    Ok(())
+}
+
+/// Adds the code of the statements of an UPDATE block.
+#[cycle(statements)]
 fn emit_updating(
     body: &Vec<Statement>,
     code: &mut Vec<Instr>,
@@ -145,11 +215,10 @@ fn emit_updating(
 ) -> Result<(), Uncoded>
     requires site { IsSite site.now }
     requires locks { AreGroups site.now locks.now }
-    ensures { Emits (codes.statements_code (seen_numbering site.now) (seen_site site.now) code.old.items (placed.of_block placed.NoReturn (λ place. length code.old.items + sizes.statements_size (seen_numbering site.now) (seen_site site.now) (statements (map seen_statement body.now.items)))) (suc mark) (statements (map seen_statement body.now.items))) result code.new.items }
+    ensures { Emits (codes.block_code (seen_numbering site.now) (seen_site site.now) code.old.items (blocks.of_body placed.NoReturn) (suc mark) (statements (map seen_statement body.now.items))) result code.new.items }
 {
-    let end = sum(code.len(), statements_size(body, site)?)?;
-    let inner = Exits::of_block(site.alloc, Leaving::NoReturn, end);
-    emit_statements(body, code, site, locks, &inner, next(mark)?)
+    let inner = Exits::of_body(site.alloc, Leaving::NoReturn);
+    emit_block(body, code, site, locks, &inner, next(mark)?)
 }
 
 /// Adds the code of the statements of a DO CASE, each behind a test and before a jump to the end.
@@ -171,7 +240,7 @@ fn emit_selected<'a>(
     let mut following = mark;
     let mut number: usize = 1;
     for tree in list {
-        let size = statement_size(tree, site)?;
+        let size = statement_size(tree, site, following)?;
         emit_case(code, selection.place, selection.cell, number, size)?;
         emit_statement(tree, code, site, locks, exits, following)?;
         push(code, Instr::Jump(selection.end as u64))?;
@@ -228,9 +297,42 @@ fn emit_uncased<'a>(
     }
 }
 
+/// Adds the code of a DO FOR at the site of its group, before which the next mark has this number.
+#[cycle(statements)]
+fn emit_range<'a>(
+    group: &'a Group,
+    range: Range<'a>,
+    code: &mut Vec<Instr>,
+    site: &Site<'_>,
+    locks: &Locks<'_>,
+    exits: &Exits<'a>,
+    mark: usize,
+) -> Result<(), Uncoded>
+    requires site { IsSite site.now }
+    requires locks { AreGroups site.now locks.now }
+    ensures { Emits (codes.spanned_code (seen_numbering site.now) (seen_site site.now) code.old.items (seen_exits exits.now) (map seen_name range.entry.labels.now) range.entry.place range.entry.name.now range.entry.cells (seen_span range.entry.span.now) (option_map seen_guard range.entry.guard.now) (sizes.group_size (seen_numbering site.now) (seen_site site.now) mark (seen_group group.now)) (λ start inner. codes.group_code (seen_numbering site.now) (seen_site site.now) start inner mark (seen_group group.now))) result code.new.items }
+{
+    let Range {
+        labels,
+        place,
+        cells,
+        name,
+        span,
+        guard,
+    } = range;
+    let exit = sum(code.len(), spanned_size(group, span, guard, site, mark)?)?;
+    let spanned = Spanned { place, cells, exit };
+    emit_span_start(span, guard, code, site, name, spanned)?;
+    let turn = code.len();
+    push(code, Instr::Turn(exit as u64))?;
+    let inner = in_loop(exits, labels, group, site, mark, turn, exit)?;
+    emit_group(group, code, site, locks, &inner, mark)?;
+    emit_span_end(span, guard, code, site, name, spanned, turn)
+}
+
 /// Adds the code of a statement with these labels; those without code yet tell their place.
 #[cycle(statements)]
-#[tactic(auto, using(hal_tree::proofs::MadeStatements::made_null, hal_tree::proofs::MadeStatements::made_assignment, hal_tree::proofs::MadeStatements::made_if, hal_tree::proofs::MadeStatements::made_do, hal_tree::proofs::MadeStatements::made_do_case, hal_tree::proofs::MadeStatements::made_do_loop, hal_tree::proofs::MadeStatements::made_do_for, hal_tree::proofs::MadeStatements::made_exit, hal_tree::proofs::MadeStatements::made_repeat, hal_tree::proofs::MadeStatements::made_return, hal_tree::proofs::MadeStatements::made_call_statement, hal_tree::proofs::MadeStatements::made_read, hal_tree::proofs::MadeStatements::made_write, hal_tree::proofs::MadeStatements::made_update, hal_tree::proofs::MadeStatements::made_schedule_statement, hal_tree::proofs::MadeStatements::made_cancel, hal_tree::proofs::MadeStatements::made_terminate, hal_tree::proofs::MadeStatements::made_wait, hal_tree::proofs::MadeStatements::made_wait_until, hal_tree::proofs::MadeStatements::made_wait_for_dependent, hal_tree::proofs::MadeStatements::made_wait_for, hal_tree::proofs::MadeStatements::made_event, hal_tree::proofs::MadeStatements::made_update_priority, hal_tree::proofs::MadeStatements::made_on_error_statement, hal_tree::proofs::MadeStatements::made_on_error_response, hal_tree::proofs::MadeStatements::made_off_error, hal_tree::proofs::MadeStatements::made_send_error, crate::proofs::Called::call_given))]
+#[tactic(auto, using(hal_tree::proofs::MadeStatements::made_null, hal_tree::proofs::MadeStatements::made_assignment, hal_tree::proofs::MadeStatements::made_if, hal_tree::proofs::MadeStatements::made_do, hal_tree::proofs::MadeStatements::made_do_case, hal_tree::proofs::MadeStatements::made_do_loop, hal_tree::proofs::MadeStatements::made_do_for, hal_tree::proofs::MadeStatements::made_exit, hal_tree::proofs::MadeStatements::made_repeat, hal_tree::proofs::MadeStatements::made_return, hal_tree::proofs::MadeStatements::made_call_statement, hal_tree::proofs::MadeStatements::made_read, hal_tree::proofs::MadeStatements::made_write, hal_tree::proofs::MadeStatements::made_update, hal_tree::proofs::MadeStatements::made_schedule_statement, hal_tree::proofs::MadeStatements::made_cancel, hal_tree::proofs::MadeStatements::made_terminate, hal_tree::proofs::MadeStatements::made_wait, hal_tree::proofs::MadeStatements::made_wait_until, hal_tree::proofs::MadeStatements::made_wait_for_dependent, hal_tree::proofs::MadeStatements::made_wait_for, hal_tree::proofs::MadeStatements::made_event, hal_tree::proofs::MadeStatements::made_update_priority, hal_tree::proofs::MadeStatements::made_on_error_statement, hal_tree::proofs::MadeStatements::made_on_error_response, hal_tree::proofs::MadeStatements::made_off_error, hal_tree::proofs::MadeStatements::made_send_error, crate::proofs::Grouped::locks_there))]
 fn emit_basic<'a>(
     tree: &'a Basic,
     labels: &'a [Identifier],
@@ -252,14 +354,15 @@ fn emit_basic<'a>(
             alternative,
         } => {
             emit_expression(condition, code, site)?;
-            let other = other_branch(consequence, alternative, site, code.len())?;
+            let other = other_branch(consequence, alternative, site, mark, code.len())?;
             push(code, Instr::JumpNot(other as u64))?;
             emit_statement(consequence, code, site, locks, exits, mark)?;
             emit_alternative(alternative, consequence, code, site, locks, exits, mark)
         }
         Basic::Do { place: _, group } => {
-            let inner = in_group(exits, labels, group, site, code.len())?;
-            emit_group(group, code, site, locks, &inner, next(mark)?)
+            let following = next(mark)?;
+            let inner = in_group(exits, labels, group, site, following, code.len())?;
+            emit_group(group, code, site, locks, &inner, following)
         }
         Basic::DoCase {
             place,
@@ -270,7 +373,7 @@ fn emit_basic<'a>(
             let Some(cell) = cell_of(site, mark, 0) else {
                 return Err(Uncoded::At(*place));
             };
-            let size = selection_size(group, selector, alternative, site)?;
+            let size = selection_size(group, selector, alternative, site, mark)?;
             let end = sum(code.len(), size)?;
             let inner = in_cases(exits, labels, site, end)?;
             let selection = Selection {
@@ -289,12 +392,13 @@ fn emit_basic<'a>(
             guard,
             group,
         } => {
-            let exit = sum(code.len(), loop_size(group, guard, site)?)?;
+            let exit = sum(code.len(), loop_size(group, guard, site, mark)?)?;
             emit_first_test(guard, code, site, exit)?;
             let turn = code.len();
             push(code, Instr::Turn(exit as u64))?;
-            let inner = in_loop(exits, labels, group, site, turn, exit)?;
-            emit_group(group, code, site, locks, &inner, next(mark)?)?;
+            let following = next(mark)?;
+            let inner = in_loop(exits, labels, group, site, following, turn, exit)?;
+            emit_group(group, code, site, locks, &inner, following)?;
             emit_test(guard, code, site, turn, exit)
         }
         Basic::DoFor {
@@ -308,18 +412,16 @@ fn emit_basic<'a>(
             let Some(cells) = cells_of(site, *temporary, mark) else {
                 return Err(Uncoded::At(*place));
             };
-            let exit = sum(code.len(), spanned_size(group, span, guard, site)?)?;
-            let spanned = Spanned {
+            let inner = group_site(site, *temporary, mark);
+            let range = Range {
+                labels,
                 place: *place,
                 cells,
-                exit,
+                name: &variable.name,
+                span,
+                guard,
             };
-            emit_span_start(span, guard, code, site, &variable.name, spanned)?;
-            let turn = code.len();
-            push(code, Instr::Turn(exit as u64))?;
-            let inner = in_loop(exits, labels, group, site, turn, exit)?;
-            emit_group(group, code, site, locks, &inner, next(mark)?)?;
-            emit_span_end(span, guard, code, site, &variable.name, spanned, turn)
+            emit_range(group, range, code, &inner, locks, exits, next(mark)?)
         }
         Basic::Update {
             place,

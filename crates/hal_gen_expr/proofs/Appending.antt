@@ -13,18 +13,24 @@ use Rattle.hal_constants.specs.declared.operation.Operation.TheVariants as opera
 use Rattle.hal_constants.specs.Naming.{operation_of}
 use Rattle.hal_constants.specs.Constants.{is_none}
 use Rattle.hal_meaning.specs.Calls.{parameter_named}
-use Rattle.hal_meaning.specs.Expressions.{is_condition, are_conditions, operation_of_relation, operation_of_sign, operation_of_conversion, is_size, inputs_at, sizes_named, becomes_condition}
+use Rattle.hal_meaning.specs.Expressions.{is_condition, are_conditions, operation_of_relation, operation_of_sign, operation_of_conversion, is_size, inputs_at, outputs_at, sizes_named, becomes_condition}
 use Rattle.hal_meaning.specs.Variables.{is_arrayed, is_whole}
 use Rattle.hal_code.specs.declared.instr.Instr.{Instr}
 use Rattle.hal_code.specs.declared.instr.Instr.TheVariants as instr
 use Rattle.hal_code.specs.declared.operand.Places.TheVariants as places
+use Rattle.hal_code.specs.declared.row.Run.{Run}
+use Rattle.hal_values.specs.declared.value.Kind.{Kind}
 use Rattle.hal_agreement.specs.PlacedExpressions.{two, picks, places_of}
 use Rattle.hal_agreement.specs.Sites.{Site}
 use Rattle.hal_gen_expr.specs.Emitting.{Emitted, onwards, emit, length_of}
-use Rattle.hal_gen_expr.specs.ExpressionCode.{literal_instr, exponent_instr, power_of, behind_arguments, emit_one, emit_any, one, sign_code, integer_instr, name_code, integer_code, cell_code, place_code, array_code, subscripted_code, reference_code, chosen_code, copies_code, indexes_code, index_code, position_code, component_code, parts_code, part_code, called_code, expression_code, folded_code, terms_code, built_code, arguments_code, operand_code, size_code, joined_code}
-use Rattle.hal_gen_expr.specs.Led.{Led, led_to, sizes_led, cell_of}
-use Rattle.hal_gen_expr.specs.Leaves.{is_nil, element_of, value_of, call_of}
-use Rattle.hal_gen_expr.specs.Numbering.{Numbering}
+use Rattle.hal_gen_expr.specs.ExpressionCode.{literal_instr, exponent_instr, power_of, behind_arguments, emit_one, emit_any, one, sign_code, integer_instr, name_code, integer_code, address_code, place_code, leaves_array, where_led, with_shape, passed_code, whole_code, area_code, array_code, subscripted_code, reference_code, chosen_code, copies_code, indexes_code, index_code, position_code, component_code, parts_code, part_code, called_code, expression_code, folded_code, terms_code, built_code, arguments_code, operand_code, size_code, joined_code}
+use Rattle.hal_gen_expr.specs.declared.aims.Aim.{Aim}
+use Rattle.hal_gen_expr.specs.declared.aims.Aim.TheVariants as aims
+use Rattle.hal_gen_expr.specs.Calling.{spot_code, spots_code, passed_to_code, called_code as procedure_called}
+use Rattle.hal_gen_expr.specs.Led.{Led, led_to, led_by, sizes_led, aimed, plainly_aimed}
+use Rattle.hal_gen_expr.specs.Leaves.{is_nil, value_of, call_of}
+use Rattle.hal_gen_expr.specs.Numbering.{Numbering, shape_number}
+use Rattle.hal_gen_expr.specs.Shapes.{runs_of}
 use Rattle.hal_gen_expr.specs.Sizes.{size_of_arguments}
 use Rattle.hal_referents.specs.Referents.{Referent, DataOf, ConstantOf, EventOf, BlockOf, BuiltinOf, Unmeant}
 use Rattle.hal_gen_expr.specs.Referents.{referent}
@@ -47,10 +53,6 @@ onwards_behind front (Err place) there next later is each = ap (λ r. onwards r 
 pub if_behind : (b : Bool) (front : List Instr) (r there : Emitted) (place : Place) → there ≡ behind front r → (if b then there else Err place) ≡ behind front (if b then r else Err place)
 if_behind true front r there place is = is
 if_behind false front r there place is = refl
-
-unless_behind : (b : Bool) (front : List Instr) (r there : Emitted) (place : Place) → there ≡ behind front r → (if b then Err place else there) ≡ behind front (if b then Err place else r)
-unless_behind true front r there place is = refl
-unless_behind false front r there place is = is
 
 both_behind : (b : Bool) (front : List Instr) (r other r_there other_there : Emitted) → r_there ≡ behind front r → other_there ≡ behind front other → (if b then r_there else other_there) ≡ behind front (if b then r else other)
 both_behind true front r other r_there other_there is late = is
@@ -80,13 +82,14 @@ module _ (n : Numbering) (site : Site) (front : List Instr) where
   name_behind : (name : Naming) (before : List Instr) → name_code n site (front ++ before) name ≡ behind front (name_code n site before name)
   name_behind name before = emit_behind front before name.place (value_of n site [] (referent site name.name))
 
-  cell_behind : (spoken : Bool) (l : Led) (before : List Instr) (place : Place) → cell_code n site (front ++ before) place spoken l ≡ behind front (cell_code n site before place spoken l)
-  cell_behind spoken l before place = any_behind before place (cell_of n site spoken l)
+  address_behind : (spoken indexed : Bool) (aim : Aim) (l : Led) (before : List Instr) (place : Place) → address_code n site (front ++ before) place aim spoken indexed l ≡ behind front (address_code n site before place aim spoken indexed l)
+  address_behind spoken indexed aim l before place = any_behind before place (aimed n site aim spoken indexed l)
 
-  place_behind : (sizes : List ℕ) (l : Led) (before : List Instr) (place : Place) (r there : Emitted) → there ≡ behind front r → place_code n site (front ++ before) place there l sizes ≡ behind front (place_code n site before place r l sizes)
-  place_behind [] l before place r there is = cell_behind false l before place
-  place_behind (size ∷ sizes) l before place r there is =
-      if_behind (is_nil sizes) front (onwards r (λ middle. cell_code n site middle place false l)) _ place (onwards_behind front r there _ _ is (λ code. cell_behind false l code place))
+  place_behind : (sizes : List ℕ) (aim : Aim) (l : Led) (before : List Instr) (place : Place) (r there : Emitted) → there ≡ behind front r
+      → place_code n site (front ++ before) place aim there l sizes ≡ behind front (place_code n site before place aim r l sizes)
+  place_behind [] aim l before place r there is = address_behind false true aim l before place
+  place_behind (size ∷ sizes) aim l before place r there is =
+      if_behind (is_nil sizes) front (onwards r (λ middle. address_code n site middle place aim false true l)) _ place (onwards_behind front r there _ _ is (λ code. address_behind false true aim l code place))
 
   array_behind : (b c : Bool) (unmarked marked none unmarked_there marked_there none_there : Emitted) → unmarked_there ≡ behind front unmarked → marked_there ≡ behind front marked → none_there ≡ behind front none
       → array_code b c unmarked_there marked_there none_there ≡ behind front (array_code b c unmarked marked none)
@@ -125,6 +128,18 @@ module _ (n : Numbering) (site : Site) (front : List Instr) where
   called_behind (BuiltinOf one) before place size size_there folded built built_there arguments arguments_there s f b a =
       both_behind (is_size one) front size (built (operation_of one)) size_there (built_there (operation_of one)) s (b (operation_of one))
   called_behind Unmeant before place size size_there folded built built_there arguments arguments_there s f b a = refl
+
+  shape_behind : (place : Place) (o : Option ℕ) (go there : ℕ → Emitted) → ((number : ℕ) → there number ≡ behind front (go number)) → with_shape place o there ≡ behind front (with_shape place o go)
+  shape_behind place None go there is = refl
+  shape_behind place (Some number) go there is = is number
+
+  led_behind : (place : Place) (o : Option Led) (address there : Led → Emitted) → ((l : Led) → there l ≡ behind front (address l)) → where_led place there o ≡ behind front (where_led place address o)
+  led_behind place None address there is = refl
+  led_behind place (Some l) address there is = is l
+
+  passed_behind : (b : Bool) (whole plain whole_there plain_there : Emitted) → whole_there ≡ behind front whole → plain_there ≡ behind front plain → passed_code b whole_there plain_there ≡ behind front (passed_code b whole plain)
+  passed_behind true whole plain whole_there plain_there is late = is
+  passed_behind false whole plain whole_there plain_there is late = late
 
   mutual
     pub expression_behind : (tree : Expression) (before : List Instr) → expression_code n site (front ++ before) tree ≡ behind front (expression_code n site before tree)
@@ -201,36 +216,62 @@ module _ (n : Numbering) (site : Site) (front : List Instr) where
         → arguments_code n site (front ++ before) place unit names trees ≡ behind front (arguments_code n site before place unit names trees)
     arguments_behind NoExpressions unit [] place before = refl
     arguments_behind (MoreExpressions first others) unit (name ∷ names) place before =
-        unless_behind (is_whole (parameter_named site.set unit name).shape) front _ _ place
-        (onwards_behind front (expression_code n site before first) _ _ _ (expression_behind first before) (λ code. arguments_behind others unit names place code))
+        onwards_behind front
+        (passed_code (is_whole (parameter_named site.set unit name).shape) (whole_code n site before place (runs_of (parameter_named site.set unit name).shape) first) (expression_code n site before first)) _
+        (λ middle. arguments_code n site middle place unit names others) (λ middle. arguments_code n site middle place unit names others)
+        (passed_behind (is_whole (parameter_named site.set unit name).shape) _ _ _ _ (whole_behind first (runs_of (parameter_named site.set unit name).shape) place before) (expression_behind first before))
+        (λ code. arguments_behind others unit names place code)
     arguments_behind NoExpressions unit (name ∷ names) place before = refl
     arguments_behind (MoreExpressions first others) unit [] place before = refl
+
+    whole_behind : (tree : Expression) (runs : List (Run Kind)) (place : Place) (before : List Instr) → whole_code n site (front ++ before) place runs tree ≡ behind front (whole_code n site before place runs tree)
+    whole_behind (Referred reference) runs place before = area_behind reference runs before
+    whole_behind (Or there first others) runs place before = refl
+    whole_behind (And there first others) runs place before = refl
+    whole_behind (Compare there left relation right) runs place before = refl
+    whole_behind (Cat there first others) runs place before = refl
+    whole_behind (Sum there opening first others) runs place before = refl
+    whole_behind (Product there first others) runs place before = refl
+    whole_behind (Power there base exponent) runs place before = refl
+    whole_behind (Not there operand) runs place before = refl
+    whole_behind (Literal there literal) runs place before = refl
+    whole_behind (Decimal there number) runs place before = refl
+    whole_behind (Called there name arguments) runs place before = refl
+    whole_behind (Convert there conversion operand) runs place before = refl
+    whole_behind (Parenthesis there inner) runs place before = refl
+
+    pub area_behind : (reference : Reference) (runs : List (Run Kind)) (before : List Instr) → area_code n site (front ++ before) runs reference ≡ behind front (area_code n site before runs reference)
+    area_behind (Refers place name path subscript) runs before =
+        shape_behind place (shape_number n runs) (λ shape. where_led place (λ l. chosen_code n site before place (aims.Shape shape) subscript l) (led_by path (referent site name)))
+        (λ shape. where_led place (λ l. chosen_code n site (front ++ before) place (aims.Shape shape) subscript l) (led_by path (referent site name)))
+        (λ shape. led_behind place (led_by path (referent site name)) (λ l. chosen_code n site before place (aims.Shape shape) subscript l) (λ l. chosen_code n site (front ++ before) place (aims.Shape shape) subscript l)
+        (λ l. chosen_behind subscript (aims.Shape shape) l place before))
 
     reference_behind : (reference : Reference) (before : List Instr) → reference_code n site (front ++ before) reference ≡ behind front (reference_code n site before reference)
     reference_behind (Refers place name path Unsubscripted) before = emit_behind front before place (value_of n site path (referent site name))
     reference_behind (Refers place name path (ByName there one)) before =
-        subscripted_behind (referent site name) path before place (λ l. chosen_code n site before place (ByName there one) l) (λ l. chosen_code n site (front ++ before) place (ByName there one) l)
-        (λ arrayed middle. component_code n site middle place arrayed (ByName there one)) (λ l. chosen_behind (ByName there one) l place before) (λ arrayed code. component_behind (ByName there one) arrayed place code)
+        subscripted_behind (referent site name) path before place (λ l. chosen_code n site before place aims.Cell (ByName there one) l) (λ l. chosen_code n site (front ++ before) place aims.Cell (ByName there one) l)
+        (λ arrayed middle. component_code n site middle place arrayed (ByName there one)) (λ l. chosen_behind (ByName there one) aims.Cell l place before) (λ arrayed code. component_behind (ByName there one) arrayed place code)
     reference_behind (Refers place name path (ByInteger there mark number)) before =
-        subscripted_behind (referent site name) path before place (λ l. chosen_code n site before place (ByInteger there mark number) l) (λ l. chosen_code n site (front ++ before) place (ByInteger there mark number) l)
-        (λ arrayed middle. component_code n site middle place arrayed (ByInteger there mark number)) (λ l. chosen_behind (ByInteger there mark number) l place before) (λ arrayed code. component_behind (ByInteger there mark number) arrayed place code)
+        subscripted_behind (referent site name) path before place (λ l. chosen_code n site before place aims.Cell (ByInteger there mark number) l) (λ l. chosen_code n site (front ++ before) place aims.Cell (ByInteger there mark number) l)
+        (λ arrayed middle. component_code n site middle place arrayed (ByInteger there mark number)) (λ l. chosen_behind (ByInteger there mark number) aims.Cell l place before) (λ arrayed code. component_behind (ByInteger there mark number) arrayed place code)
     reference_behind (Refers place name path (ByParts there copies arrays components)) before =
-        subscripted_behind (referent site name) path before place (λ l. chosen_code n site before place (ByParts there copies arrays components) l) (λ l. chosen_code n site (front ++ before) place (ByParts there copies arrays components) l)
-        (λ arrayed middle. component_code n site middle place arrayed (ByParts there copies arrays components)) (λ l. chosen_behind (ByParts there copies arrays components) l place before)
+        subscripted_behind (referent site name) path before place (λ l. chosen_code n site before place aims.Cell (ByParts there copies arrays components) l) (λ l. chosen_code n site (front ++ before) place aims.Cell (ByParts there copies arrays components) l)
+        (λ arrayed middle. component_code n site middle place arrayed (ByParts there copies arrays components)) (λ l. chosen_behind (ByParts there copies arrays components) aims.Cell l place before)
         (λ arrayed code. component_behind (ByParts there copies arrays components) arrayed place code)
 
-    pub chosen_behind : (subscript : Subscript) (l : Led) (place : Place) (before : List Instr) → chosen_code n site (front ++ before) place subscript l ≡ behind front (chosen_code n site before place subscript l)
-    chosen_behind Unsubscripted l place before = any_behind before place (element_of n site l.path l.declared l.stored l.shape)
-    chosen_behind (ByName there name) l place before = place_behind (sizes_led l) l before place (name_code n site before name) (name_code n site (front ++ before) name) (name_behind name before)
-    chosen_behind (ByInteger there mark number) l place before =
-        place_behind (sizes_led l) l before place (integer_code before place number) (integer_code (front ++ before) place number) (any_behind before place (integer_instr number))
-    chosen_behind (ByParts there copies arrays components) l place before =
+    pub chosen_behind : (subscript : Subscript) (aim : Aim) (l : Led) (place : Place) (before : List Instr) → chosen_code n site (front ++ before) place aim subscript l ≡ behind front (chosen_code n site before place aim subscript l)
+    chosen_behind Unsubscripted aim l place before = any_behind before place (plainly_aimed n site aim l)
+    chosen_behind (ByName there name) aim l place before = place_behind (sizes_led l) aim l before place (name_code n site before name) (name_code n site (front ++ before) name) (name_behind name before)
+    chosen_behind (ByInteger there mark number) aim l place before =
+        place_behind (sizes_led l) aim l before place (integer_code before place number) (integer_code (front ++ before) place number) (any_behind before place (integer_instr number))
+    chosen_behind (ByParts there copies arrays components) aim l place before =
         onwards_behind front (copies_code n site before place l.shape.copies copies) _ _ _ (copies_behind copies l.shape.copies place before)
         (λ code. onwards_behind front
-        (array_code (is_none arrays) (is_arrayed (sizes_led l)) (indexes_code n site code place (sizes_led l) components) (indexes_code n site code place (sizes_led l) arrays) (Ok code)) _
-        (λ last. cell_code n site last place (not (is_none copies)) l) (λ last. cell_code n site last place (not (is_none copies)) l)
-        (array_behind (is_none arrays) (is_arrayed (sizes_led l)) _ _ _ _ _ _ (indexes_behind components (sizes_led l) place code) (indexes_behind arrays (sizes_led l) place code) refl)
-        (λ last. cell_behind (not (is_none copies)) l last place))
+        (array_code (is_none arrays) (is_arrayed (sizes_led l) && not (leaves_array aim components)) (indexes_code n site code place (sizes_led l) components) (indexes_code n site code place (sizes_led l) arrays) (Ok code)) _
+        (λ last. address_code n site last place aim (not (is_none copies)) (not (is_none arrays && is_none components)) l) (λ last. address_code n site last place aim (not (is_none copies)) (not (is_none arrays && is_none components)) l)
+        (array_behind (is_none arrays) (is_arrayed (sizes_led l) && not (leaves_array aim components)) _ _ _ _ _ _ (indexes_behind components (sizes_led l) place code) (indexes_behind arrays (sizes_led l) place code) refl)
+        (λ last. address_behind (not (is_none copies)) (not (is_none arrays && is_none components)) aim l last place))
 
     copies_behind : (list : Subscripts) (count : Option ℕ) (place : Place) (before : List Instr) → copies_code n site (front ++ before) place count list ≡ behind front (copies_code n site before place count list)
     copies_behind NoSubscripts count place before = refl
@@ -289,25 +330,42 @@ pub grows_by : (r there : Emitted) (before after : List Instr) → there ≡ beh
 grows_by (Ok code) there before after is given = ap length (let same : before ++ code ≡ after = cc in sym same) ∙ length_both before code
 grows_by (Err place) there before after is given = absurd (cc)
 
--- the code of an expression, and of a call
+-- the code of an expression
 pub expression_grows : (n : Numbering) (site : Site) (tree : Expression) (before after : List Instr) → expression_code n site before tree ≡ Ok after
     → length after ≡ length before + length_of (expression_code n site [] tree)
 expression_grows n site tree before after is =
     grows_by (expression_code n site [] tree) (expression_code n site (before ++ []) tree) before after (expression_behind n site before tree [])
     (ap (λ l. expression_code n site l tree) (append-nil before) ∙ is)
 
-pub call_grows : (n : Numbering) (site : Site) (function : Bool) (unit : ℕ) (trees : Expressions) (names : List Naming) (place : Place) (before after : List Instr)
-    → behind_arguments place (arguments_code n site before place unit names trees) (call_of n site function unit) ≡ Ok after
-    → length after ≡ length before + length_of (behind_arguments place (arguments_code n site [] place unit names trees) (call_of n site function unit))
-call_grows n site function unit trees names place before after is =
-    grows_by (behind_arguments place (arguments_code n site [] place unit names trees) (call_of n site function unit))
-    (behind_arguments place (arguments_code n site (before ++ []) place unit names trees) (call_of n site function unit)) before after
-    (call_behind (call_of n site function unit) before (arguments_code n site [] place unit names trees) (arguments_code n site (before ++ []) place unit names trees) place (arguments_behind n site before trees unit names place []))
-    (ap (λ l. behind_arguments place (arguments_code n site l place unit names trees) (call_of n site function unit)) (append-nil before) ∙ is)
+-- ASSIGN arguments, and CALL
+spots_behind : (n : Numbering) (site : Site) (front : List Instr) (names : List Naming) (receivers : List Reference) (unit : ℕ) (place : Place) (before : List Instr)
+    → spots_code n site (front ++ before) place unit names receivers ≡ behind front (spots_code n site before place unit names receivers)
+unfolding spot_code
+spots_behind n site front [] [] unit place before = refl
+spots_behind n site front (name ∷ names) (receiver ∷ receivers) unit place before =
+    onwards_behind front (spot_code n site before unit name receiver) _ (λ middle. spots_code n site middle place unit names receivers) (λ middle. spots_code n site middle place unit names receivers)
+    (area_behind n site front receiver (runs_of (parameter_named site.set unit name).shape) before) (λ code. spots_behind n site front names receivers unit place code)
+spots_behind n site front [] (receiver ∷ receivers) unit place before = refl
+spots_behind n site front (name ∷ names) [] unit place before = refl
+
+passed_to_behind : (n : Numbering) (site : Site) (front : List Instr) (trees : Expressions) (receivers : List Reference) (unit : ℕ) (place : Place) (before : List Instr)
+    → passed_to_code n site (front ++ before) place trees receivers unit ≡ behind front (passed_to_code n site before place trees receivers unit)
+passed_to_behind n site front trees receivers unit place before =
+    onwards_behind front (arguments_code n site before place unit (inputs_at site.set unit) trees) _ (λ middle. spots_code n site middle place unit (outputs_at site.set unit) receivers)
+    (λ middle. spots_code n site middle place unit (outputs_at site.set unit) receivers) (arguments_behind n site front trees unit (inputs_at site.set unit) place before)
+    (λ code. spots_behind n site front (outputs_at site.set unit) receivers unit place code)
+
+pub call_grows : (n : Numbering) (site : Site) (trees : Expressions) (receivers : List Reference) (unit : ℕ) (place : Place) (before after : List Instr) → procedure_called n site before place trees receivers unit ≡ Ok after
+    → length after ≡ length before + length_of (procedure_called n site [] place trees receivers unit)
+call_grows n site trees receivers unit place before after is =
+    grows_by (procedure_called n site [] place trees receivers unit) (procedure_called n site (before ++ []) place trees receivers unit) before after
+    (call_behind (call_of n site false unit) before (passed_to_code n site [] place trees receivers unit) (passed_to_code n site (before ++ []) place trees receivers unit) place
+    (passed_to_behind n site before trees receivers unit place []))
+    (ap (λ l. procedure_called n site l place trees receivers unit) (append-nil before) ∙ is)
 
 -- the code of the address that a subscript chooses
-pub chosen_grows : (n : Numbering) (site : Site) (subscript : Subscript) (l : Led) (place : Place) (before after : List Instr) → chosen_code n site before place subscript l ≡ Ok after
-    → length after ≡ length before + length_of (chosen_code n site [] place subscript l)
-chosen_grows n site subscript l place before after is =
-    grows_by (chosen_code n site [] place subscript l) (chosen_code n site (before ++ []) place subscript l) before after (chosen_behind n site before subscript l place [])
-    (ap (λ list. chosen_code n site list place subscript l) (append-nil before) ∙ is)
+pub chosen_grows : (n : Numbering) (site : Site) (subscript : Subscript) (aim : Aim) (l : Led) (place : Place) (before after : List Instr) → chosen_code n site before place aim subscript l ≡ Ok after
+    → length after ≡ length before + length_of (chosen_code n site [] place aim subscript l)
+chosen_grows n site subscript aim l place before after is =
+    grows_by (chosen_code n site [] place aim subscript l) (chosen_code n site (before ++ []) place aim subscript l) before after (chosen_behind n site before subscript aim l place [])
+    (ap (λ list. chosen_code n site list place aim subscript l) (append-nil before) ∙ is)

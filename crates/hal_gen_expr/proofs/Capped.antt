@@ -16,8 +16,8 @@ use Rattle.hal_meaning.specs.Variables.{kind_of_first}
 use Rattle.hal_agreement.specs.Sites.{Site}
 use Rattle.hal_gen_expr.specs.declared.elements.Element.{Element}
 use Rattle.hal_gen_expr.specs.Elements.{counted, an_element, element_in}
-use Rattle.hal_gen_expr.specs.Leaves.{is_one, settled_for, address_of, element_of}
-use Rattle.hal_gen_expr.specs.Numbering.{Numbering, below, most, base_of, view_number}
+use Rattle.hal_gen_expr.specs.Leaves.{is_one, address_of, area_of, element_of}
+use Rattle.hal_gen_expr.specs.Numbering.{Numbering, below, most, base_of, view_number, area_number}
 
 -- no number behind one that is too large
 pub none_behind : (n : ℕ) → most ≤ n → below most n ≡ None
@@ -43,7 +43,10 @@ base_capped site k n Unstored = refl
 pub address_capped : (n : Numbering) (site : Site) (rows : List Dimension) (k : ℕ) (stored : Storing) (before : ℕ) (kind : Kind)
     → address_of n site rows k stored (min before counted) kind ≡ address_of n site rows k stored before kind
 address_capped n site rows k stored before kind =
-    ap (λ o. option_and_then (λ from. option_map instr.Cell (view_number n rows kind from)) (option_and_then (settled_for rows) o)) (base_capped site k before stored)
+    ap (λ o. option_and_then (λ from. option_map instr.Cell (view_number n rows kind from)) o) (base_capped site k before stored)
+
+pub area_capped : (n : Numbering) (site : Site) (rows : List Dimension) (shape k : ℕ) (stored : Storing) (before : ℕ) → area_of n site rows shape k stored (min before counted) ≡ area_of n site rows shape k stored before
+area_capped n site rows shape k stored before = ap (λ o. option_and_then (λ from. option_map instr.Whole (area_number n rows shape from)) o) (base_capped site k before stored)
 
 -- the address of an element that may be there
 abbrev pub address_in : Numbering → Site → ℕ → Storing → Option Element → Option Instr

@@ -17,29 +17,34 @@ use Rattle.hal_constants.specs.Constants.{is_none}
 use Rattle.hal_values.specs.declared.value.Kind.{Kind}
 use Rattle.hal_states.specs.Spots.{Spot, Held, further}
 use Rattle.hal_meaning.specs.Calls.{parameter_named}
-use Rattle.hal_meaning.specs.Elements.{Shape, chosen, offset, product, copy_size}
+use Rattle.hal_meaning.specs.Elements.{Shape, chosen, offset, product, copy_size, kinds_of}
 use Rattle.hal_meaning.specs.Expressions.{literal_value, is_condition, are_conditions, exponent_of, operation_of_relation, operation_of_sign, operation_of_conversion, is_size, inputs_at, sizes_named, copies_of, spoken, becomes_condition, size_argument}
 use Rattle.hal_meaning.specs.Places.{Storing}
-use Rattle.hal_meaning.specs.Variables.{is_arrayed, is_whole, Dimension, dimension, dimensions_of, kind_of_first, name_meant, spot_of}
+use Rattle.hal_meaning.specs.Variables.{is_arrayed, is_whole, Dimension, dimension, dimensions_of, kind_of_first, Meant, name_meant, spot_meant, spot_of}
 use Rattle.hal_code.specs.declared.instr.Instr.{Instr}
 use Rattle.hal_code.specs.declared.instr.Instr.TheVariants as instr
 use Rattle.hal_code.specs.declared.operand.Places.TheVariants as places
+use Rattle.hal_code.specs.declared.row.Target.{Target}
+use Rattle.hal_code.specs.declared.row.Target.TheVariants as target
 use Rattle.hal_agreement.specs.Codes.{Code}
-use Rattle.hal_agreement.specs.PlacedExpressions.{One, BehindAt, PlaceAt, ArrayAt, EitherAt, SubscriptedAt, picks, places_of, ChosenAt, IndexesAt, PositionAt, ComponentAt, PartsAt, PartAt, pushes, two, ValueAt, NameAt, SignAt, ReferenceAt, CalledAt, ExpressionAt, FoldedAt, TermsAt, BuiltAt, ArgumentsAt, OperandAt, JoinedAt}
+use Rattle.hal_agreement.specs.PlacedExpressions.{One, ElementAt, PlaceAt, DataAt, WholeArgumentAt, WholeAt, array_spoken, ArrayAt, EitherAt, SubscriptedAt, picks, places_of, ChosenAt, IndexesAt, PositionAt, ComponentAt, PartsAt, PartAt, pushes, two, ValueAt, NameAt, SignAt, ReferenceAt, CalledAt, ExpressionAt, FoldedAt, TermsAt, BuiltAt, ArgumentsAt, OperandAt, JoinedAt}
 use Rattle.hal_agreement.specs.Sites.{Site, here_at}
 use Rattle.hal_gen_expr.specs.Emitting.{Emitted, onwards, emit}
-use Rattle.hal_gen_expr.specs.ExpressionCode.{emit_one, emit_any, integer_instr, name_code, integer_code, cell_code, place_code, array_code, subscripted_code, chosen_code, copies_code, indexes_code, index_code, position_code, component_code, parts_code, part_code, one, literal_instr, raised_to, exponent_instr, power_of, behind_arguments, sign_code, reference_code, called_code, expression_code, folded_code, terms_code, built_code, arguments_code, operand_code, size_code, joined_code}
-use Rattle.hal_gen_expr.specs.Led.{Led, led_to, sizes_led, copies_led, dimensions_led, cell_of}
-use Rattle.hal_gen_expr.specs.Leaves.{is_nil, element_of, value_of, call_of}
-use Rattle.hal_gen_expr.specs.Numbering.{Numbering}
+use Rattle.hal_gen_expr.specs.ExpressionCode.{emit_one, emit_any, integer_instr, name_code, integer_code, address_code, place_code, leaves_array, where_led, with_shape, passed_code, whole_code, area_code, array_code, subscripted_code, chosen_code, copies_code, indexes_code, index_code, position_code, component_code, parts_code, part_code, one, literal_instr, raised_to, exponent_instr, power_of, behind_arguments, sign_code, reference_code, called_code, expression_code, folded_code, terms_code, built_code, arguments_code, operand_code, size_code, joined_code}
+use Rattle.hal_gen_expr.specs.declared.aims.Aim.{Aim}
+use Rattle.hal_gen_expr.specs.declared.aims.Aim.TheVariants as aims
+use Rattle.hal_gen_expr.specs.Led.{Led, led_to, led_by, sizes_led, copies_led, arrays_led, dimensions_led, aimed, plainly_aimed}
+use Rattle.hal_gen_expr.specs.Leaves.{is_nil, value_of, call_of}
+use Rattle.hal_gen_expr.specs.Numbering.{Numbering, shape_number}
+use Rattle.hal_gen_expr.specs.Shapes.{runs_of}
 use Rattle.hal_gen_expr.specs.Sizes.{size_of_arguments}
 use Rattle.hal_referents.specs.Referents.{Referent, DataOf, ConstantOf, EventOf, BlockOf, BuiltinOf, Unmeant}
 use Rattle.hal_gen_expr.specs.Referents.{referent}
 use Rattle.hal_gen_expr.specs.Standing.{Begins, IsNumbered, Placed}
 use Rattle.hal_gen_expr.proofs.Growing.{weaker, one_placed, none_placed, first_placed, both_placed, emitted, one_by_one}
-use Rattle.hal_gen_expr.proofs.Numbered.{mapped_is, behind_at}
-use Rattle.hal_gen_expr.proofs.Named.{nil_is, two_placed, element_at, call_placed, value_placed}
-use Rattle.hal_gen_expr.proofs.Referring.{meaning_of, name_means}
+use Rattle.hal_gen_expr.proofs.Numbered.{mapped_is, given_by, begins_at, LedAt, addressed_at, plainly_at, shape_there}
+use Rattle.hal_gen_expr.proofs.Named.{nil_is, two_placed, call_placed, value_placed}
+use Rattle.hal_gen_expr.proofs.Referring.{meaning_of, name_means, always_means}
 use Rattle.hal_gen_expr.proofs.Sized.{size_known}
 
 pub ok_is : (before after : List Instr) → onwards (Ok before) Ok ≡ Ok after → before ≡ after
@@ -116,6 +121,18 @@ unfolding is_none
 spoken_is NoSubscripts shape = refl
 spoken_is (MoreSubscripts first others) shape = refl
 
+arrays_are : (arrays components : Subscripts) (sizes : List ℕ) → arrays_led (not (is_none arrays && is_none components)) sizes ≡ array_spoken (is_none arrays) components (dimensions_of sizes)
+unfolding is_none
+arrays_are NoSubscripts NoSubscripts sizes = refl
+arrays_are NoSubscripts (MoreSubscripts first others) sizes = refl
+arrays_are (MoreSubscripts first others) components sizes = refl
+
+dimensions_are : (copies arrays components : Subscripts) (l : Led)
+    → dimensions_led (not (is_none copies)) (not (is_none arrays && is_none components)) l ≡ spoken copies (copies_of l.shape) ++ array_spoken (is_none arrays) components (dimensions_of (sizes_led l))
+dimensions_are copies arrays components l =
+    ap (λ ds. ds ++ arrays_led (not (is_none arrays && is_none components)) (sizes_led l)) (spoken_is copies l.shape)
+    ∙ ap (λ ds. spoken copies (copies_of l.shape) ++ ds) (arrays_are arrays components (sizes_led l))
+
 -- the dimension of copies, where there are any
 abbrev copies_in : ℕ → Option ℕ → List Dimension
 copies_in stride count = elim count [ None ↦ [] | Some m ↦ dimension m stride ∷ [] ]
@@ -155,19 +172,16 @@ module _ (code : Code) (n : Numbering) (site : Site) (numbered : IsNumbered code
       let given = any_given before place (integer_instr number) after is in
       one_placed code before after (instr.Int (pos number)) (ap (λ i. before ++ (i ∷ [])) (sym (in_room (nat_le number 2147483647) (instr.Int (pos number)) given.0 given.1)) ∙ given.2) begins
 
-  -- CELL behind the code of subscripts
-  cell_at : (mentioned : Bool) (l : Led) (place : Place) (before after : List Instr) → cell_code n site before place mentioned l ≡ Ok after → Begins after code.image.code
-      → Placed code before after (λ from to. ((held : List Held) → BehindAt code held (dimensions_led mentioned l) (kind_of_first (chosen l.path l.shape.components)) (further (offset l.path l.shape.components) (spot_of (here_at site) held l.declared l.stored)) from) × (suc from ≡ to))
-  cell_at mentioned l place before after is begins =
-      let given = any_given before place (cell_of n site mentioned l) after is in
+  -- the address behind the code of subscripts
+  abbrev AddressThere : Bool → Bool → Aim → Led → ℕ → ℕ → Type 0
+  AddressThere mentioned indexed aim l from to = LedAt code n site numbered (dimensions_led mentioned indexed l) aim l from × (suc from ≡ to)
+
+  address_at : (mentioned indexed : Bool) (aim : Aim) (l : Led) (place : Place) (before after : List Instr) → address_code n site before place aim mentioned indexed l ≡ Ok after → Begins after code.image.code
+      → Placed code before after (λ from to. AddressThere mentioned indexed aim l from to)
+  address_at mentioned indexed aim l place before after is begins =
+      let given = any_given before place (aimed n site aim mentioned indexed l) after is in
       let there = one_placed code before after given.0 given.2 begins
-      in record {
-        at = (
-          (λ held. behind_at code n site numbered (dimensions_led mentioned l) l.declared l.stored (offset l.path l.shape.components) (kind_of_first (chosen l.path l.shape.components)) given.0 (length before) held given.1 there.at.0),
-          there.at.1,
-        );
-        begins = there.begins;
-      }
+      in record { at = (addressed_at code n site numbered (dimensions_led mentioned indexed l) aim l given.0 (length before) given.1 there.at.0, there.at.1); begins = there.begins }
 
   -- the one code or the other
   either_at : {A B : ℕ → ℕ → Type 0} (b : Bool) (r other : Emitted) (before after : List Instr) → (if b then r else other) ≡ Ok after → (r ≡ Ok after → Placed code before after A) → (other ≡ Ok after → Placed code before after B)
@@ -176,22 +190,42 @@ module _ (code : Code) (n : Numbering) (site : Site) (numbered : IsNumbered code
   either_at false r other before after is first second = second is
 
   -- a subscript without a mark
-  place_at : {A : ℕ → ℕ → Type 0} (sizes : List ℕ) (r : Emitted) (l : Led) (place : Place) (kind : Kind) (spot : List Held → Spot) (before after : List Instr) → place_code n site before place r l sizes ≡ Ok after
+  place_at : {A : ℕ → ℕ → Type 0} (sizes : List ℕ) (r : Emitted) (aim : Aim) (l : Led) (place : Place) (given : Target) (spots : List Held → Spot) (before after : List Instr) → place_code n site before place aim r l sizes ≡ Ok after
       → ((middle : List Instr) → r ≡ Ok middle → Begins middle code.image.code → Placed code before middle A)
-      → ((middle : List Instr) → cell_code n site middle place false l ≡ Ok after → Placed code middle after (λ from to. ((held : List Held) → BehindAt code held (dimensions_of sizes) kind (spot held) from) × (suc from ≡ to)))
-      → Placed code before after (λ from to. (held : List Held) → PlaceAt code held A kind (spot held) sizes from to)
-  place_at [] r l place kind spot before after is first cell = weaker code before after (λ from to at. λ held. (at.0 held, at.1)) (cell before is)
-  place_at (size ∷ sizes) r l place kind spot before after is first cell =
-      let alone = if_emitted (is_nil sizes) (onwards r (λ middle. cell_code n site middle place false l)) place after is in
-      weaker code before after (λ from to at. λ held. (at.0, at.1, nil_is sizes alone.0, at.2.0 held, at.2.1)) (both_placed code r (λ middle. cell_code n site middle place false l) before after alone.1 first cell)
+      → ((middle : List Instr) → address_code n site middle place aim false true l ≡ Ok after → Placed code middle after (λ from to. ElementAt code (dimensions_of sizes) given spots from × (suc from ≡ to)))
+      → Placed code before after (λ from to. PlaceAt code A given spots sizes from to)
+  place_at [] r aim l place given spots before after is first cell = cell before is
+  place_at (size ∷ sizes) r aim l place given spots before after is first cell =
+      let alone = if_emitted (is_nil sizes) (onwards r (λ middle. address_code n site middle place aim false true l)) place after is in
+      weaker code before after (λ from to at. (at.0, at.1, nil_is sizes alone.0, at.2.0, at.2.1)) (both_placed code r (λ middle. address_code n site middle place aim false true l) before after alone.1 first cell)
 
-  -- the subscripts of an array
-  array_at : {A B : ℕ → ℕ → Type 0} (b : Bool) (sizes : List ℕ) (unmarked marked : Emitted) (before after : List Instr) → array_code b (is_arrayed sizes) unmarked marked (Ok before) ≡ Ok after → Begins after code.image.code
-      → (unmarked ≡ Ok after → Placed code before after A) → (marked ≡ Ok after → Placed code before after B)
-      → Placed code before after (λ from to. EitherAt b (λ begin end. ArrayAt A sizes begin end) B from to)
-  array_at true [] unmarked marked before after is begins first second = none_placed code before after (ok_is before after is) begins
-  array_at true (size ∷ sizes) unmarked marked before after is begins first second = first is
-  array_at false sizes unmarked marked before after is begins first second = second is
+  -- the subscripts of an array: those without a mark may be none where a shape is aimed at
+  spoken_at : (components : Subscripts) (d : Dimension) (ds : List Dimension) (from to : ℕ) → IndexesAt code site (d ∷ ds) components from to → IndexesAt code site (spoken components (d ∷ ds)) components from to
+  spoken_at NoSubscripts d ds from to at = absurd at
+  spoken_at (MoreSubscripts first others) d ds from to at = at
+
+  unmarked_at : (components : Subscripts) (d : Dimension) (ds : List Dimension) (left : Bool) (unmarked : Emitted) (before after : List Instr) → array_code true (not left) unmarked unmarked (Ok before) ≡ Ok after → Begins after code.image.code
+      → (left ≡ true → components ≡ NoSubscripts) → (unmarked ≡ Ok after → Placed code before after (λ from to. IndexesAt code site (d ∷ ds) components from to))
+      → Placed code before after (λ from to. IndexesAt code site (spoken components (d ∷ ds)) components from to)
+  unmarked_at components d ds true unmarked before after is begins none first =
+      subst (λ list. Placed code before after (λ from to. IndexesAt code site (spoken list (d ∷ ds)) list from to)) (sym (none refl)) (none_placed code before after (ok_is before after is) begins)
+  unmarked_at components d ds false unmarked before after is begins none first = weaker code before after (λ from to at. spoken_at components d ds from to at) (first is)
+
+  left_none : (aim : Aim) (components : Subscripts) → leaves_array aim components ≡ true → components ≡ NoSubscripts
+  left_none aims.Cell components is = absurd (cc)
+  left_none (aims.Shape shape) components is = none_is components is
+
+  array_at : {B : ℕ → ℕ → Type 0} (b : Bool) (aim : Aim) (components : Subscripts) (sizes : List ℕ) (unmarked marked : Emitted) (before after : List Instr)
+      → array_code b (is_arrayed sizes && not (leaves_array aim components)) unmarked marked (Ok before) ≡ Ok after → Begins after code.image.code
+      → (unmarked ≡ Ok after → Placed code before after (λ from to. IndexesAt code site (dimensions_of sizes) components from to)) → (marked ≡ Ok after → Placed code before after B)
+      → Placed code before after (λ from to. EitherAt b (λ begin end. ArrayAt (λ first behind. IndexesAt code site (spoken components (dimensions_of sizes)) components first behind) sizes begin end) B from to)
+  array_at true aim components [] unmarked marked before after is begins first second = none_placed code before after (ok_is before after is) begins
+  array_at true aim components (size ∷ sizes) unmarked marked before after is begins first second =
+      unmarked_at components (dimension size (product sizes)) (dimensions_of sizes) (leaves_array aim components) unmarked before after (same_code (leaves_array aim components) is) begins (left_none aim components) first where
+        same_code : (left : Bool) → array_code true (true && not left) unmarked marked (Ok before) ≡ Ok after → array_code true (not left) unmarked unmarked (Ok before) ≡ Ok after
+        same_code true there = there
+        same_code false there = there
+  array_at false aim components sizes unmarked marked before after is begins first second = second is
 
   one_more : (d : Dimension) (ds : List Dimension) (first : Sub) (others : Subscripts) (from middle to : ℕ) → IndexAt code site d.size first from middle → IndexesAt code site ds others middle to
       → IndexesAt code site (d ∷ ds) (MoreSubscripts first others) from to
@@ -200,9 +234,20 @@ module _ (code : Code) (n : Numbering) (site : Site) (numbered : IsNumbered code
   one_more d ds (Range first last) others from middle to here rest = absurd here
   one_more d ds (Portion count first) others from middle to here rest = absurd here
 
-  -- the address that a subscript chooses, whatever the own places hold
-  abbrev pub ChosenThere : Subscript → Led → ℕ → ℕ → Type 0
-  ChosenThere subscript l from to = (held : List Held) → ChosenAt code site held l.path subscript (spot_of (here_at site) held l.declared l.stored) l.shape from to
+  -- the address that a subscript chooses
+  abbrev pub ChosenThere : Aim → Subscript → Led → ℕ → ℕ → Type 0
+  ChosenThere aim subscript l from to =
+      ChosenAt code site (given_by aim (kind_of_first (chosen l.path l.shape.components))) l.path subscript (λ now. spot_of (here_at site) now l.declared l.stored) l.shape from to
+
+  -- the address of the one element of data that a subscript chooses
+  abbrev CellThere : List Naming → Subscript → (List Held → Spot) → Shape → ℕ → ℕ → Type 0
+  CellThere path subscript spots shape from to = ChosenAt code site (target.Cell (kind_of_first (chosen path shape.components))) path subscript spots shape from to
+
+  -- what a name means, with a subscript, whatever the own places hold
+  abbrev ReferredThere : Subscript → List Naming → (List Held → Meant) → ℕ → ℕ → Type 0
+  ReferredThere subscript path meant from to =
+      (held : List Held)
+      → SubscriptedAt code site path held (λ shape begin end. CellThere path subscript (λ now. spot_meant (meant now)) shape begin end) (λ arrayed begin end. ComponentAt code site arrayed subscript begin end) (meant held) from to
 
   -- what is no data is given before its component
   valued_at : {C : Bool → ℕ → ℕ → Type 0} (r : Referent) (path : List Naming) (component : Bool → List Instr → Emitted) (place : Place) (before after : List Instr)
@@ -216,14 +261,14 @@ module _ (code : Code) (n : Numbering) (site : Site) (numbered : IsNumbered code
       (λ middle there. second false middle there))
 
   -- what is referred to with a subscript
-  subscripted_at : {C : Bool → ℕ → ℕ → Type 0} (A : List Held → Spot → Shape → ℕ → ℕ → Type 0) (r : Referent) (path : List Naming) (address : Led → Emitted) (component : Bool → List Instr → Emitted) (place : Place)
+  subscripted_at : {C : Bool → ℕ → ℕ → Type 0} (A : (List Held → Spot) → Shape → ℕ → ℕ → Type 0) (r : Referent) (path : List Naming) (address : Led → Emitted) (component : Bool → List Instr → Emitted) (place : Place)
       (before after : List Instr) → subscripted_code n site before place path address component r ≡ Ok after
       → ((k : ℕ) (kept : Storing) (shape : Shape) (middle : List Instr) → address (led_to path k kept shape) ≡ Ok middle → Begins middle code.image.code
-      → Placed code before middle (λ from to. (held : List Held) → A held (spot_of (here_at site) held k kept) shape from to))
+      → Placed code before middle (λ from to. A (λ now. spot_of (here_at site) now k kept) shape from to))
       → ((arrayed : Bool) (middle : List Instr) → component arrayed middle ≡ Ok after → Placed code middle after (C arrayed))
-      → Placed code before after (λ from to. (held : List Held) → SubscriptedAt code site path held (A held) C (meaning_of site held r) from to)
+      → Placed code before after (λ from to. (held : List Held) → SubscriptedAt code site path held (A (λ now. spot_meant (meaning_of site now r))) C (meaning_of site held r) from to)
   subscripted_at A (DataOf k kept shape) path address component place before after is first second =
-      weaker code before after (λ from to at. λ held. (at.0, at.1 held, at.2.0, at.2.1))
+      weaker code before after (λ from to at. λ held. (at.0, at.1, at.2.0, at.2.1))
       (both_placed code (address (led_to path k kept shape)) (λ middle. onwards (emit_one middle place instr.Fetch) (λ late. component (is_arrayed (sizes_named path shape)) late)) before after is
       (λ middle there begun. first k kept shape middle there begun)
       (λ middle there. first_placed code middle after instr.Fetch (second (is_arrayed (sizes_named path shape)) (middle ++ (instr.Fetch ∷ [])) there)))
@@ -234,16 +279,51 @@ module _ (code : Code) (n : Numbering) (site : Site) (numbered : IsNumbered code
   subscripted_at A Unmeant path address component place before after is first second = absurd (cc)
 
   referred_at : (subscript : Subscript) (path : List Naming) (name : List ℕ) (place : Place) (before after : List Instr)
-      → subscripted_code n site before place path (λ l. chosen_code n site before place subscript l) (λ arrayed middle. component_code n site middle place arrayed subscript) (referent site name) ≡ Ok after
-      → ((l : Led) (middle : List Instr) → chosen_code n site before place subscript l ≡ Ok middle → Begins middle code.image.code → Placed code before middle (λ from to. ChosenThere subscript l from to))
+      → subscripted_code n site before place path (λ l. chosen_code n site before place aims.Cell subscript l) (λ arrayed middle. component_code n site middle place arrayed subscript) (referent site name) ≡ Ok after
+      → ((l : Led) (middle : List Instr) → chosen_code n site before place aims.Cell subscript l ≡ Ok middle → Begins middle code.image.code → Placed code before middle (λ from to. ChosenThere aims.Cell subscript l from to))
       → ((arrayed : Bool) (middle : List Instr) → component_code n site middle place arrayed subscript ≡ Ok after → Placed code middle after (λ from to. ComponentAt code site arrayed subscript from to))
-      → Placed code before after (λ from to. (held : List Held) → SubscriptedAt code site path held (λ at shape begin end. ChosenAt code site held path subscript at shape begin end) (λ arrayed begin end. ComponentAt code site arrayed subscript begin end) (name_meant (here_at site) name held) from to)
+      → Placed code before after (λ from to. ReferredThere subscript path (name_meant (here_at site) name) from to)
   referred_at subscript path name place before after is first second =
       weaker code before after
-      (λ from to at. λ held. subst (λ m. SubscriptedAt code site path held (λ at shape begin end. ChosenAt code site held path subscript at shape begin end) (λ arrayed begin end. ComponentAt code site arrayed subscript begin end) m from to) (sym (name_means site held name)) (at held))
-      (subscripted_at (λ held at shape begin end. ChosenAt code site held path subscript at shape begin end)
-      (referent site name) path (λ l. chosen_code n site before place subscript l) (λ arrayed middle. component_code n site middle place arrayed subscript) place before after is
+      (λ from to at. subst (λ m. ReferredThere subscript path m from to) (sym (always_means site name)) at)
+      (subscripted_at (λ spots shape begin end. CellThere path subscript spots shape begin end)
+      (referent site name) path (λ l. chosen_code n site before place aims.Cell subscript l) (λ arrayed middle. component_code n site middle place arrayed subscript) place before after is
       (λ k kept shape middle there begun. first (led_to path k kept shape) middle there begun) second)
+
+  -- the address of cells of a shape that a reference chooses
+  abbrev DataThere : ℕ → Subscript → List Naming → (List Held → Meant) → ℕ → ℕ → Type 0
+  DataThere number subscript path meant from to =
+      (held : List Held) → DataAt (λ form begin end. ChosenAt code site (target.Shape number) path subscript (λ now. spot_meant (meant now)) form begin end) (meant held) from to
+
+  data_at : (number : ℕ) (subscript : Subscript) (path : List Naming) (r : Referent) (place : Place) (before after : List Instr)
+      → where_led place (λ l. chosen_code n site before place (aims.Shape number) subscript l) (led_by path r) ≡ Ok after
+      → ((l : Led) → chosen_code n site before place (aims.Shape number) subscript l ≡ Ok after → Placed code before after (λ from to. ChosenThere (aims.Shape number) subscript l from to))
+      → Placed code before after (λ from to. DataThere number subscript path (λ held. meaning_of site held r) from to)
+  data_at number subscript path (DataOf k kept shape) place before after is first = weaker code before after (λ from to at. λ held. at) (first (led_to path k kept shape) is)
+  data_at number subscript path (ConstantOf v) place before after is first = absurd (cc)
+  data_at number subscript path (EventOf e) place before after is first = absurd (cc)
+  data_at number subscript path (BlockOf unit) place before after is first = absurd (cc)
+  data_at number subscript path (BuiltinOf b) place before after is first = absurd (cc)
+  data_at number subscript path Unmeant place before after is first = absurd (cc)
+
+  shape_given : (place : Place) (o : Option ℕ) (go : ℕ → Emitted) (after : List Instr) → with_shape place o go ≡ Ok after → (number : ℕ) × (o ≡ Some number) × (go number ≡ Ok after)
+  shape_given place None go after is = absurd (cc)
+  shape_given place (Some number) go after is = (number, refl, is)
+
+  area_by : (subscript : Subscript) (form : Shape) (path : List Naming) (name : List ℕ) (place : Place) (before after : List Instr) → area_code n site before (runs_of form) (Refers place name path subscript) ≡ Ok after
+      → ((number : ℕ) (l : Led) → chosen_code n site before place (aims.Shape number) subscript l ≡ Ok after → Placed code before after (λ from to. ChosenThere (aims.Shape number) subscript l from to))
+      → Placed code before after (λ from to. WholeAt code site (kinds_of form) (Refers place name path subscript) from to)
+  area_by subscript form path name place before after is first =
+      let given = shape_given place (shape_number n (runs_of form)) (λ number. where_led place (λ l. chosen_code n site before place (aims.Shape number) subscript l) (led_by path (referent site name))) after is in
+      weaker code before after
+      (λ from to at. (given.0, shape_there code n site numbered form given.0 given.1, subst (λ m. DataThere given.0 subscript path m from to) (sym (always_means site name)) at))
+      (data_at given.0 subscript path (referent site name) place before after given.2 (first given.0))
+
+  -- an argument for a whole parameter, or for another one
+  passed_at : {A B : ℕ → ℕ → Type 0} (b : Bool) (whole plain : Emitted) (before after : List Instr) → passed_code b whole plain ≡ Ok after → (whole ≡ Ok after → Placed code before after A)
+      → (plain ≡ Ok after → Placed code before after B) → Placed code before after (λ from to. EitherAt b A B from to)
+  passed_at true whole plain before after is first second = first is
+  passed_at false whole plain before after is first second = second is
 
   -- a value that is followed by the operands of a product
   multiplied_at : {Folded : ℕ → ℕ → Type 0} (r : Referent) (folded : List Instr → Emitted) (place : Place) (before after : List Instr)
@@ -389,49 +469,74 @@ module _ (code : Code) (n : Numbering) (site : Site) (numbered : IsNumbered code
         → Begins after code.image.code → Placed code before after (λ from to. ArgumentsAt code site unit names trees from to)
     arguments_at NoExpressions unit [] place before after is begins = none_placed code before after (ok_is before after is) begins
     arguments_at (MoreExpressions first others) unit (name ∷ names) place before after is begins =
-        let plain = unless_emitted (is_whole (parameter_named site.set unit name).shape) _ place after is in
-        weaker code before after (λ from to at. (at.0, plain.0, at.1, at.2))
-        (both_placed code (expression_code n site before first) (λ middle. arguments_code n site middle place unit names others) before after plain.1
-        (λ middle there begun. expression_at first before middle there begun) (λ middle there. arguments_at others unit names place middle after there begins))
+        both_placed code
+        (passed_code (is_whole (parameter_named site.set unit name).shape) (whole_code n site before place (runs_of (parameter_named site.set unit name).shape) first) (expression_code n site before first))
+        (λ middle. arguments_code n site middle place unit names others) before after is
+        (λ middle there begun. passed_at (is_whole (parameter_named site.set unit name).shape) (whole_code n site before place (runs_of (parameter_named site.set unit name).shape) first) (expression_code n site before first) before middle there
+        (λ whole. whole_at first (parameter_named site.set unit name).shape place before middle whole begun) (λ plain. expression_at first before middle plain begun))
+        (λ middle there. arguments_at others unit names place middle after there begins)
     arguments_at NoExpressions unit (name ∷ names) place before after is begins = absurd (cc)
     arguments_at (MoreExpressions first others) unit [] place before after is begins = absurd (cc)
+
+    -- an argument for a whole parameter
+    whole_at : (tree : Expression) (form : Shape) (place : Place) (before after : List Instr) → whole_code n site before place (runs_of form) tree ≡ Ok after → Begins after code.image.code
+        → Placed code before after (λ from to. WholeArgumentAt code site (kinds_of form) tree from to)
+    whole_at (Referred reference) form place before after is begins = area_placed reference form before after is begins
+    whole_at (Or there first others) form place before after is begins = absurd (cc)
+    whole_at (And there first others) form place before after is begins = absurd (cc)
+    whole_at (Compare there left relation right) form place before after is begins = absurd (cc)
+    whole_at (Cat there first others) form place before after is begins = absurd (cc)
+    whole_at (Sum there opening first others) form place before after is begins = absurd (cc)
+    whole_at (Product there first others) form place before after is begins = absurd (cc)
+    whole_at (Power there base exponent) form place before after is begins = absurd (cc)
+    whole_at (Not there operand) form place before after is begins = absurd (cc)
+    whole_at (Literal there literal) form place before after is begins = absurd (cc)
+    whole_at (Decimal there number) form place before after is begins = absurd (cc)
+    whole_at (Called there name arguments) form place before after is begins = absurd (cc)
+    whole_at (Convert there conversion operand) form place before after is begins = absurd (cc)
+    whole_at (Parenthesis there inner) form place before after is begins = absurd (cc)
+
+    pub area_placed : (reference : Reference) (form : Shape) (before after : List Instr) → area_code n site before (runs_of form) reference ≡ Ok after → Begins after code.image.code
+        → Placed code before after (λ from to. WholeAt code site (kinds_of form) reference from to)
+    area_placed (Refers place name path subscript) form before after is begins =
+        area_by subscript form path name place before after is (λ number l there. chosen_at subscript (aims.Shape number) l place before after there begins)
 
     reference_at : (reference : Reference) (before after : List Instr) → reference_code n site before reference ≡ Ok after → Begins after code.image.code
         → Placed code before after (λ from to. ReferenceAt code site reference from to)
     reference_at (Refers place name path Unsubscripted) before after is begins = name_at path name place before after is begins
     reference_at (Refers place name path (ByName there one)) before after is begins =
-        referred_at (ByName there one) path name place before after is (λ l middle got begun. chosen_at (ByName there one) l place before middle got begun) (λ arrayed middle got. component_at (ByName there one) arrayed place middle after got begins)
+        referred_at (ByName there one) path name place before after is (λ l middle got begun. chosen_at (ByName there one) aims.Cell l place before middle got begun) (λ arrayed middle got. component_at (ByName there one) arrayed place middle after got begins)
     reference_at (Refers place name path (ByInteger there mark number)) before after is begins =
-        referred_at (ByInteger there mark number) path name place before after is (λ l middle got begun. chosen_at (ByInteger there mark number) l place before middle got begun)
+        referred_at (ByInteger there mark number) path name place before after is (λ l middle got begun. chosen_at (ByInteger there mark number) aims.Cell l place before middle got begun)
         (λ arrayed middle got. component_at (ByInteger there mark number) arrayed place middle after got begins)
     reference_at (Refers place name path (ByParts there copies arrays components)) before after is begins =
-        referred_at (ByParts there copies arrays components) path name place before after is (λ l middle got begun. chosen_at (ByParts there copies arrays components) l place before middle got begun)
+        referred_at (ByParts there copies arrays components) path name place before after is (λ l middle got begun. chosen_at (ByParts there copies arrays components) aims.Cell l place before middle got begun)
         (λ arrayed middle got. component_at (ByParts there copies arrays components) arrayed place middle after got begins)
 
     -- the address that a subscript chooses
-    pub chosen_at : (subscript : Subscript) (l : Led) (place : Place) (before after : List Instr) → chosen_code n site before place subscript l ≡ Ok after → Begins after code.image.code
-        → Placed code before after (λ from to. ChosenThere subscript l from to)
-    chosen_at Unsubscripted l place before after is begins =
-        let given = any_given before place (element_of n site l.path l.declared l.stored l.shape) after is in
+    pub chosen_at : (subscript : Subscript) (aim : Aim) (l : Led) (place : Place) (before after : List Instr) → chosen_code n site before place aim subscript l ≡ Ok after → Begins after code.image.code
+        → Placed code before after (λ from to. ChosenThere aim subscript l from to)
+    chosen_at Unsubscripted aim l place before after is begins =
+        let given = any_given before place (plainly_aimed n site aim l) after is in
         let there = one_placed code before after given.0 given.2 begins
-        in record { at = λ held. (element_at code n site numbered l.path l.declared l.stored l.shape given.0 (length before) held given.1 there.at.0, there.at.1); begins = there.begins }
-    chosen_at (ByName there name) l place before after is begins =
-        place_at (sizes_led l) (name_code n site before name) l place (kind_of_first (chosen l.path l.shape.components)) (λ held. further (offset l.path l.shape.components) (spot_of (here_at site) held l.declared l.stored)) before after is
-        (λ middle got begun. name_at [] name.name name.place before middle got begun) (λ middle got. cell_at false l place middle after got begins)
-    chosen_at (ByInteger there mark number) l place before after is begins =
-        place_at (sizes_led l) (integer_code before place number) l place (kind_of_first (chosen l.path l.shape.components)) (λ held. further (offset l.path l.shape.components) (spot_of (here_at site) held l.declared l.stored)) before after is
-        (λ middle got begun. integer_at number place before middle got begun) (λ middle got. cell_at false l place middle after got begins)
-    chosen_at (ByParts there copies arrays components) l place before after is begins =
+        in record { at = (plainly_at code n site numbered aim l given.0 (length before) given.1 there.at.0, there.at.1); begins = there.begins }
+    chosen_at (ByName there name) aim l place before after is begins =
+        place_at (sizes_led l) (name_code n site before name) aim l place (given_by aim (kind_of_first (chosen l.path l.shape.components))) (begins_at code n site numbered l.declared l.stored (offset l.path l.shape.components)) before after is
+        (λ middle got begun. name_at [] name.name name.place before middle got begun) (λ middle got. address_at false true aim l place middle after got begins)
+    chosen_at (ByInteger there mark number) aim l place before after is begins =
+        place_at (sizes_led l) (integer_code before place number) aim l place (given_by aim (kind_of_first (chosen l.path l.shape.components))) (begins_at code n site numbered l.declared l.stored (offset l.path l.shape.components)) before after is
+        (λ middle got begun. integer_at number place before middle got begun) (λ middle got. address_at false true aim l place middle after got begins)
+    chosen_at (ByParts there copies arrays components) aim l place before after is begins =
         weaker code before after
-        (λ from to at. λ held.
-        (at.0, at.2.0, at.1, at.2.1, subst (λ ds. BehindAt code held (ds ++ dimensions_of (sizes_led l)) (kind_of_first (chosen l.path l.shape.components)) (further (offset l.path l.shape.components) (spot_of (here_at site) held l.declared l.stored)) at.2.0) (spoken_is copies l.shape) (at.2.2.0 held), at.2.2.1))
+        (λ from to at.
+        (at.0, at.2.0, at.1, at.2.1, subst (λ ds. LedAt code n site numbered ds aim l at.2.0) (dimensions_are copies arrays components l) at.2.2.0, at.2.2.1))
         (both_placed code (copies_code n site before place l.shape.copies copies) _ before after is (λ middle got begun. copies_at copies l.shape.copies (copy_size l.shape.components) place before middle got begun)
         (λ middle got. both_placed code
-        (array_code (is_none arrays) (is_arrayed (sizes_led l)) (indexes_code n site middle place (sizes_led l) components) (indexes_code n site middle place (sizes_led l) arrays) (Ok middle))
-        (λ last. cell_code n site last place (not (is_none copies)) l) middle after got
-        (λ last late begun. array_at (is_none arrays) (sizes_led l) (indexes_code n site middle place (sizes_led l) components) (indexes_code n site middle place (sizes_led l) arrays) middle last late begun
+        (array_code (is_none arrays) (is_arrayed (sizes_led l) && not (leaves_array aim components)) (indexes_code n site middle place (sizes_led l) components) (indexes_code n site middle place (sizes_led l) arrays) (Ok middle))
+        (λ last. address_code n site last place aim (not (is_none copies)) (not (is_none arrays && is_none components)) l) middle after got
+        (λ last late begun. array_at (is_none arrays) aim components (sizes_led l) (indexes_code n site middle place (sizes_led l) components) (indexes_code n site middle place (sizes_led l) arrays) middle last late begun
         (λ chosen_there. indexes_at components (sizes_led l) place middle last chosen_there begun) (λ chosen_there. indexes_at arrays (sizes_led l) place middle last chosen_there begun))
-        (λ last late. cell_at (not (is_none copies)) l place last after late begins)))
+        (λ last late. address_at (not (is_none copies)) (not (is_none arrays && is_none components)) aim l place last after late begins)))
 
     copies_at : (list : Subscripts) (count : Option ℕ) (stride : ℕ) (place : Place) (before after : List Instr) → copies_code n site before place count list ≡ Ok after → Begins after code.image.code
         → Placed code before after (λ from to. IndexesAt code site (spoken list (copies_in stride count)) list from to)

@@ -15,16 +15,19 @@ use Rattle.hal_constants.specs.Constants.{is_none}
 use Rattle.hal_values.specs.declared.value.Kind.{Kind}
 use Rattle.hal_values.specs.declared.value.Value.{Value}
 use Rattle.hal_values.specs.declared.value.Value.TheVariants as value
-use Rattle.hal_states.specs.Spots.{Spot, further}
-use Rattle.hal_meaning.specs.Calls.{inputs_of}
-use Rattle.hal_meaning.specs.Elements.{Shape, chosen, offset}
+use Rattle.hal_states.specs.Spots.{Spot, Own, Held, further}
+use Rattle.hal_meaning.specs.Calls.{Parameter, parameter_named, inputs_of, outputs_of}
+use Rattle.hal_meaning.specs.Elements.{Shape, chosen, offset, kinds_of}
 use Rattle.hal_meaning.specs.Expressions.{inputs_at, literal_value, is_condition, are_conditions, becomes_condition, exponent_of, is_size, size_argument, sizes_named, copies_of, spoken}
-use Rattle.hal_meaning.specs.Variables.{Meant, MeantData, MeantConstant, MeantEvent, MeantBlock, MeantBuiltin, MeantNothing, name_meant, kind_of_first, Dimension, dimensions_of, is_arrayed}
+use Rattle.hal_meaning.specs.Variables.{Meant, MeantData, MeantConstant, MeantEvent, MeantBlock, MeantBuiltin, MeantNothing, name_meant, spot_named, kind_of_first, is_whole, Dimension, dimensions_of, is_arrayed}
 use Rattle.hal_code.specs.Forward.{GoesOn}
 use Rattle.hal_code.specs.declared.instr.Instr.{Instr}
 use Rattle.hal_code.specs.declared.instr.Instr.TheVariants as instr
+use Rattle.hal_code.specs.declared.row.Target.{Target}
+use Rattle.hal_code.specs.declared.row.Target.TheVariants as target
+use Rattle.hal_meaning.specs.ReportNames.{first_place}
 use Rattle.hal_agreement.specs.Codes.{Code}
-use Rattle.hal_agreement.specs.PlacedExpressions.{Has, One, pushes, AloneAt, ParametersAt, CallAt, ValueAt, NameAt, BehindAt, EitherAt, PlaceAt, ArrayAt, SubscriptedAt, SignAt, OperandAt, CalledAt, ExpressionAt, JoinedAt, FoldedAt, TermsAt, BuiltAt, ArgumentsAt, ReferenceAt, ChosenAt, IndexesAt, PositionAt, ComponentAt, PartsAt, PartAt}
+use Rattle.hal_agreement.specs.PlacedExpressions.{Has, One, pushes, addresses, AddressAt, ElementAt, AloneAt, BoundAt, ParameterAt, ParametersAt, CallAt, ValueAt, NameAt, EitherAt, DataAt, WholeArgumentAt, WholeAt, array_spoken, PlaceAt, ArrayAt, SubscriptedAt, SignAt, OperandAt, CalledAt, ExpressionAt, JoinedAt, FoldedAt, TermsAt, BuiltAt, ArgumentsAt, ReferenceAt, ChosenAt, IndexesAt, PositionAt, ComponentAt, PartsAt, PartAt}
 use Rattle.hal_agreement.specs.Sites.{Site, here_at}
 
 module _ (code : Code) where
@@ -70,14 +73,28 @@ module _ (code : Code) where
     alone_goes builtin.Runtime from to at = one_goes from to _ at tt
     alone_goes other from to at = absurd at
 
+    bound_goes : (unit : ℕ) (names : List Naming) (from to : ℕ) → BoundAt code site unit names from to → Goes from to
+    bound_goes unit [] from to at = none_goes from to at
+    bound_goes unit (name ∷ names) from to at = joined_goes from at.0 to (bound_goes unit names from at.0 at.1) (one_goes at.0 to _ at.2 tt)
+
+    either_goes : (b : Bool) (one other : ℕ → ℕ → Type 0) (from to : ℕ) → EitherAt b one other from to → (one from to → Goes from to) → (other from to → Goes from to) → Goes from to
+    either_goes true one other from to at f s = f at
+    either_goes false one other from to at f s = s at
+
+    parameter_goes : (p : Parameter) (from to : ℕ) → ParameterAt code site p from to → Goes from to
+    parameter_goes p from to at =
+        either_goes (is_whole p.shape) (λ a e. One code a (instr.Copy (first_place site.places p.number)) e)
+        (λ a e. ((held : List Held) → AddressAt code held (kind_of_first p.shape.components) (Own (first_place site.places p.number)) a) × One code (suc a) instr.Keep e) from to at
+        (λ here. one_goes from to _ here tt) (λ here. first_goes from to _ (here.0 []).cell tt (one_goes (suc from) to _ here.1 tt))
+
     parameters_go : (unit : ℕ) (names : List Naming) (from to : ℕ) → ParametersAt code site unit names from to → Goes from to
     parameters_go unit [] from to at = none_goes from to at
-    parameters_go unit (name ∷ names) from to at =
-        joined_goes from at.0 to (parameters_go unit names from at.0 at.1) (first_goes at.0 to _ (at.2 []).cell tt (one_goes (suc at.0) to _ at.3 tt))
+    parameters_go unit (name ∷ names) from to at = joined_goes from at.0 to (parameters_go unit names from at.0 at.1) (parameter_goes (parameter_named site.set unit name) at.0 to at.2)
 
     pub call_goes : (unit : ℕ) (function : Bool) (from to : ℕ) → CallAt code site unit function from to → Goes from to
     call_goes unit function from to at =
-        joined_goes from at.middle to (parameters_go at.body.number (inputs_of at.body.head) from at.middle at.parameters) (one_goes at.middle to _ at.call tt)
+        joined_goes from at.bound to (bound_goes at.body.number (outputs_of at.body.head) from at.bound at.references)
+        (joined_goes at.bound at.middle to (parameters_go at.body.number (inputs_of at.body.head) at.bound at.middle at.parameters) (one_goes at.middle to _ at.call tt))
 
     meant_goes : (path : List Naming) (m : Meant) (from to : ℕ) → ValueAt code site path [] m from to → Goes from to
     meant_goes path (MeantData at shape) from to there = first_goes from to _ there.0.cell tt (one_goes (suc from) to _ there.1 tt)
@@ -90,31 +107,39 @@ module _ (code : Code) where
     pub name_goes : (name : List ℕ) (path : List Naming) (from to : ℕ) → NameAt code site name path from to → Goes from to
     name_goes name path from to at = meant_goes path (name_meant (here_at site) name []) from to (at [])
 
-    place_goes : (placed : ℕ → ℕ → Type 0) (k : Kind) (spot : Spot) (sizes : List ℕ) (from to : ℕ) → PlaceAt code [] placed k spot sizes from to → ((middle : ℕ) → placed from middle → Goes from middle) → Goes from to
-    place_goes placed k spot [] from to there p = one_goes from to _ (there.0.cell, there.1) tt
-    place_goes placed k spot (n ∷ ns) from to there p = joined_goes from there.0 to (p there.0 there.1) (one_goes there.0 to _ (there.3.cell, there.4) tt)
+    -- CELL and WHOLE
+    addresses_go : (given : Target) (number from : ℕ) → GoesOn code.image.code from (addresses given number)
+    addresses_go (target.Cell kind) number from = tt
+    addresses_go (target.Shape shape) number from = tt
 
-    behind_goes : (ds : List Dimension) (k : Kind) (spot : Spot) (from to : ℕ) → BehindAt code [] ds k spot from → suc from ≡ to → Goes from to
-    behind_goes [] k spot from to at same = one_goes from to _ (at.cell, same) tt
-    behind_goes (d ∷ ds) k spot from to at same = one_goes from to _ (at.cell, same) tt
+    element_goes : (ds : List Dimension) (given : Target) (spots : List Held → Spot) (from to : ℕ) → ElementAt code ds given spots from → suc from ≡ to → Goes from to
+    element_goes ds given spots from to at same = one_goes from to _ (at.address, same) (addresses_go given at.number from)
+
+    place_goes : (placed : ℕ → ℕ → Type 0) (given : Target) (spots : List Held → Spot) (sizes : List ℕ) (from to : ℕ) → PlaceAt code placed given spots sizes from to → ((middle : ℕ) → placed from middle → Goes from middle) → Goes from to
+    place_goes placed given spots [] from to there p = element_goes [] given spots from to there.0 there.1
+    place_goes placed given spots (n ∷ ns) from to there p = joined_goes from there.0 to (p there.0 there.1) (element_goes (dimensions_of (n ∷ ns)) given spots there.0 to there.3 there.4)
 
     array_goes : (places : ℕ → ℕ → Type 0) (sizes : List ℕ) (from to : ℕ) → ArrayAt places sizes from to → (places from to → Goes from to) → Goes from to
     array_goes places [] from to at p = none_goes from to at
     array_goes places (n ∷ ns) from to at p = p at
 
-    either_goes : (b : Bool) (one other : ℕ → ℕ → Type 0) (from to : ℕ) → EitherAt b one other from to → (one from to → Goes from to) → (other from to → Goes from to) → Goes from to
-    either_goes true one other from to at f s = f at
-    either_goes false one other from to at f s = s at
-
-    subscripted_goes : (path : List Naming) (m : Meant) (address : Spot → Shape → ℕ → ℕ → Type 0) (component : Bool → ℕ → ℕ → Type 0) (from to : ℕ) → SubscriptedAt code site path [] address component m from to
-        → ((spot : Spot) (shape : Shape) (middle : ℕ) → address spot shape from middle → Goes from middle) → ((arrayed : Bool) (middle : ℕ) → component arrayed middle to → Goes middle to) → Goes from to
+    subscripted_goes : (path : List Naming) (m : Meant) (address : Shape → ℕ → ℕ → Type 0) (component : Bool → ℕ → ℕ → Type 0) (from to : ℕ) → SubscriptedAt code site path [] address component m from to
+        → ((shape : Shape) (middle : ℕ) → address shape from middle → Goes from middle) → ((arrayed : Bool) (middle : ℕ) → component arrayed middle to → Goes middle to) → Goes from to
     subscripted_goes path (MeantData spot shape) address component from to there a c =
-        joined_goes from there.0 to (a spot shape there.0 there.1) (first_goes there.0 to _ there.2 tt (c (is_arrayed (sizes_named path shape)) (suc there.0) there.3))
+        joined_goes from there.0 to (a shape there.0 there.1) (first_goes there.0 to _ there.2 tt (c (is_arrayed (sizes_named path shape)) (suc there.0) there.3))
     subscripted_goes path (MeantConstant v) address component from to there a c = joined_goes from there.0 to (meant_goes path (MeantConstant v) from there.0 there.1) (c false there.0 there.2)
     subscripted_goes path (MeantEvent e) address component from to there a c = joined_goes from there.0 to (meant_goes path (MeantEvent e) from there.0 there.1) (c false there.0 there.2)
     subscripted_goes path (MeantBlock unit) address component from to there a c = joined_goes from there.0 to (meant_goes path (MeantBlock unit) from there.0 there.1) (c false there.0 there.2)
     subscripted_goes path (MeantBuiltin b) address component from to there a c = joined_goes from there.0 to (meant_goes path (MeantBuiltin b) from there.0 there.1) (c false there.0 there.2)
     subscripted_goes path MeantNothing address component from to there a c = absurd there.1
+
+    data_goes : (m : Meant) (address : Shape → ℕ → ℕ → Type 0) (from to : ℕ) → DataAt address m from to → ((shape : Shape) → address shape from to → Goes from to) → Goes from to
+    data_goes (MeantData spot shape) address from to there a = a shape there
+    data_goes (MeantConstant v) address from to there a = absurd there
+    data_goes (MeantEvent e) address from to there a = absurd there
+    data_goes (MeantBlock unit) address from to there a = absurd there
+    data_goes (MeantBuiltin b) address from to there a = absurd there
+    data_goes MeantNothing address from to there a = absurd there
 
     sign_goes : (opening : Option Sign) (from to : ℕ) → SignAt code opening from to → Goes from to
     sign_goes (Some Minus) from to at = one_goes from to _ at tt
@@ -191,35 +216,60 @@ module _ (code : Code) where
 
       pub arguments_go : (trees : Expressions) (unit : ℕ) (names : List Naming) (from to : ℕ) → ArgumentsAt code site unit names trees from to → Goes from to
       arguments_go NoExpressions unit [] from to at = none_goes from to at
-      arguments_go (MoreExpressions first others) unit (name ∷ names) from to at = joined_goes from at.0 to (expression_goes first from at.0 at.2) (arguments_go others unit names at.0 to at.3)
+      arguments_go (MoreExpressions first others) unit (name ∷ names) from to at =
+          joined_goes from at.0 to
+          (either_goes (is_whole (parameter_named site.set unit name).shape) (λ a e. WholeArgumentAt code site (kinds_of (parameter_named site.set unit name).shape) first a e) (λ a e. ExpressionAt code site first a e) from at.0 at.1
+          (λ here. whole_goes first (kinds_of (parameter_named site.set unit name).shape) from at.0 here) (λ here. expression_goes first from at.0 here)) (arguments_go others unit names at.0 to at.2)
       arguments_go NoExpressions unit (name ∷ names) from to at = absurd at
       arguments_go (MoreExpressions first others) unit [] from to at = absurd at
+
+      whole_goes : (tree : Expression) (kinds : List Kind) (from to : ℕ) → WholeArgumentAt code site kinds tree from to → Goes from to
+      whole_goes (Referred reference) kinds from to at = area_goes reference kinds from to at
+      whole_goes (Or there first others) kinds from to at = absurd at
+      whole_goes (And there first others) kinds from to at = absurd at
+      whole_goes (Compare there left relation right) kinds from to at = absurd at
+      whole_goes (Cat there first others) kinds from to at = absurd at
+      whole_goes (Sum there opening first others) kinds from to at = absurd at
+      whole_goes (Product there first others) kinds from to at = absurd at
+      whole_goes (Power there base exponent) kinds from to at = absurd at
+      whole_goes (Not there operand) kinds from to at = absurd at
+      whole_goes (Literal there literal) kinds from to at = absurd at
+      whole_goes (Decimal there number) kinds from to at = absurd at
+      whole_goes (Called there name arguments) kinds from to at = absurd at
+      whole_goes (Convert there conversion operand) kinds from to at = absurd at
+      whole_goes (Parenthesis there inner) kinds from to at = absurd at
+
+      pub area_goes : (reference : Reference) (kinds : List Kind) (from to : ℕ) → WholeAt code site kinds reference from to → Goes from to
+      area_goes (Refers place name path subscript) kinds from to at =
+          data_goes (name_meant (here_at site) name []) (λ form a e. ChosenAt code site (target.Shape at.0) path subscript (spot_named (here_at site) name) form a e) from to (at.2 [])
+          (λ form here. chosen_goes subscript (target.Shape at.0) path (spot_named (here_at site) name) form from to here)
 
       reference_goes : (reference : Reference) (from to : ℕ) → ReferenceAt code site reference from to → Goes from to
       reference_goes (Refers place name path Unsubscripted) from to at = name_goes name path from to at
       reference_goes (Refers place name path (ByName there one)) from to at =
-          subscripted_goes path (name_meant (here_at site) name []) (λ spot shape a e. ChosenAt code site [] path (ByName there one) spot shape a e) (λ arrayed a e. ComponentAt code site arrayed (ByName there one) a e) from to (at [])
-          (λ spot shape middle here. chosen_goes (ByName there one) path spot shape from middle here) (λ arrayed middle here. component_goes (ByName there one) arrayed middle to here)
+          subscripted_goes path (name_meant (here_at site) name []) (λ shape a e. ChosenAt code site (target.Cell (kind_of_first (chosen path shape.components))) path (ByName there one) (spot_named (here_at site) name) shape a e) (λ arrayed a e. ComponentAt code site arrayed (ByName there one) a e) from to (at [])
+          (λ shape middle here. chosen_goes (ByName there one) (target.Cell (kind_of_first (chosen path shape.components))) path (spot_named (here_at site) name) shape from middle here) (λ arrayed middle here. component_goes (ByName there one) arrayed middle to here)
       reference_goes (Refers place name path (ByInteger there mark number)) from to at =
-          subscripted_goes path (name_meant (here_at site) name []) (λ spot shape a e. ChosenAt code site [] path (ByInteger there mark number) spot shape a e) (λ arrayed a e. ComponentAt code site arrayed (ByInteger there mark number) a e) from to (at [])
-          (λ spot shape middle here. chosen_goes (ByInteger there mark number) path spot shape from middle here) (λ arrayed middle here. component_goes (ByInteger there mark number) arrayed middle to here)
+          subscripted_goes path (name_meant (here_at site) name []) (λ shape a e. ChosenAt code site (target.Cell (kind_of_first (chosen path shape.components))) path (ByInteger there mark number) (spot_named (here_at site) name) shape a e) (λ arrayed a e. ComponentAt code site arrayed (ByInteger there mark number) a e) from to (at [])
+          (λ shape middle here. chosen_goes (ByInteger there mark number) (target.Cell (kind_of_first (chosen path shape.components))) path (spot_named (here_at site) name) shape from middle here) (λ arrayed middle here. component_goes (ByInteger there mark number) arrayed middle to here)
       reference_goes (Refers place name path (ByParts there copies arrays components)) from to at =
-          subscripted_goes path (name_meant (here_at site) name []) (λ spot shape a e. ChosenAt code site [] path (ByParts there copies arrays components) spot shape a e) (λ arrayed a e. ComponentAt code site arrayed (ByParts there copies arrays components) a e) from to (at [])
-          (λ spot shape middle here. chosen_goes (ByParts there copies arrays components) path spot shape from middle here) (λ arrayed middle here. component_goes (ByParts there copies arrays components) arrayed middle to here)
+          subscripted_goes path (name_meant (here_at site) name []) (λ shape a e. ChosenAt code site (target.Cell (kind_of_first (chosen path shape.components))) path (ByParts there copies arrays components) (spot_named (here_at site) name) shape a e) (λ arrayed a e. ComponentAt code site arrayed (ByParts there copies arrays components) a e) from to (at [])
+          (λ shape middle here. chosen_goes (ByParts there copies arrays components) (target.Cell (kind_of_first (chosen path shape.components))) path (spot_named (here_at site) name) shape from middle here) (λ arrayed middle here. component_goes (ByParts there copies arrays components) arrayed middle to here)
 
-      pub chosen_goes : (subscript : Subscript) (path : List Naming) (spot : Spot) (shape : Shape) (from to : ℕ) → ChosenAt code site [] path subscript spot shape from to → Goes from to
-      chosen_goes Unsubscripted path spot shape from to at = one_goes from to _ (at.0.cell, at.1) tt
-      chosen_goes (ByName there name) path spot shape from to at =
-          place_goes (λ a e. NameAt code site name.name [] a e) (kind_of_first (chosen path shape.components)) (further (offset path shape.components) spot) (sizes_named path shape) from to at
-          (λ middle here. name_goes name.name [] from middle here)
-      chosen_goes (ByInteger there mark number) path spot shape from to at =
-          place_goes (λ a e. One code a (instr.Int (pos number)) e) (kind_of_first (chosen path shape.components)) (further (offset path shape.components) spot) (sizes_named path shape) from to at
-          (λ middle here. one_goes from middle _ here tt)
-      chosen_goes (ByParts there copies arrays components) path spot shape from to at =
+      pub chosen_goes : (subscript : Subscript) (given : Target) (path : List Naming) (spots : List Held → Spot) (shape : Shape) (from to : ℕ) → ChosenAt code site given path subscript spots shape from to → Goes from to
+      chosen_goes Unsubscripted given path spots shape from to at = element_goes [] given _ from to at.0 at.1
+      chosen_goes (ByName there name) given path spots shape from to at =
+          place_goes (λ a e. NameAt code site name.name [] a e) given (λ held. further (offset path shape.components) (spots held)) (sizes_named path shape) from to at (λ middle here. name_goes name.name [] from middle here)
+      chosen_goes (ByInteger there mark number) given path spots shape from to at =
+          place_goes (λ a e. One code a (instr.Int (pos number)) e) given (λ held. further (offset path shape.components) (spots held)) (sizes_named path shape) from to at (λ middle here. one_goes from middle _ here tt)
+      chosen_goes (ByParts there copies arrays components) given path spots shape from to at =
           joined_goes from at.0 to (indexes_goes copies (spoken copies (copies_of shape)) from at.0 at.2) (joined_goes at.0 at.1 to
-          (either_goes (is_none arrays) (λ a e. ArrayAt (λ b f. IndexesAt code site (dimensions_of (sizes_named path shape)) components b f) (sizes_named path shape) a e) (λ a e. IndexesAt code site (dimensions_of (sizes_named path shape)) arrays a e) at.0 at.1 at.3
-          (λ here. array_goes (λ b f. IndexesAt code site (dimensions_of (sizes_named path shape)) components b f) (sizes_named path shape) at.0 at.1 here (λ places. indexes_goes components (dimensions_of (sizes_named path shape)) at.0 at.1 places))
-          (λ here. indexes_goes arrays (dimensions_of (sizes_named path shape)) at.0 at.1 here)) (behind_goes (spoken copies (copies_of shape) ++ dimensions_of (sizes_named path shape)) _ _ at.1 to at.4 at.5))
+          (either_goes (is_none arrays) (λ a e. ArrayAt (λ b f. IndexesAt code site (spoken components (dimensions_of (sizes_named path shape))) components b f) (sizes_named path shape) a e)
+          (λ a e. IndexesAt code site (dimensions_of (sizes_named path shape)) arrays a e) at.0 at.1 at.3
+          (λ here. array_goes (λ b f. IndexesAt code site (spoken components (dimensions_of (sizes_named path shape))) components b f) (sizes_named path shape) at.0 at.1 here
+          (λ places. indexes_goes components (spoken components (dimensions_of (sizes_named path shape))) at.0 at.1 places))
+          (λ here. indexes_goes arrays (dimensions_of (sizes_named path shape)) at.0 at.1 here))
+          (element_goes (spoken copies (copies_of shape) ++ array_spoken (is_none arrays) components (dimensions_of (sizes_named path shape))) given _ at.1 to at.4 at.5))
 
       indexes_goes : (list : Subscripts) (ds : List Dimension) (from to : ℕ) → IndexesAt code site ds list from to → Goes from to
       indexes_goes NoSubscripts [] from to at = none_goes from to at

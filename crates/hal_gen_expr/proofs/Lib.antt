@@ -1,5 +1,7 @@
 pub mod Growing
 pub mod Referring
+pub mod SameKinds
+pub mod Shaped
 pub mod Numbered
 pub mod Named
 mod Sized

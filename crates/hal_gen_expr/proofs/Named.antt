@@ -1,40 +1,34 @@
 -- The code of names stands where it was put.
 use Rattle.std.specs.Prelude.{◌≡◌, ℕ, suc, ◌+◌, Bool, true, false, not, ◌&&◌, List, [], ◌∷◌, ◌++◌, length, Option, Some, None, if◌then◌else◌}
 use Rattle.std.specs.Option.{option_map, option_and_then, is_some}
-use Rattle.std.proofs.lemmas.Bool.{and_parts}
-use Rattle.std.proofs.Common.{refl, sym, ap, subst, ◌∙◌, arith}
+use Rattle.std.proofs.Common.{refl, sym, ap, subst, ◌∙◌, append-nil, arith}
 use Rattle.hal_grammar.specs.Leaves.{Naming}
 use Rattle.hal_scope.specs.declared.builtin.Builtin.{Builtin}
 use Rattle.hal_scope.specs.declared.builtin.Builtin.TheVariants as builtin
 use Rattle.hal_states.specs.Spots.{Own, Held, further}
-use Rattle.hal_meaning.specs.Calls.{parameter_named, inputs_of, outputs_of, is_function}
+use Rattle.hal_meaning.specs.Calls.{Parameter, parameter_named, inputs_of, outputs_of, is_function}
 use Rattle.hal_meaning.specs.Elements.{Shape, chosen, offset}
 use Rattle.hal_meaning.specs.Expressions.{inputs_at}
 use Rattle.hal_meaning.specs.Places.{Storing, InPlaces}
 use Rattle.hal_meaning.specs.ReportNames.{first_place}
 use Rattle.hal_meaning.specs.Sets.{body_at}
-use Rattle.hal_meaning.specs.Variables.{kind_of_first, spot_of}
+use Rattle.hal_meaning.specs.Variables.{kind_of_first, is_whole, spot_of}
 use Rattle.hal_code.specs.declared.instr.Instr.{Instr}
 use Rattle.hal_code.specs.declared.instr.Instr.TheVariants as instr
 use Rattle.hal_agreement.specs.Codes.{Code}
-use Rattle.hal_agreement.specs.PlacedExpressions.{Has, One, pushes, AddressAt, AloneAt, ParametersAt, CallAt, ValueAt}
+use Rattle.hal_agreement.specs.PlacedExpressions.{Has, One, pushes, AddressAt, AloneAt, BoundAt, EitherAt, ParametersAt, CallAt, ValueAt}
 use Rattle.hal_agreement.specs.Sites.{Site, here_at}
-use Rattle.hal_gen_expr.specs.Numbering.{Numbering, below, block_number}
-use Rattle.hal_gen_expr.specs.Leaves.{is_nil, is_one, address_of, element_of, alone_of, parameter_of, parameters_of, same_form, call_with, call_to, call_of, value_of}
+use Rattle.hal_gen_expr.specs.Numbering.{Numbering, below, most, block_number}
+use Rattle.hal_gen_expr.specs.Leaves.{is_nil, is_one, address_of, element_of, alone_of, behind_of, bound_of, binds_of, kept_of, copied_of, stored_of, parameters_of, same_form, passed_to, call_with, call_to, call_of, value_of}
 use Rattle.hal_referents.specs.Referents.{Referent, DataOf, ConstantOf, EventOf, BlockOf, BuiltinOf, Unmeant}
 use Rattle.hal_gen_expr.specs.Standing.{Begins, IsNumbered, Placed}
 use Rattle.hal_gen_expr.proofs.Growing.{append_append, one_by_one, one_placed, none_placed, first_placed}
-use Rattle.hal_gen_expr.proofs.Numbered.{below_is, mapped_is, then_is, address_at}
+use Rattle.hal_gen_expr.proofs.Numbered.{below_is, mapped_is, then_is, given_is, address_at}
 use Rattle.hal_gen_expr.proofs.Referring.{meaning_of}
 
 pub nil_is : {X : Type 0} (xs : List X) → is_nil xs ≡ true → xs ≡ []
 nil_is [] is = refl
 nil_is (x ∷ xs) is = absurd (cc)
-
--- what holds where something is given under a condition
-pub given_is : {X : Type 0} (b : Bool) (o : Option X) (x : X) → (if b then o else None) ≡ Some x → (b ≡ true) × (o ≡ Some x)
-given_is true o x is = (refl, is)
-given_is false o x is = absurd (cc)
 
 form_is : (function b : Bool) → same_form function b ≡ true → b ≡ function
 form_is true b is = is
@@ -64,42 +58,78 @@ module _ (code : Code) (n : Numbering) (site : Site) (numbered : IsNumbered code
   alone_at builtin.Runtime i from to is one = subst (λ j. One code from j to) (let same : i ≡ instr.Now = cc in same) one
   alone_at other i from to is one = absurd (cc)
 
-  -- the stores of parameters
-  parameters_placed : (unit : ℕ) (names : List Naming) (before after is : List Instr) → parameters_of n site unit names ≡ Some is → before ++ is ≡ after → Begins after code.image.code
-      → Placed code before after (λ from to. ParametersAt code site unit names from to)
-  parameters_placed unit [] before after is given grown begins =
-      none_placed code before after (sym (append_none before) ∙ (ap (λ l. before ++ l) (let none : [] ≡ is = cc in none) ∙ grown)) begins where
-        append_none : {X : Type 0} (xs : List X) → xs ++ [] ≡ xs
-        append_none [] = refl
-        append_none (x ∷ xs) = ap (λ l. x ∷ l) (append_none xs)
-  parameters_placed unit (name ∷ names) before after is given grown begins =
-      let stores = then_is (λ js. option_map (λ i. js ++ (i ∷ instr.Keep ∷ [])) (parameter_of n site (parameter_named site.set unit name))) (parameters_of n site unit names) is given in
-      let address = mapped_is (λ i. stores.0 ++ (i ∷ instr.Keep ∷ [])) (parameter_of n site (parameter_named site.set unit name)) is stores.2 in
-      let late = two_placed (before ++ stores.0) after address.0 instr.Keep (append_append before stores.0 (address.0 ∷ instr.Keep ∷ []) ∙ (ap (λ l. before ++ l) address.2 ∙ grown)) begins in
-      let early = parameters_placed unit names before (before ++ stores.0) stores.0 stores.1 refl late.begins
+  -- one behind the other
+  parts_of : (first second : Option (List Instr)) (is : List Instr) → behind_of first second ≡ Some is
+      → (js : List Instr) × (ks : List Instr) × (first ≡ Some js) × (second ≡ Some ks) × (js ++ ks ≡ is)
+  parts_of first second is given =
+      let early = then_is (λ js. option_map (λ ks. js ++ ks) second) first is given in
+      let late = mapped_is (λ ks. early.0 ++ ks) second is early.2 in
+      (early.0, late.0, early.1, late.1, late.2)
+
+  late_is : (before js ks is after : List Instr) → js ++ ks ≡ is → before ++ is ≡ after → (before ++ js) ++ ks ≡ after
+  late_is before js ks is after same grown = append_append before js ks ∙ (ap (λ l. before ++ l) same ∙ grown)
+
+  -- an own place that an instruction names
+  named_placed : (names : ℕ → Instr) (place : ℕ) (before after is : List Instr) → option_map (λ m. names m ∷ []) (below most place) ≡ Some is → before ++ is ≡ after → Begins after code.image.code
+      → Placed code before after (λ from to. One code from (names place) to)
+  named_placed names place before after is given grown begins =
+      let low = mapped_is (λ m. names m ∷ []) (below most place) is given in
+      one_placed code before after (names place) (ap (λ l. before ++ l) (ap (λ m. names m ∷ []) (below_is most place low.0 low.1) ∙ low.2) ∙ grown) begins
+
+  -- the references of ASSIGN parameters
+  bound_placed : (unit : ℕ) (names : List Naming) (before after is : List Instr) → binds_of site unit names ≡ Some is → before ++ is ≡ after → Begins after code.image.code
+      → Placed code before after (λ from to. BoundAt code site unit names from to)
+  bound_placed unit [] before after is given grown begins = none_placed code before after (sym (append-nil before) ∙ (ap (λ l. before ++ l) (let none : [] ≡ is = cc in none) ∙ grown)) begins
+  bound_placed unit (name ∷ names) before after is given grown begins =
+      let parts = parts_of (binds_of site unit names) (bound_of site (parameter_named site.set unit name)) is given in
+      let late = named_placed instr.Bind (first_place site.places (parameter_named site.set unit name).number) (before ++ parts.0) after parts.1 parts.3 (late_is before parts.0 parts.1 is after parts.4 grown) begins in
+      let early = bound_placed unit names before (before ++ parts.0) parts.0 parts.2 refl late.begins
+      in record { at = (length (before ++ parts.0), early.at, late.at); begins = early.begins }
+
+  -- the store of a parameter
+  kept_placed : (p : Parameter) (before after is : List Instr) → kept_of n site p ≡ Some is → before ++ is ≡ after → Begins after code.image.code
+      → Placed code before after (λ from to. ((held : List Held) → AddressAt code held (kind_of_first p.shape.components) (Own (first_place site.places p.number)) from) × One code (suc from) instr.Keep to)
+  kept_placed p before after is given grown begins =
+      let address = mapped_is (λ i. i ∷ instr.Keep ∷ []) (address_of n site [] p.number InPlaces 0 (kind_of_first p.shape.components)) is given in
+      let there = two_placed before after address.0 instr.Keep (ap (λ l. before ++ l) address.2 ∙ grown) begins
       in record {
         at = (
-          length (before ++ stores.0),
-          early.at,
           (λ held.
-              subst (λ m. AddressAt code held (kind_of_first (parameter_named site.set unit name).shape.components) (Own m) (length (before ++ stores.0)))
-              (behind_none (first_place site.places (parameter_named site.set unit name).number))
-              (address_at code n site numbered (parameter_named site.set unit name).number InPlaces 0 (kind_of_first (parameter_named site.set unit name).shape.components) address.0 (length (before ++ stores.0)) held address.1 late.at.0)),
-          late.at.1,
+              subst (λ m. AddressAt code held (kind_of_first p.shape.components) (Own m) (length before)) (behind_none (first_place site.places p.number))
+              (address_at code n site numbered p.number InPlaces 0 (kind_of_first p.shape.components) address.0 (length before) held address.1 there.at.0)),
+          there.at.1,
         );
-        begins = early.begins;
+        begins = there.begins;
       }
+
+  stored_by : (b : Bool) (p : Parameter) (before after is : List Instr) → (if b then copied_of site p else kept_of n site p) ≡ Some is → before ++ is ≡ after → Begins after code.image.code
+      → Placed code before after (λ from to. EitherAt b (λ begin end. One code begin (instr.Copy (first_place site.places p.number)) end)
+      (λ begin end. ((held : List Held) → AddressAt code held (kind_of_first p.shape.components) (Own (first_place site.places p.number)) begin) × One code (suc begin) instr.Keep end) from to)
+  stored_by true p before after is given grown begins = named_placed instr.Copy (first_place site.places p.number) before after is given grown begins
+  stored_by false p before after is given grown begins = kept_placed p before after is given grown begins
+
+  -- those of parameters
+  parameters_placed : (unit : ℕ) (names : List Naming) (before after is : List Instr) → parameters_of n site unit names ≡ Some is → before ++ is ≡ after → Begins after code.image.code
+      → Placed code before after (λ from to. ParametersAt code site unit names from to)
+  parameters_placed unit [] before after is given grown begins = none_placed code before after (sym (append-nil before) ∙ (ap (λ l. before ++ l) (let none : [] ≡ is = cc in none) ∙ grown)) begins
+  parameters_placed unit (name ∷ names) before after is given grown begins =
+      let parts = parts_of (parameters_of n site unit names) (stored_of n site (parameter_named site.set unit name)) is given in
+      let late = stored_by (is_whole (parameter_named site.set unit name).shape) (parameter_named site.set unit name) (before ++ parts.0) after parts.1 parts.3 (late_is before parts.0 parts.1 is after parts.4 grown) begins in
+      let early = parameters_placed unit names before (before ++ parts.0) parts.0 parts.2 refl late.begins
+      in record { at = (length (before ++ parts.0), early.at, late.at); begins = early.begins }
 
   -- a call behind its arguments
   pub call_placed : (function : Bool) (unit : ℕ) (before after is : List Instr) → call_of n site function unit ≡ Some is → before ++ is ≡ after → Begins after code.image.code
       → Placed code before after (λ from to. CallAt code site unit function from to)
   call_placed function unit before after is given grown begins =
       let body = then_is (call_to n site function unit) (body_at site.set unit) is given in
-      let fits = given_is (same_form function (is_function body.0.head) && is_nil (outputs_of body.0.head)) (option_and_then (call_with n site body.0) (block_number n unit)) is body.2 in
+      let fits = given_is (same_form function (is_function body.0.head)) (option_and_then (call_with n site body.0) (block_number n unit)) is body.2 in
       let block = then_is (call_with n site body.0) (block_number n unit) is fits.1 in
-      let stores = mapped_is (λ js. js ++ (instr.Call block.0 ∷ [])) (parameters_of n site body.0.number (inputs_of body.0.head)) is block.2 in
-      let late = one_placed code (before ++ stores.0) after (instr.Call block.0) (append_append before stores.0 (instr.Call block.0 ∷ []) ∙ (ap (λ l. before ++ l) stores.2 ∙ grown)) begins in
-      let early = parameters_placed body.0.number (inputs_of body.0.head) before (before ++ stores.0) stores.0 stores.1 refl late.begins in
+      let passed = mapped_is (λ js. js ++ (instr.Call block.0 ∷ [])) (passed_to n site body.0) is block.2 in
+      let parts = parts_of (binds_of site body.0.number (outputs_of body.0.head)) (parameters_of n site body.0.number (inputs_of body.0.head)) passed.0 passed.1 in
+      let late = one_placed code (before ++ passed.0) after (instr.Call block.0) (late_is before passed.0 (instr.Call block.0 ∷ []) is after passed.2 grown) begins in
+      let stores = parameters_placed body.0.number (inputs_of body.0.head) (before ++ parts.0) (before ++ passed.0) parts.1 parts.3 (late_is before parts.0 parts.1 passed.0 (before ++ passed.0) parts.4 refl) late.begins in
+      let early = bound_placed body.0.number (outputs_of body.0.head) before (before ++ parts.0) parts.0 parts.2 refl stores.begins in
       let row = numbered.blocks unit block.0 block.1
       in record {
         at = record {
@@ -109,10 +139,11 @@ module _ (code : Code) (n : Numbering) (site : Site) (numbered : IsNumbered code
           named = row.0;
           found = body.1;
           block = row.2;
-          gives = form_is function (is_function body.0.head) (and_parts (same_form function (is_function body.0.head)) (is_nil (outputs_of body.0.head)) fits.0).0;
-          outputs = nil_is (outputs_of body.0.head) (and_parts (same_form function (is_function body.0.head)) (is_nil (outputs_of body.0.head)) fits.0).1;
-          middle = length (before ++ stores.0);
-          parameters = early.at;
+          gives = form_is function (is_function body.0.head) fits.0;
+          bound = length (before ++ parts.0);
+          middle = length (before ++ passed.0);
+          references = early.at;
+          parameters = stores.at;
           call = late.at;
         };
         begins = early.begins;

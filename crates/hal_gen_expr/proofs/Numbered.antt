@@ -1,6 +1,6 @@
 -- Views and blocks by their numbers.
-use Rattle.std.specs.Prelude.{◌≡◌, ℕ, zero, suc, ◌+◌, ◌==◌, ◌<◌, min, map, nat_lt, length, Bool, true, false, ◌&&◌, ◌||◌, List, [], ◌∷◌, Option, Some, None, slice_get, if◌then◌else◌}
-use Rattle.std.specs.Option.{option_map, option_and_then}
+use Rattle.std.specs.Prelude.{◌≡◌, ℕ, zero, suc, ◌+◌, ◌==◌, ◌<◌, min, map, nat_lt, length, Bool, true, false, ◌&&◌, ◌||◌, List, [], ◌∷◌, not, Option, Some, None, slice_get, if◌then◌else◌}
+use Rattle.std.specs.Option.{option_map, option_and_then, is_some}
 use Rattle.std.specs.List.{position, position_or_len}
 use Rattle.std.proofs.lemmas.Bool.{eqb-true, ltb-true, and_parts}
 use Rattle.std.proofs.lemmas.List.Sums.{passes_at_first}
@@ -18,16 +18,25 @@ use Rattle.hal_code.specs.declared.row.Target.{Target}
 use Rattle.hal_code.specs.declared.row.Target.TheVariants as target
 use Rattle.hal_code.specs.declared.row.View.{View}
 use Rattle.hal_code.specs.Addressing as machine
+use Rattle.hal_code.specs.Images.{expanded, kinds_of as machine_kinds}
 use Rattle.hal_code.specs.Sorts.{same_kind}
 use Rattle.hal_meaning.specs.Places.{Storing, InCells, InPlaces, ByReference, Unstored}
 use Rattle.hal_meaning.specs.ReportNames.{first_cell, first_place}
+use Rattle.hal_meaning.specs.Elements.{Shape, chosen, offset, kinds_of}
 use Rattle.hal_meaning.specs.Variables as tree
+use Rattle.hal_meaning.specs.Variables.{kind_of_first}
 use Rattle.hal_agreement.specs.Codes.{Code}
-use Rattle.hal_agreement.specs.PlacedExpressions.{Has, dimension_of, IsViewed, AddressAt, BehindAt}
+use Rattle.hal_agreement.specs.PlacedExpressions.{Has, dimension_of, IsViewed, AddressAt, ElementAt}
 use Rattle.hal_agreement.specs.Sites.{Site, here_at}
 use Rattle.hal_gen_expr.specs.Standing.{IsNumbered}
-use Rattle.hal_gen_expr.specs.Numbering.{Numbering, below, most, base_of, same_base, row_of, same_row, same_rows, gives_cell, is_cell_view, view_number}
-use Rattle.hal_gen_expr.specs.Leaves.{is_nil, is_settled, settled_for, place_view, address_of}
+use Rattle.hal_gen_expr.specs.Numbering.{Numbering, below, most, base_of, same_base, row_of, same_row, same_rows, gives_cell, is_cell_view, view_number, same_runs, shape_number, gives_area, is_area_view, area_number}
+use Rattle.hal_gen_expr.specs.declared.aims.Aim.{Aim}
+use Rattle.hal_gen_expr.specs.declared.aims.Aim.TheVariants as aims
+use Rattle.hal_gen_expr.specs.Leaves.{is_one, place_view, address_of, area_of}
+use Rattle.hal_gen_expr.specs.Led.{Led, addressed, plainly_aimed}
+use Rattle.hal_gen_expr.specs.Shapes.{runs_of}
+use Rattle.hal_gen_expr.proofs.SameKinds.{kind_same}
+use Rattle.hal_gen_expr.proofs.Shaped.{kinds_found}
 
 pub below_is : (limit n m : ℕ) → below limit n ≡ Some m → n ≡ m
 below_is limit n m = by (nat_lt n limit) where
@@ -63,13 +72,6 @@ found_by {X} is xs place k true first low found =
 pub first_is : {X : Type 0} (is : X → Bool) (xs : List X) (k : ℕ) → position is xs ≡ Some k → (x : X) × (slice_get xs k ≡ Some x) × (is x ≡ true)
 first_is is xs k found = found_by is xs (position_or_len is xs) k (nat_lt (position_or_len is xs) (length xs)) refl refl found
 
-kind_same : (k l : Kind) → same_kind k l ≡ true → k ≡ l
-kind_same kind.Single kind.Single is = refl
-kind_same kind.Double kind.Double is = refl
-kind_same (kind.Bits m) (kind.Bits n) is = ap kind.Bits (eqb-true m n is)
-kind_same (kind.Text m) (kind.Text n) is = ap kind.Text (eqb-true m n is)
-kind_same other one is = absurd (cc)
-
 base_same : (a b : Base) → same_base a b ≡ true → a ≡ b
 base_same (base.Shared n) (base.Shared m) is = ap base.Shared (eqb-true n m is)
 base_same (base.Own n) (base.Own m) is = ap base.Own (eqb-true n m is)
@@ -100,32 +102,34 @@ target_is : (k : Kind) (t : Target) → gives_cell k t ≡ true → t ≡ target
 target_is k (target.Cell other) is = ap target.Cell (kind_same other k is)
 target_is k (target.Shape shape) is = absurd (cc)
 
-viewed : (from : Base) (ds : List tree.Dimension) (k : Kind) (row : View) (held : List Held) (at : Spot) → is_cell_view from (map row_of ds) k row ≡ true → machine.spot_of from held ≡ at → IsViewed row ds held k at
-viewed from ds k row held at is there =
-    let late = (and_parts (same_base row.base from) (same_rows row.dimensions (map row_of ds) && gives_cell k row.target) is).1 in
-    record {
-      dimensions = rows_are row.dimensions ds ((and_parts (same_rows row.dimensions (map row_of ds)) (gives_cell k row.target) late).0);
-      target = target_is k row.target ((and_parts (same_rows row.dimensions (map row_of ds)) (gives_cell k row.target) late).1);
-      base = ap (λ b. machine.spot_of b held) (base_same row.base from ((and_parts (same_base row.base from) (same_rows row.dimensions (map row_of ds) && gives_cell k row.target) is).0)) ∙ there;
-    }
+area_is : (shape : ℕ) (t : Target) → gives_area shape t ≡ true → t ≡ target.Shape shape
+area_is shape (target.Shape other) is = ap target.Shape (eqb-true other shape is)
+area_is shape (target.Cell k) is = absurd (cc)
 
--- where a view may begin
-settled_is : (rows : List Dimension) (from one : Base) (b : Bool) → (if b then Some from else None) ≡ Some one → from ≡ one
-settled_is rows from one true is = cc
-settled_is rows from one false is = absurd (cc)
+viewed : (from : Base) (ds : List tree.Dimension) (row : View) (held : List Held) (given : Target) (gives : Bool) (at : Spot) → same_base row.base from && (same_rows row.dimensions (map row_of ds) && gives) ≡ true
+    → (gives ≡ true → row.target ≡ given) → machine.spot_of from held ≡ at → IsViewed row ds held given at
+viewed from ds row held given gives at is aimed_at there =
+    let parts = and_parts (same_base row.base from) (same_rows row.dimensions (map row_of ds) && gives) is in
+    let late = and_parts (same_rows row.dimensions (map row_of ds)) gives parts.1 in
+    record { dimensions = rows_are row.dimensions ds late.0; target = aimed_at late.1; base = ap (λ b. machine.spot_of b held) (base_same row.base from parts.0) ∙ there }
 
-begun_is : (rows : List Dimension) (o : Option Base) (one : Base) → option_and_then (settled_for rows) o ≡ Some one → o ≡ Some one
-begun_is rows None one is = absurd (cc)
-begun_is rows (Some from) one is = ap Some (settled_is rows from one (is_nil rows || is_settled from) is)
+cell_viewed : (from : Base) (ds : List tree.Dimension) (k : Kind) (row : View) (held : List Held) (at : Spot) → is_cell_view from (map row_of ds) k row ≡ true → machine.spot_of from held ≡ at
+    → IsViewed row ds held (target.Cell k) at
+cell_viewed from ds k row held at is there = viewed from ds row held (target.Cell k) (gives_cell k row.target) at is (target_is k row.target) there
 
--- where subscripts are evaluated before CELL, it is settled
-settled_by : (from one : Base) (b : Bool) → is_settled from ≡ b → (if b then Some from else None) ≡ Some one → is_settled one ≡ true
-settled_by from one true same is = subst (λ other. is_settled other ≡ true) (let there : from ≡ one = cc in there) same
-settled_by from one false same is = absurd (cc)
+area_viewed : (from : Base) (ds : List tree.Dimension) (shape : ℕ) (row : View) (held : List Held) (at : Spot) → is_area_view from (map row_of ds) shape row ≡ true → machine.spot_of from held ≡ at
+    → IsViewed row ds held (target.Shape shape) at
+area_viewed from ds shape row held at is there = viewed from ds row held (target.Shape shape) (gives_area shape row.target) at is (area_is shape row.target) there
 
-settled_there : (row : Dimension) (rows : List Dimension) (o : Option Base) (one : Base) → option_and_then (settled_for (row ∷ rows)) o ≡ Some one → is_settled one ≡ true
-settled_there row rows None one is = absurd (cc)
-settled_there row rows (Some from) one is = settled_by from one (is_settled from) refl is
+-- what an address leads to
+abbrev pub given_by : Aim → Kind → Target
+given_by aims.Cell kind = target.Cell kind
+given_by (aims.Shape shape) kind = target.Shape shape
+
+-- what holds where something is given under a condition
+pub given_is : {X : Type 0} (b : Bool) (o : Option X) (x : X) → (if b then o else None) ≡ Some x → (b ≡ true) × (o ≡ Some x)
+given_is true o x is = (refl, is)
+given_is false o x is = absurd (cc)
 
 module _ (code : Code) (n : Numbering) (site : Site) (numbered : IsNumbered code n) where
   -- a base leads where the data lie
@@ -163,14 +167,14 @@ module _ (code : Code) (n : Numbering) (site : Site) (numbered : IsNumbered code
   pub address_at : (k : ℕ) (stored : Storing) (at : ℕ) (kind : Kind) (i : Instr) (from : ℕ) (held : List Held) → address_of n site [] k stored at kind ≡ Some i → Has code from i
       → AddressAt code held kind (further at (tree.spot_of (here_at site) held k stored)) from
   address_at k stored at kind i from held is has =
-      let there = then_is (λ b. option_map instr.Cell (view_number n [] kind b)) (option_and_then (settled_for []) (base_of site k at stored)) i is in
+      let there = then_is (λ b. option_map instr.Cell (view_number n [] kind b)) (base_of site k at stored) i is in
       let row = numbered_view [] kind there.0 i there.2 in
       record {
         number = row.0;
         view = row.1;
         cell = subst (λ one. Has code from one) (sym row.2) has;
         row = row.3;
-        plain = viewed there.0 [] kind row.1 held (further at (tree.spot_of (here_at site) held k stored)) row.4 (base_leads k at stored there.0 held (begun_is [] (base_of site k at stored) there.0 there.1));
+        plain = cell_viewed there.0 [] kind row.1 held (further at (tree.spot_of (here_at site) held k stored)) row.4 (base_leads k at stored there.0 held there.1);
       }
 
   -- an own place
@@ -183,33 +187,76 @@ module _ (code : Code) (n : Numbering) (site : Site) (numbered : IsNumbered code
         view = row.1;
         cell = subst (λ one. Has code from one) (sym row.2) has;
         row = row.3;
-        plain = viewed there.0 [] kind.Double row.1 held (Own (first_place site.places k + before)) row.4 (base_leads k before InPlaces there.0 held there.1);
+        plain = cell_viewed there.0 [] kind.Double row.1 held (Own (first_place site.places k + before)) row.4 (base_leads k before InPlaces there.0 held there.1);
       }
 
-  -- data that lie at a base which is settled lie there whatever the own places hold
-  ever_there : (k at : ℕ) (stored : Storing) (from : Base) (held other : List Held) → base_of site k at stored ≡ Some from → is_settled from ≡ true
-      → machine.spot_of from other ≡ further at (tree.spot_of (here_at site) held k stored)
-  ever_there k at (InCells group) from held other is settled = base_leads k at (InCells group) from other is
-  ever_there k at InPlaces from held other is settled = base_leads k at InPlaces from other is
-  ever_there k at ByReference from held other is settled =
-      let place = then_is (λ p. option_map (base.Through p) (below most at)) (below most (first_place site.places k)) from is in
-      let low = mapped_is (base.Through place.0) (below most at) from place.2 in
-      absurd (let never : false ≡ true = ap is_settled low.2 ∙ settled in cc)
-  ever_there k at Unstored from held other is settled = absurd (cc)
+  -- WHOLE with the number of one
+  numbered_area : (rows : List Dimension) (shape : ℕ) (from : Base) (i : Instr) → option_map instr.Whole (area_number n rows shape from) ≡ Some i
+      → (number : ℕ) × (view : View) × (instr.Whole number ≡ i) × (slice_get code.image.views number ≡ Some view) × (is_area_view from rows shape view ≡ true)
+  numbered_area rows shape from i is =
+      let named = mapped_is instr.Whole (area_number n rows shape from) i is in
+      let low = then_is (below most) (position (is_area_view from rows shape) n.views) named.0 named.1 in
+      let row = first_is (is_area_view from rows shape) n.views low.0 low.1
+      in (
+        named.0,
+        row.0,
+        named.2,
+        ap (λ views. slice_get views named.0) numbered.views ∙ (ap (λ m. slice_get n.views m) (sym (below_is most low.0 named.0 low.2)) ∙ row.1),
+        row.2,
+      )
 
-  -- cells in dimensions
-  pub behind_at : (ds : List tree.Dimension) (k : ℕ) (stored : Storing) (at : ℕ) (kind : Kind) (i : Instr) (from : ℕ) (held : List Held) → address_of n site (map row_of ds) k stored at kind ≡ Some i → Has code from i
-      → BehindAt code held ds kind (further at (tree.spot_of (here_at site) held k stored)) from
-  behind_at [] k stored at kind i from held is has = address_at k stored at kind i from held is has
-  behind_at (d ∷ ds) k stored at kind i from held is has =
-      let there = then_is (λ b. option_map instr.Cell (view_number n (map row_of (d ∷ ds)) kind b)) (option_and_then (settled_for (map row_of (d ∷ ds))) (base_of site k at stored)) i is in
-      let row = numbered_view (map row_of (d ∷ ds)) kind there.0 i there.2 in
-      let lies = begun_is (map row_of (d ∷ ds)) (base_of site k at stored) there.0 there.1 in
-      let settled = settled_there (row_of d) (map row_of ds) (base_of site k at stored) there.0 there.1
-      in record {
+  -- where data begin, so many elements behind the first one, while the own places hold something
+  abbrev pub begins_at : ℕ → Storing → ℕ → List Held → Spot
+  begins_at k stored at now = further at (tree.spot_of (here_at site) now k stored)
+
+  -- a cell in dimensions
+  pub behind_at : (ds : List tree.Dimension) (k : ℕ) (stored : Storing) (at : ℕ) (kind : Kind) (i : Instr) (from : ℕ) → address_of n site (map row_of ds) k stored at kind ≡ Some i → Has code from i
+      → ElementAt code ds (target.Cell kind) (begins_at k stored at) from
+  behind_at ds k stored at kind i from is has =
+      let there = then_is (λ b. option_map instr.Cell (view_number n (map row_of ds) kind b)) (base_of site k at stored) i is in
+      let row = numbered_view (map row_of ds) kind there.0 i there.2 in
+      record {
         number = row.0;
         view = row.1;
-        cell = subst (λ one. Has code from one) (sym row.2) has;
+        address = subst (λ one. Has code from one) (sym row.2) has;
         row = row.3;
-        viewed = λ other. viewed there.0 (d ∷ ds) kind row.1 other (further at (tree.spot_of (here_at site) held k stored)) row.4 (ever_there k at stored there.0 held other lies settled);
+        viewed = λ now. cell_viewed there.0 ds kind row.1 now (begins_at k stored at now) row.4 (base_leads k at stored there.0 now there.1);
       }
+
+  -- the cells of a shape in dimensions
+  area_at : (ds : List tree.Dimension) (k : ℕ) (stored : Storing) (at shape : ℕ) (i : Instr) (from : ℕ) → area_of n site (map row_of ds) shape k stored at ≡ Some i → Has code from i
+      → ElementAt code ds (target.Shape shape) (begins_at k stored at) from
+  area_at ds k stored at shape i from is has =
+      let there = then_is (λ b. option_map instr.Whole (area_number n (map row_of ds) shape b)) (base_of site k at stored) i is in
+      let row = numbered_area (map row_of ds) shape there.0 i there.2 in
+      record {
+        number = row.0;
+        view = row.1;
+        address = subst (λ one. Has code from one) (sym row.2) has;
+        row = row.3;
+        viewed = λ now. area_viewed there.0 ds shape row.1 now (begins_at k stored at now) row.4 (base_leads k at stored there.0 now there.1);
+      }
+
+  -- the one or the other
+  abbrev pub LedAt : List tree.Dimension → Aim → Led → ℕ → Type 0
+  LedAt ds aim l from = ElementAt code ds (given_by aim (kind_of_first (chosen l.path l.shape.components))) (begins_at l.declared l.stored (offset l.path l.shape.components)) from
+
+  pub addressed_at : (ds : List tree.Dimension) (aim : Aim) (l : Led) (i : Instr) (from : ℕ) → addressed n site aim (map row_of ds) l ≡ Some i → Has code from i → LedAt ds aim l from
+  addressed_at ds aims.Cell l i from is has = behind_at ds l.declared l.stored (offset l.path l.shape.components) (kind_of_first (chosen l.path l.shape.components)) i from is has
+  addressed_at ds (aims.Shape shape) l i from is has = area_at ds l.declared l.stored (offset l.path l.shape.components) shape i from is has
+
+  -- without subscripts
+  pub plainly_at : (aim : Aim) (l : Led) (i : Instr) (from : ℕ) → plainly_aimed n site aim l ≡ Some i → Has code from i → LedAt [] aim l from
+  plainly_at aims.Cell l i from is has =
+      behind_at [] l.declared l.stored (offset l.path l.shape.components) (kind_of_first (chosen l.path l.shape.components)) i from
+      (given_is (not (is_some l.shape.copies) && is_one (chosen l.path l.shape.components))
+      (address_of n site [] l.declared l.stored (offset l.path l.shape.components) (kind_of_first (chosen l.path l.shape.components))) i is).1 has
+  plainly_at (aims.Shape shape) l i from is has = area_at [] l.declared l.stored (offset l.path l.shape.components) shape i from is has
+
+  -- the kinds of the cells of a shape that is found
+  pub shape_there : (form : Shape) (shape : ℕ) → shape_number n (runs_of form) ≡ Some shape → machine_kinds code.image shape ≡ kinds_of form
+  shape_there form shape is =
+      let low = then_is (below most) (position (λ found. same_runs found (runs_of form)) n.shapes) shape is in
+      let row = first_is (λ found. same_runs found (runs_of form)) n.shapes low.0 low.1 in
+      let there : slice_get code.image.shapes shape ≡ Some row.0 = ap (λ shapes. slice_get shapes shape) numbered.shapes ∙ (ap (λ m. slice_get n.shapes m) (sym (below_is most low.0 shape low.2)) ∙ row.1) in
+      ap (λ o. elim o [ None ↦ [] | Some runs ↦ expanded runs ]) there ∙ kinds_found row.0 form row.2

@@ -1,6 +1,7 @@
 -- What a name means is what it refers to, wherever data lie while the own places hold this.
 use Rattle.std.specs.Prelude.{◌≡◌, ℕ, Bool, true, false, List, pos, Option, Some, None, slice_get, unwrap_or, if◌then◌else◌}
 use Rattle.std.proofs.Common.{refl}
+use Rattle.std.proofs.Math.Path.{fun_ext}
 use Rattle.hal_grammar.specs.Declarations.{Attribute, Declared}
 use Rattle.hal_grammar.specs.Units.{Head, Program, Compool, Task, Procedure, Function}
 use Rattle.hal_phrases.specs.Phrases.{Node, Phrase, OfUnit, OfItem, OfTemporaryGroup}
@@ -91,3 +92,7 @@ module _ (site : Site) (held : List Held) where
   -- a name
   pub name_means : (name : List ℕ) → name_meant (here_at site) name held ≡ meaning_of site held (referent site name)
   name_means name = named_by name (meant site.set.phrases site.block name)
+
+-- whatever the own places hold
+pub always_means : (site : Site) (name : List ℕ) → name_meant (here_at site) name ≡ (λ held. meaning_of site held (referent site name))
+always_means site name = fun_ext (λ held. name_means site held name)

@@ -16,15 +16,20 @@ use Rattle.hal_meaning.specs.Calls.{parameter_named}
 use Rattle.hal_meaning.specs.Expressions.{literal_value, is_condition, are_conditions, operation_of_relation, operation_of_sign, operation_of_conversion, is_size, inputs_at, becomes_condition}
 use Rattle.hal_meaning.specs.Variables.{is_arrayed, is_whole}
 use Rattle.hal_code.specs.declared.choice.Choice.TheVariants as choice
+use Rattle.hal_code.specs.declared.row.Run.{Run}
+use Rattle.hal_values.specs.declared.value.Kind.{Kind}
 use Rattle.hal_code.specs.declared.instr.Instr.{Instr}
 use Rattle.hal_code.specs.declared.instr.Instr.TheVariants as instr
 use Rattle.hal_code.specs.declared.operand.Places.TheVariants as places
 use Rattle.hal_agreement.specs.PlacedExpressions.{pushes, two, picks, places_of}
 use Rattle.hal_agreement.specs.Sites.{Site}
 use Rattle.hal_gen_expr.specs.Emitting.{Emitted, onwards, emit}
-use Rattle.hal_gen_expr.specs.Led.{Led, led_by, sizes_led, cell_of}
-use Rattle.hal_gen_expr.specs.Leaves.{is_nil, element_of, value_of, call_of}
-use Rattle.hal_gen_expr.specs.Numbering.{Numbering}
+use Rattle.hal_gen_expr.specs.declared.aims.Aim.{Aim}
+use Rattle.hal_gen_expr.specs.declared.aims.Aim.TheVariants as aims
+use Rattle.hal_gen_expr.specs.Led.{Led, led_by, sizes_led, aimed, plainly_aimed}
+use Rattle.hal_gen_expr.specs.Leaves.{is_nil, value_of, call_of}
+use Rattle.hal_gen_expr.specs.Numbering.{Numbering, shape_number}
+use Rattle.hal_gen_expr.specs.Shapes.{runs_of}
 use Rattle.hal_gen_expr.specs.Sizes.{size_of_arguments}
 use Rattle.hal_referents.specs.Referents.{Referent, DataOf, ConstantOf, BlockOf, BuiltinOf}
 use Rattle.hal_gen_expr.specs.Referents.{referent}
@@ -90,20 +95,28 @@ name_code n site before name = emit before name.place (value_of n site [] (refer
 abbrev pub integer_code : List Instr → Place → ℕ → Emitted
 integer_code before place number = emit_any before place (integer_instr number)
 
--- CELL of what subscripts choose, whose code stands before it
-abbrev pub cell_code : Numbering → Site → List Instr → Place → Bool → Led → Emitted
-cell_code n site before place spoken l = emit_any before place (cell_of n site spoken l)
+-- the address of what subscripts choose, whose code stands before it
+abbrev pub address_code : Numbering → Site → List Instr → Place → Aim → Bool → Bool → Led → Emitted
+address_code n site before place aim spoken indexed l = emit_any before place (aimed n site aim spoken indexed l)
 
 -- the address that a subscript without a mark chooses, of which the code is given: it is a place of the array of these sizes where there is one
-abbrev pub place_code : Numbering → Site → List Instr → Place → Emitted → Led → List ℕ → Emitted
-place_code n site before place one l [] = cell_code n site before place false l
-place_code n site before place one l (size ∷ sizes) = if is_nil sizes then onwards one (λ middle. cell_code n site middle place false l) else Err place
+abbrev pub place_code : Numbering → Site → List Instr → Place → Aim → Emitted → Led → List ℕ → Emitted
+place_code n site before place aim one l [] = address_code n site before place aim false true l
+place_code n site before place aim one l (size ∷ sizes) = if is_nil sizes then onwards one (λ middle. address_code n site middle place aim false true l) else Err place
 
 -- the subscripts of an array, of which the code is given: those without a mark are its where no others are, and where there is none, none has code
+abbrev pub unmarked_code : Bool → Emitted → Emitted → Emitted
+unmarked_code true unmarked none = unmarked
+unmarked_code false unmarked none = none
+
 abbrev pub array_code : Bool → Bool → Emitted → Emitted → Emitted → Emitted
-array_code true true unmarked marked none = unmarked
-array_code true false unmarked marked none = none
+array_code true arrayed unmarked marked none = unmarked_code arrayed unmarked none
 array_code false arrayed unmarked marked none = marked
+
+-- whether an array may be left as a whole: where the cells of a shape are aimed at, and it has no subscripts
+abbrev pub leaves_array : Aim → Subscripts → Bool
+leaves_array aims.Cell components = false
+leaves_array (aims.Shape shape) components = is_none components
 
 -- the value of data to which names lead, and its component: it is read between them
 abbrev pub led_code : Place → (Led → Emitted) → (Bool → List Instr → Emitted) → Led → Emitted
@@ -113,6 +126,21 @@ led_code place address component l = onwards (address l) (λ middle. onwards (em
 abbrev pub subscripted_code : Numbering → Site → List Instr → Place → List Naming → (Led → Emitted) → (Bool → List Instr → Emitted) → Referent → Emitted
 subscripted_code n site before place path address component r =
     elim (led_by path r) [ None ↦ onwards (emit before place (value_of n site path r)) (λ middle. component false middle) | Some l ↦ led_code place address component l ]
+
+-- the address of data to which names lead, where they are data
+abbrev pub where_led : Place → (Led → Emitted) → Option Led → Emitted
+where_led place address None = Err place
+where_led place address (Some l) = address l
+
+-- something is done with the number of a shape
+abbrev pub with_shape : Place → Option ℕ → (ℕ → Emitted) → Emitted
+with_shape place None go = Err place
+with_shape place (Some shape) go = go shape
+
+-- the code of an argument for a whole parameter, or for one of one element
+abbrev pub passed_code : Bool → Emitted → Emitted → Emitted
+passed_code true whole plain = whole
+passed_code false whole plain = plain
 
 -- whether there is no subscript
 abbrev pub is_plain : Subscript → Bool
@@ -190,29 +218,39 @@ abbrev mutual
       else Err place
   built_code n site before place other arguments = Err place
 
-  -- arguments for input parameters of one element each, from left to right
+  -- arguments for input parameters, from left to right
   pub arguments_code : Numbering → Site → List Instr → Place → ℕ → List Naming → Expressions → Emitted
   arguments_code n site before place unit [] NoExpressions = Ok before
   arguments_code n site before place unit (name ∷ names) (MoreExpressions first others) =
-      if is_whole (parameter_named site.set unit name).shape then Err place
-      else onwards (expression_code n site before first) (λ middle. arguments_code n site middle place unit names others)
+      onwards (passed_code (is_whole (parameter_named site.set unit name).shape) (whole_code n site before place (runs_of (parameter_named site.set unit name).shape) first) (expression_code n site before first))
+      (λ middle. arguments_code n site middle place unit names others)
   arguments_code n site before place unit names arguments = Err place
+
+  -- the address of cells of these kinds that an argument is
+  pub whole_code : Numbering → Site → List Instr → Place → List (Run Kind) → Expression → Emitted
+  whole_code n site before place runs (Referred reference) = area_code n site before runs reference
+  whole_code n site before place runs other = Err place
+
+  -- the same of those that a reference chooses
+  pub area_code : Numbering → Site → List Instr → List (Run Kind) → Reference → Emitted
+  area_code n site before runs (Refers place name path subscript) =
+      with_shape place (shape_number n runs) (λ shape. where_led place (λ l. chosen_code n site before place (aims.Shape shape) subscript l) (led_by path (referent site name)))
 
   -- a reference
   pub reference_code : Numbering → Site → List Instr → Reference → Emitted
   reference_code n site before (Refers place name path subscript) =
       if is_plain subscript then emit before place (value_of n site path (referent site name))
-      else subscripted_code n site before place path (λ l. chosen_code n site before place subscript l) (λ arrayed middle. component_code n site middle place arrayed subscript) (referent site name)
+      else subscripted_code n site before place path (λ l. chosen_code n site before place aims.Cell subscript l) (λ arrayed middle. component_code n site middle place arrayed subscript) (referent site name)
 
-  -- the address of the one element that copy and array subscripts choose, in a reference at this place
-  pub chosen_code : Numbering → Site → List Instr → Place → Subscript → Led → Emitted
-  chosen_code n site before place Unsubscripted l = emit_any before place (element_of n site l.path l.declared l.stored l.shape)
-  chosen_code n site before place (ByName there name) l = place_code n site before place (name_code n site before name) l (sizes_led l)
-  chosen_code n site before place (ByInteger there mark number) l = place_code n site before place (integer_code before place number) l (sizes_led l)
-  chosen_code n site before place (ByParts there copies arrays components) l =
+  -- the address of what copy and array subscripts choose, in a reference at this place
+  pub chosen_code : Numbering → Site → List Instr → Place → Aim → Subscript → Led → Emitted
+  chosen_code n site before place aim Unsubscripted l = emit_any before place (plainly_aimed n site aim l)
+  chosen_code n site before place aim (ByName there name) l = place_code n site before place aim (name_code n site before name) l (sizes_led l)
+  chosen_code n site before place aim (ByInteger there mark number) l = place_code n site before place aim (integer_code before place number) l (sizes_led l)
+  chosen_code n site before place aim (ByParts there copies arrays components) l =
       onwards (copies_code n site before place l.shape.copies copies)
-      (λ middle. onwards (array_code (is_none arrays) (is_arrayed (sizes_led l)) (indexes_code n site middle place (sizes_led l) components) (indexes_code n site middle place (sizes_led l) arrays) (Ok middle))
-      (λ last. cell_code n site last place (not (is_none copies)) l))
+      (λ middle. onwards (array_code (is_none arrays) (is_arrayed (sizes_led l) && not (leaves_array aim components)) (indexes_code n site middle place (sizes_led l) components) (indexes_code n site middle place (sizes_led l) arrays) (Ok middle))
+      (λ last. address_code n site last place aim (not (is_none copies)) (not (is_none arrays && is_none components)) l))
 
   -- a subscript of the copies, where there are copies
   pub copies_code : Numbering → Site → List Instr → Place → Option ℕ → Subscripts → Emitted
@@ -259,3 +297,7 @@ abbrev mutual
       onwards (position_code n site before place (instr.Len 0) first) (λ middle. position_code n site middle place (instr.Len 1) last)
   part_code n site before place (Portion count first) =
       onwards (expression_code n site before count) (λ middle. position_code n site middle place (instr.Len 1) first)
+
+-- the address of the cells of the shape with this number that a reference chooses
+abbrev pub shaped_code : Numbering → Site → List Instr → ℕ → Reference → Emitted
+shaped_code n site before shape (Refers place name path subscript) = where_led place (λ l. chosen_code n site before place (aims.Shape shape) subscript l) (led_by path (referent site name))

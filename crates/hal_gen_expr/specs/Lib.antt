@@ -1,6 +1,7 @@
 pub mod Referents
 pub mod Numbering
 pub mod Leaves
+pub mod Shapes
 pub mod Elements
 pub mod Led
 pub mod Emitting

@@ -1,4 +1,4 @@
--- How the code of a set numbers its views and blocks.
+-- How the code of a set numbers its shapes, views and blocks.
 use Rattle.std.specs.Prelude.{ℕ, ◌+◌, ◌==◌, min, nat_lt, Bool, true, false, ◌&&◌, List, [], ◌∷◌, Option, Some, None, if◌then◌else◌}
 use Rattle.std.specs.List.{position}
 use Rattle.std.specs.Option.{option_map, option_and_then}
@@ -6,6 +6,7 @@ use Rattle.hal_values.specs.declared.value.Kind.{Kind}
 use Rattle.hal_code.specs.declared.row.Base.{Base}
 use Rattle.hal_code.specs.declared.row.Base.TheVariants as base
 use Rattle.hal_code.specs.declared.row.Dimension.{Dimension}
+use Rattle.hal_code.specs.declared.row.Run.{Run}
 use Rattle.hal_code.specs.declared.row.Target.{Target}
 use Rattle.hal_code.specs.declared.row.Target.TheVariants as target
 use Rattle.hal_code.specs.declared.row.View.{View}
@@ -15,14 +16,15 @@ use Rattle.hal_meaning.specs.ReportNames.{first_cell, first_place}
 use Rattle.hal_meaning.specs.Variables as tree
 use Rattle.hal_agreement.specs.Sites.{Site}
 
--- the rows of the views, and the units that are called, in the order of their blocks, of which the first has this number
+-- the rows of the shapes and of the views, and the units that are called, in the order of their blocks, of which the first has this number
 pub record Numbering : Type 0 where
+  pub shapes : List (List (Run Kind))
   pub views : List View
   pub first : ℕ
   pub units : List ℕ
 
-abbrev pub numbering_with : List View → ℕ → List ℕ → Numbering
-numbering_with views first units = record { views = views; first = first; units = units }
+abbrev pub numbering_with : List (List (Run Kind)) → List View → ℕ → List ℕ → Numbering
+numbering_with shapes views first units = record { shapes = shapes; views = views; first = first; units = units }
 
 -- a number below a limit
 abbrev pub below : ℕ → ℕ → Option ℕ
@@ -73,6 +75,38 @@ is_cell_view from rows kind row = same_base row.base from && (same_rows row.dime
 -- the number of this view
 abbrev pub view_number : Numbering → List Dimension → Kind → Base → Option ℕ
 view_number n rows kind from = option_and_then (below most) (position (is_cell_view from rows kind) n.views)
+
+-- whether a run of a shape is this one
+abbrev pub same_run : Run Kind → Run Kind → Bool
+same_run one other = one.repeat == other.repeat && (nat_lt other.repeat most && same_kind one.row other.row)
+
+abbrev pub same_runs : List (Run Kind) → List (Run Kind) → Bool
+same_runs [] [] = true
+same_runs (one ∷ ones) (other ∷ others) = same_run one other && same_runs ones others
+same_runs ones others = false
+
+-- the number of the shape with these runs
+abbrev pub shape_in : List (List (Run Kind)) → List (Run Kind) → Option ℕ
+shape_in shapes runs = option_and_then (below most) (position (λ found. same_runs found runs) shapes)
+
+abbrev pub shape_number : Numbering → List (Run Kind) → Option ℕ
+shape_number n runs = shape_in n.shapes runs
+
+-- the view of the cells of the shape with this number in these dimensions, which begins there
+abbrev pub area_view : Base → List Dimension → ℕ → View
+area_view from rows shape = record { base = from; dimensions = rows; target = target.Shape shape }
+
+abbrev pub gives_area : ℕ → Target → Bool
+gives_area shape (target.Shape other) = other == shape
+gives_area shape (target.Cell kind) = false
+
+-- whether a row is this view
+abbrev pub is_area_view : Base → List Dimension → ℕ → View → Bool
+is_area_view from rows shape row = same_base row.base from && (same_rows row.dimensions rows && gives_area shape row.target)
+
+-- the number of this view
+abbrev pub area_number : Numbering → List Dimension → ℕ → Base → Option ℕ
+area_number n rows shape from = option_and_then (below most) (position (is_area_view from rows shape) n.views)
 
 -- the number of the block of a unit
 abbrev pub block_number : Numbering → ℕ → Option ℕ

@@ -1,5 +1,5 @@
 -- What the program knows of parameters.
-use Rattle.std.specs.Prelude.{ℕ, Option, slice_get}
+use Rattle.std.specs.Prelude.{ℕ, List, Option, slice_get}
 use Rattle.std.specs.Option.{option_and_then}
 use Rattle.hal_grammar.specs.Leaves.{Naming}
 use Rattle.hal_phrases.specs.Phrases.{Phrase}
@@ -10,6 +10,9 @@ use Rattle.hal_meaning.specs.Calls.{parameter_shape}
 use Rattle.hal_meaning.specs.Elements.{Shape}
 use Rattle.hal_meaning.specs.Sets.{Set}
 use Rattle.hal_meaning.specs.Variables.{kind_of_first, is_whole}
+use Rattle.hal_values.specs.declared.value.Kind.{Kind}
+use Rattle.hal_code.specs.declared.row.Run.{Run}
+use Rattle.hal_gen_expr.specs.Shapes.{runs_of}
 use Rattle.hal_gen_expr.specs.declared.parameters.Parameter.{Parameter}
 
 abbrev pub parameter_with : ℕ → Shape → Parameter
@@ -21,6 +24,10 @@ as_parameter p = parameter_with p.number p.shape
 -- the parameter that a phrase declares
 abbrev pub parameter_at : Set → Phrase → Parameter
 parameter_at s p = parameter_with p.number (parameter_shape s p p.node)
+
+-- the kinds of its cells
+abbrev pub runs_at : Set → Phrase → List (Run Kind)
+runs_at s p = runs_of (parameter_shape s p p.node)
 
 -- the phrase that declares the parameter of this name of a unit
 abbrev pub declaration : Set → ℕ → Naming → Option Phrase

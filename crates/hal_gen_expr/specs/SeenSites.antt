@@ -27,7 +27,7 @@ unfoldable pub seen_site : rust-site.Site → Site
 seen_site s = record { set = seen_set s.set.now; places = map lent_place s.places.now; unit = s.unit; block = s.block; marks = s.marks.now }
 
 unfoldable pub seen_numbering : rust-site.Site → Numbering
-seen_numbering s = numbering_with s.views.now s.calls.first s.calls.units.now
+seen_numbering s = numbering_with s.shapes.now s.views.now s.calls.first s.calls.units.now
 
 -- what is looked up is that of the set
 pub data IsSite (s : rust-site.Site) : Type 0 where

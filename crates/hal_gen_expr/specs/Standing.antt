@@ -10,8 +10,9 @@ pub record Begins (before all : List Instr) : Type 0 where
   pub more : List Instr
   pub is : all ≡ before ++ more
 
--- an image has the views and blocks by these numbers
+-- an image has the shapes, views and blocks by these numbers
 pub record IsNumbered (code : Code) (n : Numbering) : Type 0 where
+  pub shapes : code.image.shapes ≡ n.shapes
   pub views : code.image.views ≡ n.views
   pub blocks : (unit number : ℕ) → block_number n unit ≡ Some number → (code.block unit ≡ Some number) × (row : Block) × (slice_get code.image.blocks number ≡ Some row)
 

@@ -1,12 +1,12 @@
 //! The code of calls.
 
-ghost use Rattle.std.specs.Prelude.{◌≡◌, ◌++◌, ◌∷◌, [], ◌+◌, ◌==◌, IfOk, map};
+ghost use Rattle.std.specs.Prelude.{◌≡◌, [], ◌+◌, ◌==◌, IfOk, map};
 ghost use Rattle.std.specs.List.{position};
 ghost use Rattle.hal_tree.specs.SeenLeaves.{seen_name};
 ghost use Rattle.hal_tree.specs.SeenUnits.{seen_head};
 ghost use Rattle.hal_set.specs.SeenBodies.{seen_body};
 ghost use Rattle.hal_meaning.specs.Calls as units;
-ghost use Rattle.hal_meaning.specs.Expressions.{inputs_at};
+ghost use Rattle.hal_meaning.specs.Expressions.{inputs_at, outputs_at};
 ghost use Rattle.hal_meaning.specs.Places.{InPlaces};
 ghost use Rattle.hal_meaning.specs.Variables.{is_whole};
 ghost use Rattle.hal_gen_expr.specs.Emits.{Emits};
@@ -15,20 +15,22 @@ ghost use Rattle.hal_gen_expr.specs.Calling as calling;
 ghost use Rattle.hal_gen_expr.specs.Leaves as leaves;
 ghost use Rattle.hal_gen_expr.specs.Numbering as numbers;
 ghost use Rattle.hal_gen_expr.specs.Parameters as parameters;
+ghost use Rattle.hal_gen_expr.specs.Shapes.{runs_of};
 ghost use Rattle.hal_gen_expr.specs.SeenSites.{seen_site, seen_numbering, IsSite};
 
 use crate::bodies::body_at;
 use crate::elements::Element;
-use crate::leaves::{emit_two, push};
-use crate::parameters::{Parameter, parameter_named};
+use crate::leaves::{emit_one, emit_two, push};
+use crate::parameters::{Parameter, parameter_named, parameter_runs};
 use crate::site::Site;
 use crate::uncoded::Uncoded;
-use crate::views::{address_of, numbered};
+use crate::views::{address_of, numbered, own_place};
 use hal_base::Place;
 use hal_cells::Storing;
-use hal_code::Instr;
+use hal_code::{Instr, Run};
 use hal_set::Body;
 use hal_tree::{Head, Identifier};
+use hal_values::Kind;
 use std::alloc::AllocError;
 
 /// The place of a unit among those that are called.
@@ -68,7 +70,7 @@ pub(crate) fn lacks_names(names: &[Identifier]) -> bool
     }
 }
 
-/// Whether a unit with this head is called so: a FUNCTION for its value, a PROCEDURE for none, and without ASSIGN parameters.
+/// Whether a unit with this head is called so: a FUNCTION for its value, a PROCEDURE for none.
 #[tactic(auto, using(hal_tree::proofs::MadeUnits::made_program, hal_tree::proofs::MadeUnits::made_compool, hal_tree::proofs::MadeUnits::made_task, hal_tree::proofs::MadeUnits::made_procedure, hal_tree::proofs::MadeUnits::made_function))]
 fn is_called_so(head: &Head, function: bool) -> bool
     ensures { result ≡ calling.is_called_so function (seen_head head.now) }
@@ -77,7 +79,7 @@ fn is_called_so(head: &Head, function: bool) -> bool
         Head::Program { .. } => !function,
         Head::Compool { .. } => !function,
         Head::Task { .. } => !function,
-        Head::Procedure { outputs, .. } => !function && lacks_names(outputs),
+        Head::Procedure { .. } => !function,
         Head::Function { .. } => function,
     }
 }
@@ -102,6 +104,86 @@ fn parameter_address(site: &Site<'_>, one: Parameter) -> Option<Instr>
     address_of(site, &[], one.declared, Storing::InPlaces, element)
 }
 
+/// Adds BIND of an ASSIGN parameter.
+fn emit_bound(
+    code: &mut Vec<Instr>,
+    site: &Site<'_>,
+    place: Place,
+    one: Parameter,
+) -> Result<(), Uncoded>
+    ensures { Emits (emitting.emit code.old.items place (calling.bound_by (seen_site site.now) one)) result code.new.items }
+{
+    match own_place(site, one.declared) {
+        None => Err(Uncoded::At(place)),
+        Some(number) => emit_one(code, place, Instr::Bind(number)),
+    }
+}
+
+/// Adds BIND of the ASSIGN parameter of this name of the unit with this number.
+fn emit_bind(
+    code: &mut Vec<Instr>,
+    site: &Site<'_>,
+    place: Place,
+    unit: usize,
+    name: &Identifier,
+) -> Result<(), Uncoded>
+    ensures { Emits (calling.bind_code (seen_site site.now) place unit code.old.items (seen_name name.now)) result code.new.items }
+{
+    let one = parameter_in(site, unit, name)?;
+    emit_bound(code, site, place, one)
+}
+
+/// Adds those of the ASSIGN parameters of these names, from the last to the first.
+#[cycle(binds)]
+#[tactic(auto, unfolding(crate::specs::Calling::binds_code))]
+fn emit_binds(
+    names: &[Identifier],
+    code: &mut Vec<Instr>,
+    site: &Site<'_>,
+    place: Place,
+    unit: usize,
+) -> Result<(), Uncoded>
+    ensures { Emits (calling.binds_code (seen_site site.now) place unit code.old.items (map seen_name names.now)) result code.new.items }
+{
+    let Some((name, others)) = names.split_first() else {
+        return Ok(());
+    };
+    emit_binds(others, code, site, place, unit)?;
+    emit_bind(code, site, place, unit, name)
+}
+
+/// Adds COPY of a whole argument in its parameter.
+fn emit_copied(
+    code: &mut Vec<Instr>,
+    site: &Site<'_>,
+    place: Place,
+    one: Parameter,
+) -> Result<(), Uncoded>
+    ensures { Emits (emitting.emit code.old.items place (calling.copied_by (seen_site site.now) one)) result code.new.items }
+{
+    match own_place(site, one.declared) {
+        None => Err(Uncoded::At(place)),
+        Some(number) => emit_one(code, place, Instr::Copy(number)),
+    }
+}
+
+/// Adds the store of an argument in its parameter.
+fn emit_stored(
+    code: &mut Vec<Instr>,
+    site: &Site<'_>,
+    place: Place,
+    one: Parameter,
+) -> Result<(), Uncoded>
+    requires site { IsSite site.now }
+    ensures { Emits (emitting.emit code.old.items place (calling.stored_by (seen_numbering site.now) (seen_site site.now) one)) result code.new.items }
+{
+    if one.whole {
+        return emit_copied(code, site, place, one);
+    }
+    let address = parameter_address(site, one);
+    emit_two(code, place, address, Instr::Keep)
+}
+
 /// Adds the store of an argument in the parameter of this name of the unit with this number.
 fn emit_store(
     code: &mut Vec<Instr>,
@@ -114,8 +196,7 @@ fn emit_store(
     ensures { Emits (calling.store_code (seen_numbering site.now) (seen_site site.now) place unit code.old.items (seen_name name.now)) result code.new.items }
 {
     let one = parameter_in(site, unit, name)?;
-    let address = parameter_address(site, one);
-    emit_two(code, place, address, Instr::Keep)
+    emit_stored(code, site, place, one)
 }
 
 /// Adds those of the parameters of these names, from the last to the first.
@@ -152,6 +233,28 @@ fn inputs_of(head: &Head) -> &[Identifier]
     }
 }
 
+/// The names of the ASSIGN parameters of a unit with this head.
+#[tactic(auto, using(hal_tree::proofs::MadeUnits::made_program, hal_tree::proofs::MadeUnits::made_compool, hal_tree::proofs::MadeUnits::made_task, hal_tree::proofs::MadeUnits::made_procedure, hal_tree::proofs::MadeUnits::made_function))]
+fn outputs_of(head: &Head) -> &[Identifier]
+    ensures { map seen_name result.now ≡ units.outputs_of (seen_head head.now) }
+{
+    match head {
+        Head::Program { .. } => &[],
+        Head::Compool { .. } => &[],
+        Head::Task { .. } => &[],
+        Head::Procedure { outputs, .. } => outputs.as_slice(),
+        Head::Function { .. } => &[],
+    }
+}
+
+/// The names of the ASSIGN parameters of a unit (language document, Units).
+#[tactic(auto, using(hal_tree::proofs::MadeUnits::parts_of_unit))]
+pub fn outputs_in<'a>(body: &Body<'a>) -> &'a [Identifier]
+    ensures { map seen_name result.now ≡ units.outputs_of (seen_body body.now).head }
+{
+    outputs_of(&body.unit.head)
+}
+
 /// The names of the input parameters of a unit (language document, Units).
 #[tactic(auto, using(hal_tree::proofs::MadeUnits::parts_of_unit))]
 pub fn inputs_in<'a>(body: &Body<'a>) -> &'a [Identifier]
@@ -182,6 +285,7 @@ fn emit_numbered(
     let Some(number) = number else {
         return Err(Uncoded::At(place));
     };
+    emit_binds(outputs_in(body), code, site, place, body.number)?;
     emit_stores(inputs_in(body), code, site, place, body.number)?;
     push(code, Instr::Call(number))?;
     Ok(())
@@ -209,13 +313,35 @@ pub fn emit_call(
 }
 
 /// The names of the input parameters of the unit with this number.
-pub(crate) fn inputs_at<'a>(site: &Site<'a>, unit: usize) -> &'a [Identifier]
+pub fn inputs_at<'a>(site: &Site<'a>, unit: usize) -> &'a [Identifier]
     ensures { map seen_name result.now ≡ inputs_at (seen_site site.now).set unit }
 {
     match body_at(site, unit) {
         None => &[],
         Some(body) => inputs_in(body),
     }
+}
+
+/// The names of the ASSIGN parameters of the unit with this number.
+pub fn outputs_at<'a>(site: &Site<'a>, unit: usize) -> &'a [Identifier]
+    ensures { map seen_name result.now ≡ outputs_at (seen_site site.now).set unit }
+{
+    match body_at(site, unit) {
+        None => &[],
+        Some(body) => outputs_in(body),
+    }
+}
+
+/// The kinds of the cells of the parameter of this name of the unit with this number.
+#[tactic(auto, unfolding(crate::specs::SeenSites::seen_site))]
+pub(crate) fn runs_in(
+    site: &Site<'_>,
+    unit: usize,
+    name: &Identifier,
+) -> Result<Vec<Run<Kind>>, AllocError>
+    ensures { IfOk result (λ runs. runs.items ≡ runs_of (units.parameter_named (seen_site site.now).set unit (seen_name name.now)).shape) }
+{
+    parameter_runs(site.alloc, site.set, unit, name)
 }
 
 /// Whether the parameter of this name of the unit with this number is an array or a structure.

@@ -1,7 +1,6 @@
 //! The code of expressions.
 
-ghost use Rattle.std.specs.Prelude.{◌≡◌, ◌∷◌, [], map};
-ghost use Rattle.std.specs.Option.{option_map};
+ghost use Rattle.std.specs.Prelude.{◌≡◌, true, map};
 ghost use Rattle.hal_tree.specs.Rows.{expressions, terms};
 ghost use Rattle.hal_tree.specs.SeenExpressions.{seen_expression, seen_signed};
 ghost use Rattle.hal_tree.specs.SeenLeaves.{seen_conversion, seen_literal, seen_name};
@@ -12,29 +11,29 @@ ghost use Rattle.hal_referents.specs.SeenReferents.{seen_meant, seen_referent};
 ghost use Rattle.hal_gen_expr.specs.Called as called;
 ghost use Rattle.hal_gen_expr.specs.Calling as calling;
 ghost use Rattle.hal_gen_expr.specs.Emits.{Emits};
-ghost use Rattle.hal_gen_expr.specs.Emitting as emitting;
 ghost use Rattle.hal_gen_expr.specs.ExpressionCode as codes;
 ghost use Rattle.hal_gen_expr.specs.Leaves as leaves;
 ghost use Rattle.hal_gen_expr.specs.SeenSites.{seen_site, seen_numbering, IsSite};
 
-use crate::calls::{emit_call, inputs_at, is_whole_parameter, lacks_names, require_call};
+use crate::calls::{emit_call, inputs_at, is_whole_parameter, lacks_names, require_call, runs_in};
 use crate::conditions::{emit_operand, joins_conditions};
 use crate::leaves::{
     emit_any, emit_one, emit_sign, emit_two, exponent_instr, literal_instr, one,
     operation_of_relation, two,
 };
 use crate::names::{emit_value, referent};
-use crate::references::emit_reference;
+use crate::references::{emit_area, emit_reference};
 use crate::site::Site;
 use crate::sizes::emit_size;
 use crate::uncoded::Uncoded;
 use hal_base::Place;
-use hal_code::Instr;
+use hal_code::{Instr, Run};
 use hal_constants::{Operation, operation_of, operation_of_conversion, operation_of_sign};
 use hal_operations::{Op1, Op2};
 use hal_referents::{Meant, Referent};
 use hal_scope::Builtin;
 use hal_tree::{Conversion, Expr, Identifier, LiteralValue, SignedTerm};
+use hal_values::Kind;
 
 /// Whether a built-in function is SIZE.
 fn is_size(builtin: Builtin) -> bool
@@ -220,7 +219,7 @@ pub fn emit_expression(tree: &Expr, code: &mut Vec<Instr>, site: &Site<'_>) -> R
             Form::One(op) => emit_of_one(arguments, code, site, *place, op),
             Form::Two(op) => emit_of_two(arguments, code, site, *place, op),
             Form::Size => emit_size(code, *place, arguments, site),
-            Form::Called(unit) => emit_called(arguments, code, site, *place, true, unit),
+            Form::Called(unit) => emit_called(arguments, code, site, *place, unit),
             Form::Uncoded => Err(Uncoded::At(*place)),
         },
         Expr::Convert {
@@ -355,6 +354,54 @@ fn emit_of_two(
     emit_one(code, place, two(op))
 }
 
+/// Adds the code of the address of cells of these kinds that an argument is.
+#[cycle(expressions)]
+#[tactic(auto, using(hal_tree::proofs::MadeExpressions::made_or, hal_tree::proofs::MadeExpressions::made_and, hal_tree::proofs::MadeExpressions::made_compare, hal_tree::proofs::MadeExpressions::made_cat, hal_tree::proofs::MadeExpressions::made_sum, hal_tree::proofs::MadeExpressions::made_product, hal_tree::proofs::MadeExpressions::made_power, hal_tree::proofs::MadeExpressions::made_not, hal_tree::proofs::MadeExpressions::made_literal, hal_tree::proofs::MadeExpressions::made_decimal, hal_tree::proofs::MadeExpressions::made_referred, hal_tree::proofs::MadeExpressions::made_call, hal_tree::proofs::MadeExpressions::made_convert, hal_tree::proofs::MadeExpressions::made_parenthesis))]
+fn emit_whole(
+    tree: &Expr,
+    code: &mut Vec<Instr>,
+    site: &Site<'_>,
+    place: Place,
+    runs: &[Run<Kind>],
+) -> Result<(), Uncoded>
+    requires site { IsSite site.now }
+    ensures { Emits (codes.whole_code (seen_numbering site.now) (seen_site site.now) code.old.items place runs.now (seen_expression tree.now)) result code.new.items }
+{
+    match tree {
+        Expr::Reference(reference) => emit_area(reference, code, site, runs),
+        Expr::Or { .. } => Err(Uncoded::At(place)),
+        Expr::And { .. } => Err(Uncoded::At(place)),
+        Expr::Compare { .. } => Err(Uncoded::At(place)),
+        Expr::Cat { .. } => Err(Uncoded::At(place)),
+        Expr::Sum { .. } => Err(Uncoded::At(place)),
+        Expr::Product { .. } => Err(Uncoded::At(place)),
+        Expr::Power { .. } => Err(Uncoded::At(place)),
+        Expr::Not { .. } => Err(Uncoded::At(place)),
+        Expr::Literal { .. } => Err(Uncoded::At(place)),
+        Expr::Decimal { .. } => Err(Uncoded::At(place)),
+        Expr::Call { .. } => Err(Uncoded::At(place)),
+        Expr::Convert { .. } => Err(Uncoded::At(place)),
+        Expr::Parenthesis { .. } => Err(Uncoded::At(place)),
+    }
+}
+
+/// Adds the code of the address of the cells that an argument is, for the whole parameter of this name of the unit with this number.
+#[cycle(expressions)]
+fn emit_whole_argument(
+    tree: &Expr,
+    code: &mut Vec<Instr>,
+    site: &Site<'_>,
+    place: Place,
+    unit: usize,
+    name: &Identifier,
+) -> Result<(), Uncoded>
+    requires site { IsSite site.now }
+    ensures { Emits (calling.whole_argument_code (seen_numbering site.now) (seen_site site.now) code.old.items place unit (seen_name name.now) (seen_expression tree.now)) result code.new.items }
+{
+    let runs = runs_in(site, unit, name)?;
+    emit_whole(tree, code, site, place, &runs)
+}
+
 /// Adds the code of an argument for the parameter of this name of the unit with this number.
 #[cycle(expressions)]
 fn emit_argument(
@@ -369,15 +416,15 @@ fn emit_argument(
     ensures { Emits (calling.argument_code (seen_numbering site.now) (seen_site site.now) code.old.items place unit (seen_name name.now) (seen_expression tree.now)) result code.new.items }
 {
     if is_whole_parameter(site, unit, name)? {
-        return Err(Uncoded::At(place));
+        return emit_whole_argument(tree, code, site, place, unit, name);
     }
     emit_expression(tree, code, site)
 }
 
 /// Adds the code of arguments for the input parameters of the unit with this number, from left to right.
 #[cycle(expressions)]
-#[tactic(auto, using(crate::proofs::Calling::argument_first), unfolding(hal_tree::specs::Rows::expressions))]
-fn emit_arguments(
+#[tactic(auto, unfolding(hal_tree::specs::Rows::expressions))]
+pub(crate) fn emit_arguments(
     arguments: &Vec<Expr>,
     code: &mut Vec<Instr>,
     site: &Site<'_>,
@@ -402,21 +449,20 @@ fn emit_arguments(
     }
 }
 
-/// Adds the code of a call of the unit with this number: of a FUNCTION for its value, or of a PROCEDURE (language document, Units).
+/// Adds the code of a call of the FUNCTION with this number (language document, Units).
 #[cycle(expressions)]
 #[tactic(auto, using(crate::proofs::Calling::behind_given, crate::proofs::Calling::behind_stopped, crate::proofs::Calling::behind_none))]
-pub fn emit_called(
+fn emit_called(
     arguments: &Vec<Expr>,
     code: &mut Vec<Instr>,
     site: &Site<'_>,
     place: Place,
-    function: bool,
     unit: usize,
 ) -> Result<(), Uncoded>
     requires site { IsSite site.now }
-    ensures { Emits (codes.behind_arguments place (codes.arguments_code (seen_numbering site.now) (seen_site site.now) code.old.items place unit (meaning.inputs_at (seen_site site.now).set unit) (expressions (map seen_expression arguments.now.items))) (leaves.call_of (seen_numbering site.now) (seen_site site.now) function unit)) result code.new.items }
+    ensures { Emits (codes.behind_arguments place (codes.arguments_code (seen_numbering site.now) (seen_site site.now) code.old.items place unit (meaning.inputs_at (seen_site site.now).set unit) (expressions (map seen_expression arguments.now.items))) (leaves.call_of (seen_numbering site.now) (seen_site site.now) true unit)) result code.new.items }
 {
-    require_call(site, place, function, unit)?;
+    require_call(site, place, true, unit)?;
     emit_arguments(arguments, code, site, place, unit)?;
-    emit_call(code, site, place, function, unit)
+    emit_call(code, site, place, true, unit)
 }

@@ -14,11 +14,12 @@ ghost use Rattle.hal_gen_expr.specs.Numbering.{row_of};
 ghost use Rattle.hal_gen_expr.specs.SeenLed.{seen_led};
 ghost use Rattle.hal_gen_expr.specs.SeenSites.{seen_site, seen_numbering, IsSite};
 
+use crate::aims::Aim;
 use crate::elements::{Element, first_element, sizes_named};
 use crate::leaves::emit_one;
 use crate::site::Site;
 use crate::uncoded::Uncoded;
-use crate::views::address_of;
+use crate::views::{address_of, area_of, element_of};
 use hal_base::Place;
 use hal_cells::Storing;
 use hal_code::{Dimension, Instr};
@@ -125,17 +126,29 @@ fn copies_led(alloc: Global, spoken: bool, shape: &Shape) -> Result<Vec<Dimensio
     Ok(rows)
 }
 
-/// The dimensions in which subscripts choose: that of the copies, where they speak of it, and those of the array (image document, Views).
+/// Adds those of an array with these sizes, where subscripts speak of it.
+fn push_arrays(into: &mut Vec<Dimension>, indexed: bool, sizes: &[u16]) -> Result<(), AllocError>
+    ensures { OnOk result (into.new.items ≡ into.old.items ++ map row_of (leading.arrays_led indexed sizes.now)) }
+{
+    if indexed {
+        push_sizes(into, sizes)
+    } else {
+        Ok(())
+    }
+}
+
+/// The dimensions in which subscripts choose: that of the copies, and those of the array, where they speak of them (image document, Views).
 #[tactic(auto, using(crate::proofs::Listed::both_mapped), unfolding(crate::specs::SeenLed::seen_led))]
 pub fn dimensions_led(
     alloc: Global,
     spoken: bool,
+    indexed: bool,
     led: Led<'_>,
 ) -> Result<Vec<Dimension>, AllocError>
-    ensures { IfOk result (λ rows. rows.items ≡ map row_of (leading.dimensions_led spoken (seen_led led.entry))) }
+    ensures { IfOk result (λ rows. rows.items ≡ map row_of (leading.dimensions_led spoken indexed (seen_led led.entry))) }
 {
     let mut rows = copies_led(alloc, spoken, led.shape)?;
-    push_sizes(&mut rows, sizes_led(led))?;
+    push_arrays(&mut rows, indexed, sizes_led(led))?;
     Ok(rows)
 }
 
@@ -147,30 +160,64 @@ pub fn first_led(led: Led<'_>) -> Element
     first_element(led.path, &led.shape.components)
 }
 
-/// CELL of the elements in these dimensions, where a view leads to them.
-#[tactic(auto, using(crate::proofs::Capped::address_capped), unfolding(crate::specs::SeenLed::seen_led))]
-fn cell_of(site: &Site<'_>, spoken: bool, led: Led<'_>) -> Result<Option<Instr>, AllocError>
+/// The address of what they lead to in these dimensions, where a view leads to it.
+#[tactic(auto, using(crate::proofs::Capped::address_capped, crate::proofs::Capped::area_capped), unfolding(crate::specs::SeenLed::seen_led))]
+fn addressed(site: &Site<'_>, aim: Aim, rows: &[Dimension], led: Led<'_>) -> Option<Instr>
     requires site { IsSite site.now }
-    ensures { IfOk result (λ cell. cell ≡ leading.cell_of (seen_numbering site.now) (seen_site site.now) spoken (seen_led led.entry)) }
+    ensures { result ≡ leading.addressed (seen_numbering site.now) (seen_site site.now) aim rows.now (seen_led led.entry) }
 {
-    let rows = dimensions_led(site.alloc, spoken, led)?;
     let one = first_led(led);
-    Ok(address_of(site, &rows, led.declared, led.stored, one))
+    match aim {
+        Aim::Cell => address_of(site, rows, led.declared, led.stored, one),
+        Aim::Shape(shape) => area_of(site, rows, shape, led.declared, led.stored, one.before),
+    }
 }
 
-/// Adds CELL of them, behind the code of the subscripts that choose among them.
-pub(crate) fn emit_cell(
+/// The address of what subscripts choose among them.
+fn aimed(
+    site: &Site<'_>,
+    aim: Aim,
+    spoken: bool,
+    indexed: bool,
+    led: Led<'_>,
+) -> Result<Option<Instr>, AllocError>
+    requires site { IsSite site.now }
+    ensures { IfOk result (λ address. address ≡ leading.aimed (seen_numbering site.now) (seen_site site.now) aim spoken indexed (seen_led led.entry)) }
+{
+    let rows = dimensions_led(site.alloc, spoken, indexed, led)?;
+    Ok(addressed(site, aim, &rows, led))
+}
+
+/// The address of what they lead to without subscripts: a cell is the one element.
+#[tactic(auto, using(crate::proofs::Capped::area_capped), unfolding(crate::specs::SeenLed::seen_led))]
+pub(crate) fn plainly_aimed(site: &Site<'_>, aim: Aim, led: Led<'_>) -> Option<Instr>
+    requires site { IsSite site.now }
+    ensures { result ≡ leading.plainly_aimed (seen_numbering site.now) (seen_site site.now) aim (seen_led led.entry) }
+{
+    match aim {
+        Aim::Cell => element_of(site, led.path, led.declared, led.stored, led.shape),
+        Aim::Shape(shape) => {
+            let one = first_led(led);
+            area_of(site, &[], shape, led.declared, led.stored, one.before)
+        }
+    }
+}
+
+/// Adds the address of what subscripts choose among them, behind the code of these subscripts.
+pub(crate) fn emit_address(
     code: &mut Vec<Instr>,
     site: &Site<'_>,
     place: Place,
+    aim: Aim,
     spoken: bool,
+    indexed: bool,
     led: Led<'_>,
 ) -> Result<(), Uncoded>
     requires site { IsSite site.now }
-    ensures { Emits (codes.cell_code (seen_numbering site.now) (seen_site site.now) code.old.items place spoken (seen_led led.entry)) result code.new.items }
+    ensures { Emits (codes.address_code (seen_numbering site.now) (seen_site site.now) code.old.items place aim spoken indexed (seen_led led.entry)) result code.new.items }
 {
-    match cell_of(site, spoken, led)? {
+    match aimed(site, aim, spoken, indexed, led)? {
         None => Err(Uncoded::At(place)),
-        Some(cell) => emit_one(code, place, cell),
+        Some(address) => emit_one(code, place, address),
     }
 }

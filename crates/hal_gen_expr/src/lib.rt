@@ -1,6 +1,7 @@
 //! The code of expressions: which instructions stand for each phrase, and that they do.
 #![tactic(auto)]
 
+mod aims;
 mod bodies;
 mod calls;
 mod conditions;
@@ -11,24 +12,29 @@ mod leaves;
 mod led;
 mod names;
 mod parameters;
+mod procedures;
 mod references;
+mod shapes;
 mod site;
 mod sizes;
 mod subscripts;
 mod uncoded;
 mod views;
 
+pub use aims::Aim;
 pub use bodies::body_at;
-pub use calls::{emit_call, inputs_in};
+pub use calls::{emit_call, inputs_at, inputs_in, outputs_at, outputs_in};
 pub use elements::{Element, element_named, leads};
-pub use expressions::{emit_called, emit_expression};
+pub use expressions::emit_expression;
 pub use laws::the_code_of_an_expression_stands_for_it;
 pub use leaves::{emit_one, emit_two, one, picks, push, pushes, two};
 pub use led::{Led, dimensions_led, first_led, led_by, sizes_led};
 pub use names::{emit_name, referent};
-pub use parameters::{Parameter, parameter_named};
-pub use references::{emit_chosen, emit_integer, is_arrayed, is_plain, speaks};
+pub use parameters::{Parameter, parameter_named, parameter_runs, runs_at};
+pub use procedures::emit_procedure;
+pub use references::{emit_chosen, emit_integer, indexes, is_arrayed, is_plain, speaks};
+pub use shapes::runs_of;
 pub use site::{Calls, Events, Site};
 pub use subscripts::{are_none, emit_part, places_of};
 pub use uncoded::Uncoded;
-pub use views::{base_of, element_of, is_cell_view, place_view};
+pub use views::{base_of, element_of, has_runs, is_area_view, is_cell_view, place_view, shape_in};

@@ -9,7 +9,10 @@ ghost use Rattle.hal_tree.specs.SeenLeaves.{seen_name};
 ghost use Rattle.hal_meaning.specs.Calls.{parameter_named};
 ghost use Rattle.hal_meaning.specs.Variables as variables;
 ghost use Rattle.hal_gen_expr.specs.Parameters as parameters;
+ghost use Rattle.hal_gen_expr.specs.Shapes.{runs_of};
 
+use crate::shapes::runs_of;
+use hal_code::Run;
 use hal_elements::{Component, Shape, shape_of};
 use hal_names::{Key, Space};
 use hal_phrases::{Node, Phrase};
@@ -88,6 +91,23 @@ fn parameter_at(alloc: Global, set: &Set<'_>, phrase: &Phrase<'_>) -> Result<Par
     }
 }
 
+/// The kinds of the cells of the parameter that a phrase declares; none where it declares no data.
+pub fn runs_at(
+    alloc: Global,
+    set: &Set<'_>,
+    phrase: &Phrase<'_>,
+) -> Result<Vec<Run<Kind>>, AllocError>
+    ensures { IfOk result (λ runs. runs.items ≡ parameters.runs_at (seen_set set.now) (seen_phrase phrase.now)) }
+{
+    match phrase.node {
+        Node::Item { common, item } => {
+            let shape = shape_of(alloc, set.names, set.known, phrase, common, item)?;
+            runs_of(alloc, &shape)
+        }
+        _ => Ok(Vec::new(alloc)),
+    }
+}
+
 /// The phrase that declares the parameter of this name of the unit with this number.
 fn declaration<'a>(set: &Set<'a>, unit: usize, name: &Identifier) -> Option<Phrase<'a>>
     ensures { option_map seen_phrase result ≡ parameters.declaration (seen_set set.now) unit (seen_name name.now) }
@@ -113,5 +133,21 @@ pub fn parameter_named(
     match declaration(set, unit, name) {
         None => Ok(UNDECLARED),
         Some(phrase) => parameter_at(alloc, set, &phrase),
+    }
+}
+
+/// The kinds of the cells of the parameter of this name of the unit with this number (language document, Units).
+#[tactic(auto, using(crate::proofs::FoundParameters::runs_found))]
+pub fn parameter_runs(
+    alloc: Global,
+    set: &Set<'_>,
+    unit: usize,
+    name: &Identifier,
+) -> Result<Vec<Run<Kind>>, AllocError>
+    ensures { IfOk result (λ runs. runs.items ≡ runs_of (parameter_named (seen_set set.now) unit (seen_name name.now)).shape) }
+{
+    match declaration(set, unit, name) {
+        None => Ok(Vec::new(alloc)),
+        Some(phrase) => runs_at(alloc, set, &phrase),
     }
 }

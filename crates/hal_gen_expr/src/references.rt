@@ -6,6 +6,7 @@ ghost use Rattle.hal_tree.specs.SeenLeaves.{seen_name};
 ghost use Rattle.hal_code.specs.declared.instr.Instr.TheVariants as instr;
 ghost use Rattle.hal_meaning.specs.Variables as variables;
 ghost use Rattle.hal_referents.specs.SeenReferents.{seen_meant};
+ghost use Rattle.hal_gen_expr.specs.declared.aims.Aim.TheVariants as aims;
 ghost use Rattle.hal_gen_expr.specs.Emits.{Emits};
 ghost use Rattle.hal_gen_expr.specs.Emitting.{onwards};
 ghost use Rattle.hal_gen_expr.specs.ExpressionCode as codes;
@@ -13,17 +14,19 @@ ghost use Rattle.hal_gen_expr.specs.Led as leading;
 ghost use Rattle.hal_gen_expr.specs.SeenLed.{seen_led};
 ghost use Rattle.hal_gen_expr.specs.SeenSites.{seen_site, seen_numbering, IsSite};
 
+use crate::aims::Aim;
 use crate::leaves::{emit_any, emit_one, integer_instr, picks};
-use crate::led::{Led, emit_cell, led_by, sizes_led};
+use crate::led::{Led, emit_address, led_by, plainly_aimed, sizes_led};
 use crate::names::{emit_name, emit_value, referent};
 use crate::site::Site;
-use crate::subscripts::{are_none, emit_copies, emit_parts, emit_places};
+use crate::subscripts::{are_none, emit_copies, emit_parts, emit_places, emit_unmarked};
 use crate::uncoded::Uncoded;
-use crate::views::element_of;
+use crate::views::shape_number;
 use hal_base::Place;
-use hal_code::{Instr, Places};
+use hal_code::{Instr, Places, Run};
 use hal_referents::Meant;
 use hal_tree::{Identifier, Reference, Subscript};
+use hal_values::Kind;
 
 /// Whether there is no subscript.
 #[tactic(auto, using(hal_tree::proofs::MadeExpressions::made_unsubscripted, hal_tree::proofs::MadeExpressions::made_by_name, hal_tree::proofs::MadeExpressions::made_by_integer, hal_tree::proofs::MadeExpressions::made_by_parts))]
@@ -53,6 +56,24 @@ pub fn speaks(subscript: &Subscript) -> bool
             arrays: _,
             components: _,
         } => !are_none(copies),
+    }
+}
+
+/// Whether a subscript speaks of the array: subscripts without a mark are its where it has any.
+#[tactic(auto, using(hal_tree::proofs::MadeExpressions::made_unsubscripted, hal_tree::proofs::MadeExpressions::made_by_name, hal_tree::proofs::MadeExpressions::made_by_integer, hal_tree::proofs::MadeExpressions::made_by_parts))]
+pub fn indexes(subscript: &Subscript) -> bool
+    ensures { result ≡ leading.indexes (seen_subscript subscript.now) }
+{
+    match subscript {
+        Subscript::None => false,
+        Subscript::Name { .. } => true,
+        Subscript::Integer { .. } => true,
+        Subscript::Parts {
+            place: _,
+            copies: _,
+            arrays,
+            components,
+        } => !(are_none(arrays) && are_none(components)),
     }
 }
 
@@ -103,7 +124,7 @@ fn emit_subscripted(
     meant: Meant<'_>,
 ) -> Result<(), Uncoded>
     requires site { IsSite site.now }
-    ensures { Emits (codes.subscripted_code (seen_numbering site.now) (seen_site site.now) code.old.items place (map seen_name path.now) (λ l. codes.chosen_code (seen_numbering site.now) (seen_site site.now) code.old.items place (seen_subscript subscript.now) l) (λ arrayed middle. codes.component_code (seen_numbering site.now) (seen_site site.now) middle place arrayed (seen_subscript subscript.now)) (seen_meant meant.entry)) result code.new.items }
+    ensures { Emits (codes.subscripted_code (seen_numbering site.now) (seen_site site.now) code.old.items place (map seen_name path.now) (λ l. codes.chosen_code (seen_numbering site.now) (seen_site site.now) code.old.items place aims.Cell (seen_subscript subscript.now) l) (λ arrayed middle. codes.component_code (seen_numbering site.now) (seen_site site.now) middle place arrayed (seen_subscript subscript.now)) (seen_meant meant.entry)) result code.new.items }
 {
     match led_by(path, meant) {
         Some(led) => emit_led(subscript, code, site, place, led),
@@ -124,9 +145,9 @@ fn emit_led(
     led: Led<'_>,
 ) -> Result<(), Uncoded>
     requires site { IsSite site.now }
-    ensures { Emits (codes.led_code place (λ l. codes.chosen_code (seen_numbering site.now) (seen_site site.now) code.old.items place (seen_subscript subscript.now) l) (λ arrayed middle. codes.component_code (seen_numbering site.now) (seen_site site.now) middle place arrayed (seen_subscript subscript.now)) (seen_led led.entry)) result code.new.items }
+    ensures { Emits (codes.led_code place (λ l. codes.chosen_code (seen_numbering site.now) (seen_site site.now) code.old.items place aims.Cell (seen_subscript subscript.now) l) (λ arrayed middle. codes.component_code (seen_numbering site.now) (seen_site site.now) middle place arrayed (seen_subscript subscript.now)) (seen_led led.entry)) result code.new.items }
 {
-    emit_chosen(subscript, code, site, place, led)?;
+    emit_chosen(subscript, code, site, place, Aim::Cell, led)?;
     emit_fetched(subscript, code, site, place, is_arrayed(sizes_led(led)))
 }
 
@@ -146,8 +167,8 @@ fn emit_fetched(
     emit_component(subscript, code, site, place, arrayed)
 }
 
-/// Adds the code of the address of the one element that the subscripts of copies and of the array choose, in a reference that begins at this place (image
-/// document, Code that stands for a set).
+/// Adds the code of the address of what the subscripts of copies and of the array choose, in a reference that begins at this place (image document, Code that
+/// stands for a set).
 #[cycle(expressions)]
 #[tactic(auto, using(hal_tree::proofs::MadeExpressions::made_unsubscripted, hal_tree::proofs::MadeExpressions::made_by_name, hal_tree::proofs::MadeExpressions::made_by_integer, hal_tree::proofs::MadeExpressions::made_by_parts), unfolding(crate::specs::SeenLed::seen_led))]
 pub fn emit_chosen(
@@ -155,22 +176,20 @@ pub fn emit_chosen(
     code: &mut Vec<Instr>,
     site: &Site<'_>,
     place: Place,
+    aim: Aim,
     led: Led<'_>,
 ) -> Result<(), Uncoded>
     requires site { IsSite site.now }
-    ensures { Emits (codes.chosen_code (seen_numbering site.now) (seen_site site.now) code.old.items place (seen_subscript subscript.now) (seen_led led.entry)) result code.new.items }
+    ensures { Emits (codes.chosen_code (seen_numbering site.now) (seen_site site.now) code.old.items place aim (seen_subscript subscript.now) (seen_led led.entry)) result code.new.items }
 {
     match subscript {
-        Subscript::None => {
-            let one = element_of(site, led.path, led.declared, led.stored, led.shape);
-            emit_any(code, place, one)
-        }
-        Subscript::Name { place: _, name } => emit_by_name(code, site, place, name, led),
+        Subscript::None => emit_any(code, place, plainly_aimed(site, aim, led)),
+        Subscript::Name { place: _, name } => emit_by_name(code, site, place, name, aim, led),
         Subscript::Integer {
             place: _,
             at: _,
             number,
-        } => emit_by_integer(code, site, place, *number, led),
+        } => emit_by_integer(code, site, place, *number, aim, led),
         Subscript::Parts {
             place: _,
             copies,
@@ -180,13 +199,54 @@ pub fn emit_chosen(
             emit_copies(copies, code, site, place, led.shape.copies)?;
             let spoken = !are_none(copies);
             if !are_none(arrays) {
-                emit_places(arrays, code, site, place, spoken, led)
-            } else if is_arrayed(sizes_led(led)) {
-                emit_places(components, code, site, place, spoken, led)
+                emit_places(arrays, code, site, place, aim, spoken, led)
             } else {
-                emit_cell(code, site, place, spoken, led)
+                emit_unmarked(components, code, site, place, aim, spoken, led)
             }
         }
+    }
+}
+
+/// Adds the code of the address of the cells of this shape that a reference chooses.
+#[cycle(expressions)]
+#[tactic(auto, using(hal_tree::proofs::MadeExpressions::made_reference))]
+fn emit_shaped(
+    reference: &Reference,
+    code: &mut Vec<Instr>,
+    site: &Site<'_>,
+    shape: u32,
+) -> Result<(), Uncoded>
+    requires site { IsSite site.now }
+    ensures { Emits (codes.shaped_code (seen_numbering site.now) (seen_site site.now) code.old.items shape (seen_reference reference.now)) result code.new.items }
+{
+    let Some(led) = led_by(&reference.further, referent(site, &reference.name)) else {
+        return Err(Uncoded::At(reference.place));
+    };
+    emit_chosen(
+        &reference.subscript,
+        code,
+        site,
+        reference.place,
+        Aim::Shape(shape),
+        led,
+    )
+}
+
+/// Adds the code of the address of cells of these kinds that a reference chooses.
+#[cycle(expressions)]
+#[tactic(auto, using(hal_tree::proofs::MadeExpressions::made_reference))]
+pub(crate) fn emit_area(
+    reference: &Reference,
+    code: &mut Vec<Instr>,
+    site: &Site<'_>,
+    runs: &[Run<Kind>],
+) -> Result<(), Uncoded>
+    requires site { IsSite site.now }
+    ensures { Emits (codes.area_code (seen_numbering site.now) (seen_site site.now) code.old.items runs.now (seen_reference reference.now)) result code.new.items }
+{
+    match shape_number(site, runs) {
+        None => Err(Uncoded::At(reference.place)),
+        Some(shape) => emit_shaped(reference, code, site, shape),
     }
 }
 
@@ -196,19 +256,20 @@ fn emit_by_name(
     site: &Site<'_>,
     place: Place,
     name: &Identifier,
+    aim: Aim,
     led: Led<'_>,
 ) -> Result<(), Uncoded>
     requires site { IsSite site.now }
-    ensures { Emits (codes.place_code (seen_numbering site.now) (seen_site site.now) code.old.items place (codes.name_code (seen_numbering site.now) (seen_site site.now) code.old.items (seen_name name.now)) (seen_led led.entry) (leading.sizes_led (seen_led led.entry))) result code.new.items }
+    ensures { Emits (codes.place_code (seen_numbering site.now) (seen_site site.now) code.old.items place aim (codes.name_code (seen_numbering site.now) (seen_site site.now) code.old.items (seen_name name.now)) (seen_led led.entry) (leading.sizes_led (seen_led led.entry))) result code.new.items }
 {
     let Some((_, others)) = sizes_led(led).split_first() else {
-        return emit_cell(code, site, place, false, led);
+        return emit_address(code, site, place, aim, false, true, led);
     };
     if !others.is_empty() {
         return Err(Uncoded::At(place));
     }
     emit_name(code, site, name)?;
-    emit_cell(code, site, place, false, led)
+    emit_address(code, site, place, aim, false, true, led)
 }
 
 /// Adds an integer in a subscript, where it has 31 bits.
@@ -224,19 +285,20 @@ fn emit_by_integer(
     site: &Site<'_>,
     place: Place,
     number: u32,
+    aim: Aim,
     led: Led<'_>,
 ) -> Result<(), Uncoded>
     requires site { IsSite site.now }
-    ensures { Emits (codes.place_code (seen_numbering site.now) (seen_site site.now) code.old.items place (codes.integer_code code.old.items place number) (seen_led led.entry) (leading.sizes_led (seen_led led.entry))) result code.new.items }
+    ensures { Emits (codes.place_code (seen_numbering site.now) (seen_site site.now) code.old.items place aim (codes.integer_code code.old.items place number) (seen_led led.entry) (leading.sizes_led (seen_led led.entry))) result code.new.items }
 {
     let Some((_, others)) = sizes_led(led).split_first() else {
-        return emit_cell(code, site, place, false, led);
+        return emit_address(code, site, place, aim, false, true, led);
     };
     if !others.is_empty() {
         return Err(Uncoded::At(place));
     }
     emit_integer(code, place, number)?;
-    emit_cell(code, site, place, false, led)
+    emit_address(code, site, place, aim, false, true, led)
 }
 
 /// Adds the code of the component of the value on the stack, of data with an array or without one.

@@ -1,9 +1,10 @@
 //! Where phrases stand.
 
-use hal_code::View;
+use hal_code::{Run, View};
 use hal_own_places::Place;
 use hal_referents::{FirstCells, Referent};
 use hal_set::Set;
+use hal_values::{Kind, Listing};
 use std::alloc::Global;
 
 /// The phrases that declare events, by their numbers.
@@ -37,6 +38,8 @@ pub struct Site<'a> {
     pub block: usize,
     /// The phrases of the unit that are looked up.
     pub marks: &'a [usize],
+    /// The kinds of the cells of the shapes, in the order of their numbers.
+    pub shapes: &'a [Listing<Run<Kind>>],
     /// The views, in the order of their numbers.
     pub views: &'a [View],
     pub calls: Calls<'a>,

@@ -1,10 +1,11 @@
 //! The code of subscripts.
 
-ghost use Rattle.std.specs.Prelude.{◌≡◌, map, pos};
+ghost use Rattle.std.specs.Prelude.{◌≡◌, ◌&&◌, not, true, map, pos, Ok};
 ghost use Rattle.hal_tree.specs.Rows.{subscripts};
 ghost use Rattle.hal_tree.specs.SeenExpressions.{seen_position, seen_sub};
 ghost use Rattle.hal_code.specs.declared.instr.Instr.TheVariants as instr;
 ghost use Rattle.hal_constants.specs.Constants.{is_none};
+ghost use Rattle.hal_meaning.specs.Variables as variables;
 ghost use Rattle.hal_agreement.specs.PlacedExpressions as placed;
 ghost use Rattle.hal_gen_expr.specs.Emits.{Emits};
 ghost use Rattle.hal_gen_expr.specs.Emitting.{onwards};
@@ -13,9 +14,11 @@ ghost use Rattle.hal_gen_expr.specs.Led as leading;
 ghost use Rattle.hal_gen_expr.specs.SeenLed.{seen_led};
 ghost use Rattle.hal_gen_expr.specs.SeenSites.{seen_site, seen_numbering, IsSite};
 
+use crate::aims::Aim;
 use crate::expressions::{emit_expression, emit_terms};
 use crate::leaves::{emit_one, emit_two, picks};
-use crate::led::{Led, emit_cell, sizes_led};
+use crate::led::{Led, emit_address, sizes_led};
+use crate::references::is_arrayed;
 use crate::site::Site;
 use crate::uncoded::Uncoded;
 use hal_base::Place;
@@ -75,14 +78,48 @@ pub(crate) fn emit_places(
     code: &mut Vec<Instr>,
     site: &Site<'_>,
     place: Place,
+    aim: Aim,
     spoken: bool,
     led: Led<'_>,
 ) -> Result<(), Uncoded>
     requires site { IsSite site.now }
-    ensures { Emits (onwards (codes.indexes_code (seen_numbering site.now) (seen_site site.now) code.old.items place (leading.sizes_led (seen_led led.entry)) (subscripts (map seen_sub subs.now.items))) (λ last. codes.cell_code (seen_numbering site.now) (seen_site site.now) last place spoken (seen_led led.entry))) result code.new.items }
+    ensures { Emits (onwards (codes.indexes_code (seen_numbering site.now) (seen_site site.now) code.old.items place (leading.sizes_led (seen_led led.entry)) (subscripts (map seen_sub subs.now.items))) (λ last. codes.address_code (seen_numbering site.now) (seen_site site.now) last place aim spoken true (seen_led led.entry))) result code.new.items }
 {
     emit_indexes(subs, code, site, place, sizes_led(led))?;
-    emit_cell(code, site, place, spoken, led)
+    emit_address(code, site, place, aim, spoken, true, led)
+}
+
+/// Whether an array may be left as a whole: where the cells of a shape are aimed at, and it has no subscripts.
+fn leaves_array(aim: Aim, components: &[Sub]) -> bool
+    ensures { result ≡ codes.leaves_array aim (subscripts (map seen_sub components.now)) }
+{
+    match aim {
+        Aim::Cell => false,
+        Aim::Shape(_) => are_none(components),
+    }
+}
+
+/// Adds the code of the address that subscripts without a mark choose, behind one of the copies where it was spoken of: they are the array's, where there is one.
+#[cycle(expressions)]
+pub(crate) fn emit_unmarked(
+    components: &Vec<Sub>,
+    code: &mut Vec<Instr>,
+    site: &Site<'_>,
+    place: Place,
+    aim: Aim,
+    spoken: bool,
+    led: Led<'_>,
+) -> Result<(), Uncoded>
+    requires site { IsSite site.now }
+    ensures { Emits (onwards (codes.unmarked_code (variables.is_arrayed (leading.sizes_led (seen_led led.entry)) && not (codes.leaves_array aim (subscripts (map seen_sub components.now.items)))) (codes.indexes_code (seen_numbering site.now) (seen_site site.now) code.old.items place (leading.sizes_led (seen_led led.entry)) (subscripts (map seen_sub components.now.items))) (Ok code.old.items)) (λ last. codes.address_code (seen_numbering site.now) (seen_site site.now) last place aim spoken (not (is_none (subscripts (map seen_sub components.now.items)))) (seen_led led.entry))) result code.new.items }
+{
+    let indexed = !are_none(components);
+    if is_arrayed(sizes_led(led)) && !leaves_array(aim, components) {
+        emit_indexes(components, code, site, place, sizes_led(led))?;
+        emit_address(code, site, place, aim, spoken, indexed, led)
+    } else {
+        emit_address(code, site, place, aim, spoken, indexed, led)
+    }
 }
 
 /// Adds the code of subscripts of an array of these sizes, one place for each.

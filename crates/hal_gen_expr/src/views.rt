@@ -14,11 +14,11 @@ ghost use Rattle.hal_gen_expr.specs.SeenSites.{lent_place, lent_place_in, seen_s
 use crate::elements::{Element, element_named};
 use crate::site::Site;
 use hal_cells::Storing;
-use hal_code::{Base, Dimension, Instr, Target, View};
+use hal_code::{Base, Dimension, Instr, Run, Target, View};
 use hal_elements::Shape;
 use hal_own_places::Place;
 use hal_tree::Identifier;
-use hal_values::Kind;
+use hal_values::{Kind, Listing};
 
 /// The place among these of the first one that the phrase with this number has.
 fn place_in(places: &[&Place], owner: usize) -> Option<usize>
@@ -33,6 +33,14 @@ fn first_place(places: &[&Place], owner: usize) -> usize
     ensures { result ≡ first_place (map lent_place places.now) owner }
 {
     place_in(places, owner).unwrap_or(0)
+}
+
+/// The number of the first own place of the parameter that the phrase with this number declares.
+#[tactic(auto, unfolding(crate::specs::SeenSites::seen_site))]
+pub(crate) fn own_place(site: &Site<'_>, declared: usize) -> Option<u32>
+    ensures { result ≡ numbers.below numbers.most (first_place (seen_site site.now).places declared) }
+{
+    numbered(first_place(site.places, declared))
 }
 
 /// A number of 32 bits, below 4,294,967,295.
@@ -168,29 +176,6 @@ fn view_number(site: &Site<'_>, rows: &[Dimension], kind: Kind, from: Base) -> O
     numbered(place)
 }
 
-/// Whether data lie there whatever the own places hold.
-fn is_settled(from: Base) -> bool
-    ensures { result ≡ leaves.is_settled from }
-{
-    match from {
-        Base::Shared(_) => true,
-        Base::Own(_) => true,
-        Base::Through { .. } => false,
-        Base::Other { .. } => false,
-    }
-}
-
-/// Where a view in these dimensions begins. Where it has some, subscripts are evaluated before CELL, which may change what the own places hold.
-fn settled_for(rows: &[Dimension], from: Base) -> Option<Base>
-    ensures { result ≡ leaves.settled_for rows.now from }
-{
-    if rows.is_empty() || is_settled(from) {
-        Some(from)
-    } else {
-        None
-    }
-}
-
 /// CELL of the elements in these dimensions of the data that the phrase with this number declares and that are stored so, before which so many lie.
 pub(crate) fn address_of(
     site: &Site<'_>,
@@ -202,10 +187,108 @@ pub(crate) fn address_of(
     requires site { IsSite site.now }
     ensures { result ≡ leaves.address_of (seen_numbering site.now) (seen_site site.now) rows.now declared (seen_storing stored) one.before one.kind }
 {
-    let base = base_of(site, declared, stored, one.before)?;
-    let from = settled_for(rows, base)?;
+    let from = base_of(site, declared, stored, one.before)?;
     let number = view_number(site, rows, one.kind, from)?;
     Some(Instr::Cell(number))
+}
+
+/// Whether a run of a shape is this one; from 4,294,967,295 on no count is one of a shape.
+fn is_same_run(one: &Run<Kind>, other: &Run<Kind>) -> bool
+    ensures { result ≡ numbers.same_run one.now other.now }
+{
+    one.repeat == other.repeat && (other.repeat < 4_294_967_295 && is_same_kind(one.row, other.row))
+}
+
+/// Whether the runs of a shape are these (image document, Views).
+pub fn has_runs(found: &[Run<Kind>], wanted: &[Run<Kind>]) -> bool
+    ensures { result ≡ numbers.same_runs found.now wanted.now }
+{
+    let Some((one, ones)) = found.split_first() else {
+        return wanted.is_empty();
+    };
+    let Some((other, others)) = wanted.split_first() else {
+        return false;
+    };
+    is_same_run(one, other) && has_runs(ones, others)
+}
+
+/// The place among shapes of that with these runs.
+fn place_among(shapes: &[Listing<Run<Kind>>], runs: &[Run<Kind>]) -> Option<usize>
+    ensures { result ≡ position (λ found. numbers.same_runs found runs.now) shapes.now }
+{
+    shapes
+        .iter()
+        .position(|found| has_runs(found.as_slice(), runs))
+}
+
+/// The number among shapes of that with these runs (image document, Views).
+pub fn shape_in(shapes: &[Listing<Run<Kind>>], runs: &[Run<Kind>]) -> Option<u32>
+    ensures { result ≡ numbers.shape_in shapes.now runs.now }
+{
+    let place = place_among(shapes, runs)?;
+    numbered(place)
+}
+
+/// Whether a view gives the cells of the shape with this number.
+fn gives_area(shape: u32, target: Target) -> bool
+    ensures { result ≡ numbers.gives_area shape target }
+{
+    match target {
+        Target::Cell(_) => false,
+        Target::Shape(other) => other == shape,
+    }
+}
+
+/// Whether a view is that of the cells of the shape with this number in these dimensions, which begins there (image document, Views).
+pub fn is_area_view(from: Base, rows: &[Dimension], shape: u32, view: &View) -> bool
+    ensures { result ≡ numbers.is_area_view from rows.now shape view.now }
+{
+    is_same_base(view.base, from)
+        && (has_rows(view.dimensions.as_slice(), rows) && gives_area(shape, view.target))
+}
+
+/// The place of this view among views.
+fn place_of_area(views: &[View], rows: &[Dimension], from: Base, shape: u32) -> Option<usize>
+    ensures { result ≡ position (numbers.is_area_view from rows.now shape) views.now }
+{
+    views
+        .iter()
+        .position(|view| is_area_view(from, rows, shape, view))
+}
+
+/// The number of this view.
+#[tactic(auto, unfolding(crate::specs::SeenSites::seen_numbering))]
+fn area_number(site: &Site<'_>, rows: &[Dimension], shape: u32, from: Base) -> Option<u32>
+    ensures { result ≡ numbers.area_number (seen_numbering site.now) rows.now shape from }
+{
+    let place = place_of_area(site.views, rows, from, shape)?;
+    numbered(place)
+}
+
+/// The number of the shape with these runs.
+#[tactic(auto, unfolding(crate::specs::SeenSites::seen_numbering))]
+pub(crate) fn shape_number(site: &Site<'_>, runs: &[Run<Kind>]) -> Option<u32>
+    ensures { result ≡ numbers.shape_number (seen_numbering site.now) runs.now }
+{
+    shape_in(site.shapes, runs)
+}
+
+/// WHOLE of the cells of the shape with this number in these dimensions, of the data that the phrase with this number declares and that are stored so, before which
+/// so many lie.
+pub(crate) fn area_of(
+    site: &Site<'_>,
+    rows: &[Dimension],
+    shape: u32,
+    declared: usize,
+    stored: Storing,
+    before: u32,
+) -> Option<Instr>
+    requires site { IsSite site.now }
+    ensures { result ≡ leaves.area_of (seen_numbering site.now) (seen_site site.now) rows.now shape declared (seen_storing stored) before }
+{
+    let from = base_of(site, declared, stored, before)?;
+    let number = area_number(site, rows, shape, from)?;
+    Some(Instr::Whole(number))
 }
 
 /// The number of the view of an own place of kind DOUBLE, before which so many lie of those of the phrase with this number.

@@ -11,6 +11,7 @@ use Rattle.hal_link.specs.declared.unlinked.Unlinked.TheVariants as unlinked
 use Rattle.hal_link.specs.Links.{Links}
 use Rattle.hal_link.specs.Linking.{Linked, Linking, and_then, with_unit, with_units, with_outline, with_outlines}
 use Rattle.hal_link.specs.Outlines.{Outline}
+use Rattle.hal_link.specs.Shapes.{Shapes}
 
 -- what stops those behind it
 stopped_by : (T U : Type 0) (e : Linking) (next : Linked → Linking) (u : Unlinked) (code after : List Instr) (blocks later : List Block) → Links {T = T} e (Err u) code blocks → Links {T = U} (and_then e next) (Err u) after later
@@ -35,9 +36,9 @@ units_stopped T U s n p k ks units so_far all u q r code after blocks later spli
     stopped T U (with_unit s n p so_far (body_at s k)) all (with_units s n p ks) u q r code after blocks later here failed is there
 
 -- a process that does
-pub outlines_stopped : (T U : Type 0) (s : Set) (views : List View) (o : Outline) (os outlines : List Outline) (so_far : Linked) (all : Linking) (u : Unlinked) (q : Result T Unlinked) (r : Result U Unlinked) (code after : List Instr) (blocks later : List Block)
-    → outlines ≡ o ∷ os → with_outlines s views outlines so_far ≡ all → q ≡ Err u → r ≡ Err u → Links (with_outline s views o so_far) q code blocks → Links all r after later
+pub outlines_stopped : (T U : Type 0) (s : Set) (shapes : Shapes) (views : List View) (o : Outline) (os outlines : List Outline) (so_far : Linked) (all : Linking) (u : Unlinked) (q : Result T Unlinked) (r : Result U Unlinked) (code after : List Instr) (blocks later : List Block)
+    → outlines ≡ o ∷ os → with_outlines s shapes views outlines so_far ≡ all → q ≡ Err u → r ≡ Err u → Links (with_outline s shapes views o so_far) q code blocks → Links all r after later
 unfolding with_outlines
-outlines_stopped T U s views o os outlines so_far all u q r code after blocks later split kept failed is there =
-    let here : and_then (with_outline s views o so_far) (with_outlines s views os) ≡ all = ap (λ list. with_outlines s views list so_far) (sym split) ∙ kept in
-    stopped T U (with_outline s views o so_far) all (with_outlines s views os) u q r code after blocks later here failed is there
+outlines_stopped T U s shapes views o os outlines so_far all u q r code after blocks later split kept failed is there =
+    let here : and_then (with_outline s shapes views o so_far) (with_outlines s shapes views os) ≡ all = ap (λ list. with_outlines s shapes views list so_far) (sym split) ∙ kept in
+    stopped T U (with_outline s shapes views o so_far) all (with_outlines s shapes views os) u q r code after blocks later here failed is there

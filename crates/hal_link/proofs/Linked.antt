@@ -26,8 +26,9 @@ use Rattle.hal_gen_expr.proofs.Forwarding.{Goes, none_goes, joined_goes}
 use Rattle.hal_gen_expr.proofs.Growing.{append_append, length_of_one_more}
 use Rattle.hal_gen_expr.proofs.Numbered as numbered
 use Rattle.hal_link.specs.Outlines.{Outline, own_block, block_of, outlines_of, ranks_of, numbering_of}
-use Rattle.hal_link.specs.ProcessCode.{finish_of, process_code}
-use Rattle.hal_link.specs.UnitCode.{clears_of, cleared_code, end_of, unit_code, unit_block}
+use Rattle.hal_link.specs.ProcessCode.{process_code}
+use Rattle.hal_link.specs.Shapes.{shapes_of}
+use Rattle.hal_link.specs.UnitCode.{clears_of, cleared_code, unit_code, unit_block}
 use Rattle.hal_link.specs.Linking.{Linked, linked, Linking, and_then, process_block, process_site, behind_block, with_process, with_unit, with_units, with_outline, with_outlines, image_with, linking, image_by, image_of}
 use Rattle.hal_link.proofs.Beginning.{all_begin}
 use Rattle.hal_link.proofs.Clearing.{all_cleared}
@@ -87,38 +88,38 @@ module _ (s : Set) (views : List View) where
       let there = block_linked row so_far late r is in
       ap (λ (l : Linked). length l.blocks) (sym there.2) ∙ length_of_one_more so_far.blocks (row (length so_far.code) (length there.0))
 
-  unit_longer : (o : Outline) (b : Option Body) (so_far late : Linked) → with_unit s (numbering_of views o) o.process so_far b ≡ Ok late → length late.blocks ≡ suc (length so_far.blocks)
+  unit_longer : (o : Outline) (b : Option Body) (so_far late : Linked) → with_unit s (numbering_of (shapes_of s) views o) o.process so_far b ≡ Ok late → length late.blocks ≡ suc (length so_far.blocks)
   unit_longer o None so_far late is = absurd (cc)
   unit_longer o (Some body) so_far late is =
-      one_longer (unit_block o.process body.head) so_far late (unit_code (numbering_of views o) (process_site s o.process body) so_far.code body.head body.statements) is
+      one_longer (unit_block o.process body.head) so_far late (unit_code (numbering_of (shapes_of s) views o) (process_site s o.process body) so_far.code body.head body.statements) is
 
-  process_longer : (o : Outline) (b : Option Body) (so_far late : Linked) → with_process s (numbering_of views o) o.process so_far b ≡ Ok late → length late.blocks ≡ suc (length so_far.blocks)
+  process_longer : (o : Outline) (b : Option Body) (so_far late : Linked) → with_process s (numbering_of (shapes_of s) views o) o.process so_far b ≡ Ok late → length late.blocks ≡ suc (length so_far.blocks)
   process_longer o None so_far late is = absurd (cc)
   process_longer o (Some body) so_far late is =
-      let code = process_code (numbering_of views o) (process_site s o.process body) so_far.code body.statements in
+      let code = process_code (numbering_of (shapes_of s) views o) (process_site s o.process body) so_far.code body.statements in
       one_longer (process_block o.process) so_far late code ((unless_function (is_function body.head) (behind_block (process_block o.process) so_far code) late is).1)
 
-  units_longer : (o : Outline) (ks : List ℕ) (so_far late : Linked) → with_units s (numbering_of views o) o.process ks so_far ≡ Ok late → length late.blocks ≡ length so_far.blocks + length ks
+  units_longer : (o : Outline) (ks : List ℕ) (so_far late : Linked) → with_units s (numbering_of (shapes_of s) views o) o.process ks so_far ≡ Ok late → length late.blocks ≡ length so_far.blocks + length ks
   unfolding with_units
   units_longer o [] so_far late is = let same : so_far ≡ late = cc in let long = ap (λ (l : Linked). length l.blocks) same in omega (arith, long)
   units_longer o (k ∷ ks) so_far late is =
-      let there = both_linked (with_unit s (numbering_of views o) o.process so_far (body_at s k)) (with_units s (numbering_of views o) o.process ks) late is in
+      let there = both_linked (with_unit s (numbering_of (shapes_of s) views o) o.process so_far (body_at s k)) (with_units s (numbering_of (shapes_of s) views o) o.process ks) late is in
       let first = unit_longer o (body_at s k) so_far there.0 there.1 in
       let others = units_longer o ks there.0 late there.2 in
       omega (arith, first, others)
 
-  outline_longer : (o : Outline) (so_far late : Linked) → with_outline s views o so_far ≡ Ok late → length late.blocks ≡ length so_far.blocks + suc (length o.called)
+  outline_longer : (o : Outline) (so_far late : Linked) → with_outline s (shapes_of s) views o so_far ≡ Ok late → length late.blocks ≡ length so_far.blocks + suc (length o.called)
   outline_longer o so_far late is =
-      let there = both_linked (with_units s (numbering_of views o) o.process o.called so_far) (λ middle. with_process s (numbering_of views o) o.process middle (body_at s o.unit)) late is in
+      let there = both_linked (with_units s (numbering_of (shapes_of s) views o) o.process o.called so_far) (λ middle. with_process s (numbering_of (shapes_of s) views o) o.process middle (body_at s o.unit)) late is in
       let units = units_longer o o.called so_far there.0 there.1 in
       let last = process_longer o (body_at s o.unit) there.0 late there.2 in
       omega (arith, units, last)
 
-  outlines_longer : (os : List Outline) (so_far late : Linked) → with_outlines s views os so_far ≡ Ok late → length so_far.blocks ≤ length late.blocks
+  outlines_longer : (os : List Outline) (so_far late : Linked) → with_outlines s (shapes_of s) views os so_far ≡ Ok late → length so_far.blocks ≤ length late.blocks
   unfolding with_outlines
   outlines_longer [] so_far late is = let same : so_far ≡ late = cc in let long = ap (λ (l : Linked). length l.blocks) same in omega (arith, long)
   outlines_longer (o ∷ os) so_far late is =
-      let there = both_linked (with_outline s views o so_far) (with_outlines s views os) late is in
+      let there = both_linked (with_outline s (shapes_of s) views o so_far) (with_outlines s (shapes_of s) views os) late is in
       let first = outline_longer o so_far there.0 there.1 in
       let others = outlines_longer os there.0 late there.2 in
       omega (arith, first, others)
@@ -129,7 +130,7 @@ module _ (s : Set) (views : List View) (whole : Linked) where
 
   -- the code of a process: the image with the blocks of the units that it calls
   abbrev code_of : Outline → Code
-  code_of o = record { image = image; block = block_number (numbering_of views o) }
+  code_of o = record { image = image; block = block_number (numbering_of (shapes_of s) views o) }
 
   -- the image alone
   abbrev code : Code
@@ -144,7 +145,7 @@ module _ (s : Set) (views : List View) (whole : Linked) where
     pub there : slice_get o.called place ≡ Some unit
     pub is : o.first + place ≡ number
 
-  number_given : (o : Outline) (unit number : ℕ) → block_number (numbering_of views o) unit ≡ Some number → Numbered o unit number
+  number_given : (o : Outline) (unit number : ℕ) → block_number (numbering_of (shapes_of s) views o) unit ≡ Some number → Numbered o unit number
   number_given o unit number given =
       let named = numbered.then_is (λ k. below most (o.first + k)) (position (λ one. one == unit) o.called) number given in
       let member = numbered.first_is (λ one. one == unit) o.called named.0 named.1 in
@@ -154,9 +155,10 @@ module _ (s : Set) (views : List View) (whole : Linked) where
         is = numbered.below_is most (o.first + named.0) number named.2;
       }
 
-  outline_numbered : (o : Outline) → own_block o < length whole.blocks → IsNumbered (code_of o) (numbering_of views o)
+  outline_numbered : (o : Outline) → own_block o < length whole.blocks → IsNumbered (code_of o) (numbering_of (shapes_of s) views o)
   outline_numbered o room =
       record {
+        shapes = refl;
         views = refl;
         blocks = λ unit number given.
             let there = number_given o unit number given in
@@ -181,7 +183,8 @@ module _ (s : Set) (views : List View) (whole : Linked) where
     pub before : List Instr
     pub end : ℕ
     pub row : slice_get whole.blocks (own_block o) ≡ Some (process_block o.process (length before) end)
-    pub stands : ProcessAt (code_of o) (length before) (process_site s o.process body) 0 body.statements (λ mark. finish_of (numbering_of views o) (process_site s o.process body) before body.statements)
+    pub spot : ℕ → ℕ
+    pub stands : ProcessAt (code_of o) (length before) (process_site s o.process body) 0 body.statements spot
     pub units : (k unit : ℕ) → slice_get o.called k ≡ Some unit → UnitStands o (o.first + k) unit
 
   -- what is known where code goes on to the whole
@@ -225,7 +228,7 @@ module _ (s : Set) (views : List View) (whole : Linked) where
 
     unit_stands : (so_far : Linked) (number unit : ℕ) (body : Body) (after : List Instr) → body_at s unit ≡ Some body → length so_far.blocks ≡ number
         → Known (one_behind (unit_block o.process body.head) so_far after)
-        → UnitCoded (code_of o) (numbering_of views o) (process_site s o.process body) (outline_numbered o room) (unit_block o.process body.head (length so_far.code) (length after)) so_far.code after body.head body.statements
+        → UnitCoded (code_of o) (numbering_of (shapes_of s) views o) (process_site s o.process body) (outline_numbered o room) (unit_block o.process body.head (length so_far.code) (length after)) so_far.code after body.head body.statements
         → UnitStands o number unit
     unit_stands so_far number unit body after found long known coded =
         record {
@@ -239,7 +242,7 @@ module _ (s : Set) (views : List View) (whole : Linked) where
             start = length (cleared_code (process_site s o.process body) so_far.code);
             begins = coded.clears;
             cleared = λ held. all_cleared s body.number (places_of_process s o.process) held (all_begin s o.process body.number);
-            handler = λ mark. end_of (numbering_of views o) (process_site s o.process body) (cleared_code (process_site s o.process body) so_far.code) body.statements;
+            handler = coded.handler;
             finish = coded.finish;
             statements = coded.statements;
             leads_out = coded.leads_out;
@@ -248,13 +251,13 @@ module _ (s : Set) (views : List View) (whole : Linked) where
         }
 
     unit_known : (so_far late : Linked) (number unit : ℕ) (b : Option Body) → body_at s unit ≡ b → length so_far.blocks ≡ number
-        → with_unit s (numbering_of views o) o.process so_far b ≡ Ok late → Known late → UnitKnown so_far number unit
+        → with_unit s (numbering_of (shapes_of s) views o) o.process so_far b ≡ Ok late → Known late → UnitKnown so_far number unit
     unit_known so_far late number unit None found long is known = absurd (cc)
     unit_known so_far late number unit (Some body) found long is known =
         let site = process_site s o.process body in
-        let there = block_linked (unit_block o.process body.head) so_far late (unit_code (numbering_of views o) site so_far.code body.head body.statements) is in
+        let there = block_linked (unit_block o.process body.head) so_far late (unit_code (numbering_of (shapes_of s) views o) site so_far.code body.head body.statements) is in
         let behind = subst Known (sym there.2) known in
-        let coded = unit_at (code_of o) (numbering_of views o) site (outline_numbered o room) o.process (length so_far.code) (length there.0) body.head body.statements so_far.code there.0 there.1 behind.begins in
+        let coded = unit_at (code_of o) (numbering_of (shapes_of s) views o) site (outline_numbered o room) o.process (length so_far.code) (length there.0) body.head body.statements so_far.code there.0 there.1 behind.begins in
         record {
           known = block_known (unit_block o.process body.head) so_far there.0 behind coded.begins (goes_in o (length so_far.code) (length there.0) coded.goes);
           stands = unit_stands so_far number unit body there.0 found long behind coded;
@@ -272,12 +275,12 @@ module _ (s : Set) (views : List View) (whole : Linked) where
     one_more number one ks here later (suc k) unit is = let same : suc number + k ≡ number + suc k = omega arith in subst (λ m. UnitStands o m unit) same (later k unit is)
 
     units_known : (ks : List ℕ) (so_far late : Linked) (number : ℕ) → length so_far.blocks ≡ number
-        → with_units s (numbering_of views o) o.process ks so_far ≡ Ok late → Known late → UnitsKnown so_far number ks
+        → with_units s (numbering_of (shapes_of s) views o) o.process ks so_far ≡ Ok late → Known late → UnitsKnown so_far number ks
     unfolding with_units
     units_known [] so_far late number long is known =
         let same : late ≡ so_far = cc in record { known = subst Known same known; each = λ k unit has. absurd (cc) }
     units_known (one ∷ ks) so_far late number long is known =
-        let there = both_linked (with_unit s (numbering_of views o) o.process so_far (body_at s one)) (with_units s (numbering_of views o) o.process ks) late is in
+        let there = both_linked (with_unit s (numbering_of (shapes_of s) views o) o.process so_far (body_at s one)) (with_units s (numbering_of (shapes_of s) views o) o.process ks) late is in
         let more = unit_longer s views o (body_at s one) so_far there.0 there.1 in
         let later = units_known ks there.0 late (suc number) (omega (arith, long, more)) there.2 known in
         let here = unit_known so_far there.0 number one (body_at s one) refl long there.1 later.known in
@@ -288,15 +291,15 @@ module _ (s : Set) (views : List View) (whole : Linked) where
       pub known : Known so_far
       pub stands : ((k unit : ℕ) → slice_get o.called k ≡ Some unit → UnitStands o (o.first + k) unit) → Stands o
 
-    process_known : (so_far late : Linked) (b : Option Body) → body_at s o.unit ≡ b → length so_far.blocks ≡ own_block o → with_process s (numbering_of views o) o.process so_far b ≡ Ok late → Known late → ProcessKnown so_far
+    process_known : (so_far late : Linked) (b : Option Body) → body_at s o.unit ≡ b → length so_far.blocks ≡ own_block o → with_process s (numbering_of (shapes_of s) views o) o.process so_far b ≡ Ok late → Known late → ProcessKnown so_far
     process_known so_far late None found long is known = absurd (cc)
     process_known so_far late (Some body) found long is known =
         let site = process_site s o.process body in
-        let emitted = process_code (numbering_of views o) site so_far.code body.statements in
+        let emitted = process_code (numbering_of (shapes_of s) views o) site so_far.code body.statements in
         let form = unless_function (is_function body.head) (behind_block (process_block o.process) so_far emitted) late is in
         let there = block_linked (process_block o.process) so_far late emitted form.1 in
         let behind = subst Known (sym there.2) known in
-        let processed = process_at (code_of o) (numbering_of views o) site (outline_numbered o room) body.statements so_far.code there.0 there.1 behind.begins in
+        let processed = process_at (code_of o) (numbering_of (shapes_of s) views o) site (outline_numbered o room) body.statements so_far.code there.0 there.1 behind.begins in
         record {
           known = block_known (process_block o.process) so_far there.0 behind processed.begins (goes_in o (length so_far.code) (length there.0) processed.goes);
           stands = λ units. record {
@@ -306,6 +309,7 @@ module _ (s : Set) (views : List View) (whole : Linked) where
             before = so_far.code;
             end = length there.0;
             row = row_there (process_block o.process) so_far there.0 (own_block o) long behind;
+            spot = processed.spot;
             stands = processed.stands;
             units = units;
           };
@@ -315,9 +319,9 @@ module _ (s : Set) (views : List View) (whole : Linked) where
       pub known : Known so_far
       pub stands : Stands o
 
-    outline_known : (so_far late : Linked) → length so_far.blocks ≡ o.first → with_outline s views o so_far ≡ Ok late → Known late → OutlineKnown so_far
+    outline_known : (so_far late : Linked) → length so_far.blocks ≡ o.first → with_outline s (shapes_of s) views o so_far ≡ Ok late → Known late → OutlineKnown so_far
     outline_known so_far late long is known =
-        let there = both_linked (with_units s (numbering_of views o) o.process o.called so_far) (λ middle. with_process s (numbering_of views o) o.process middle (body_at s o.unit)) late is in
+        let there = both_linked (with_units s (numbering_of (shapes_of s) views o) o.process o.called so_far) (λ middle. with_process s (numbering_of (shapes_of s) views o) o.process middle (body_at s o.unit)) late is in
         let more = units_longer s views o o.called so_far there.0 there.1 in
         let process = process_known there.0 late (body_at s o.unit) refl (omega (arith, long, more)) there.2 known in
         let units = units_known o.called so_far there.0 o.first long there.1 process.known in
@@ -332,11 +336,11 @@ module _ (s : Set) (views : List View) (whole : Linked) where
   all_more one os here later zero o is = subst Stands (let same : one ≡ o = cc in same) here
   all_more one os here later (suc q) o is = later q o is
 
-  outlines_known : (os : List Outline) (so_far : Linked) (first : ℕ) → Laid first os → length so_far.blocks ≡ first → with_outlines s views os so_far ≡ Ok whole → AllKnown so_far os
+  outlines_known : (os : List Outline) (so_far : Linked) (first : ℕ) → Laid first os → length so_far.blocks ≡ first → with_outlines s (shapes_of s) views os so_far ≡ Ok whole → AllKnown so_far os
   unfolding with_outlines
   outlines_known [] so_far first laid long is = record { known = whole_known so_far (let same : so_far ≡ whole = cc in same); each = λ q o has. absurd (cc) }
   outlines_known (o ∷ os) so_far first laid long is =
-      let there = both_linked (with_outline s views o so_far) (with_outlines s views os) whole is in
+      let there = both_linked (with_outline s (shapes_of s) views o so_far) (with_outlines s (shapes_of s) views os) whole is in
       let more = outline_longer s views o so_far there.0 there.1 in
       let within = outlines_longer s views os there.0 whole there.2 in
       let starts = laid.0 in
@@ -370,10 +374,10 @@ module _ (s : Set) (views : List View) (whole : Linked) where
         found = ap (λ r. elim r [ None ↦ None | Some k ↦ body_at s k ]) unit ∙ one.found;
         plain = ap (λ r. elim r [ None ↦ false | Some b ↦ is_function b.head ]) (found_by_own s o.unit one.body one.found) ∙ one.plain;
         places = places_begin s views whole o.process name named;
-        block = block_number (numbering_of views o);
+        block = block_number (numbering_of (shapes_of s) views o);
         units = units_placed o one;
-        spot = λ mark. finish_of (numbering_of views o) (process_site s o.process one.body) one.before one.body.statements;
-        code = subst (λ begin. ProcessAt (code_of o) begin (process_site s o.process one.body) 0 one.body.statements (λ mark. finish_of (numbering_of views o) (process_site s o.process one.body) one.before one.body.statements))
+        spot = one.spot;
+        code = subst (λ begin. ProcessAt (code_of o) begin (process_site s o.process one.body) 0 one.body.statements one.spot)
             (sym (first_is o name (process_block o.process (length one.before) one.end) named outline one.row)) one.stands;
       }
 

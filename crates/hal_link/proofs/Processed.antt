@@ -14,10 +14,10 @@ use Rattle.hal_gen_expr.specs.Standing.{Begins, IsNumbered}
 use Rattle.hal_gen_expr.proofs.Expressed.{ok_is}
 use Rattle.hal_gen_expr.proofs.Forwarding.{Goes, one_goes, joined_goes, first_goes}
 use Rattle.hal_gen_expr.proofs.Growing.{length_of_one_more, has_there, begins_before, one_placed}
-use Rattle.hal_gen.specs.StatementCode.{statements_code}
-use Rattle.hal_gen.proofs.Forwarding.{Ahead, list_goes}
-use Rattle.hal_gen.proofs.Measured.{statements_longer}
-use Rattle.hal_gen.proofs.Stated.{statements_at}
+use Rattle.hal_gen.specs.StatementCode.{block_code}
+use Rattle.hal_gen.proofs.Forwarding.{Ahead, block_goes}
+use Rattle.hal_gen.proofs.Measured.{block_longer}
+use Rattle.hal_gen.proofs.Stated.{block_stands}
 use Rattle.hal_link.specs.ProcessCode.{to_finish, finish_of, process_code}
 
 -- RETURN leads to FINISH, and no group is open
@@ -32,28 +32,30 @@ to_the_end finish to is =
 module _ (code : Code) (n : Numbering) (site : Site) (numbered : IsNumbered code n) where
   -- what is known of the code of a process
   pub record Processed (before after : List Instr) (body : Statements) : Type 0 where
-    pub stands : ProcessAt code (length before) site 0 body (λ mark. finish_of n site before body)
+    pub spot : ℕ → ℕ
+    pub stands : ProcessAt code (length before) site 0 body spot
     pub goes : Goes code (length before) (length after)
     pub begins : Begins before code.image.code
 
   -- of its statements, which end in this code
-  processed_by : (body : Statements) (before middle after : List Instr) → statements_code n site (before ++ (instr.Begin ∷ [])) (to_finish (finish_of n site before body)) 0 body ≡ Ok middle
+  processed_by : (body : Statements) (before middle after : List Instr) → block_code n site (before ++ (instr.Begin ∷ [])) (to_finish (finish_of n site before body)) 0 body ≡ Ok middle
       → middle ++ (instr.Finish ∷ []) ≡ after → Begins after code.image.code → Processed before after body
   processed_by body before middle after there is begins =
       let exits = to_finish (finish_of n site before body) in
       let start = before ++ (instr.Begin ∷ []) in
       let last = one_placed code middle after instr.Finish is begins in
-      let inner = statements_at code n site numbered body exits 0 start middle there last.begins in
-      let longer = statements_longer n site body exits 0 start middle there in
+      let inner = block_stands code n site numbered body exits 0 start middle there last.begins in
+      let longer = block_longer n site body exits 0 start middle there in
       let one = length_of_one_more before instr.Begin in
       let ends : finish_of n site before body ≡ length middle = omega (arith, longer, one) in
-      let forward = list_goes code n site numbered body exits 0 start middle there (to_the_end (finish_of n site before body) (length middle) ends) last.begins in
+      let forward = block_goes code n site numbered body exits 0 start middle there (to_the_end (finish_of n site before body) (length middle) ends) last.begins in
       record {
+        spot = inner.at.0;
         stands = record {
           finish = length middle;
-          statements = subst (λ f. StatementsAt code site (of_block (ToFinish f) (λ mark. finish_of n site before body)) 0 body (suc (length before)) (length middle)) ends
-              (subst (λ from. StatementsAt code site exits 0 body from (length middle)) one inner.at);
-          leads_out = λ mark none. ends;
+          statements = subst (λ f. StatementsAt code site (of_block (ToFinish f) inner.at.0) 0 body (suc (length before)) (length middle)) ends
+              (subst (λ from. StatementsAt code site (of_block (ToFinish (finish_of n site before body)) inner.at.0) 0 body from (length middle)) one inner.at.1);
+          leads_out = inner.at.2;
           last = last.at.0;
         };
         goes = joined_goes code (length before) (length middle) (length after)
@@ -62,11 +64,11 @@ module _ (code : Code) (n : Numbering) (site : Site) (numbered : IsNumbered code
         begins = begins_before code before (instr.Begin ∷ []) inner.begins;
       }
 
-  processed_with : (body : Statements) (before after : List Instr) (r : Emitted) → statements_code n site (before ++ (instr.Begin ∷ [])) (to_finish (finish_of n site before body)) 0 body ≡ r
+  processed_with : (body : Statements) (before after : List Instr) (r : Emitted) → block_code n site (before ++ (instr.Begin ∷ [])) (to_finish (finish_of n site before body)) 0 body ≡ r
       → onwards r (λ middle. Ok (middle ++ (instr.Finish ∷ []))) ≡ Ok after → Begins after code.image.code → Processed before after body
   processed_with body before after (Ok middle) there is begins = processed_by body before middle after there (ok_is (middle ++ (instr.Finish ∷ [])) after is) begins
   processed_with body before after (Err place) there is begins = absurd (cc)
 
   pub process_at : (body : Statements) (before after : List Instr) → process_code n site before body ≡ Ok after → Begins after code.image.code → Processed before after body
   process_at body before after is begins =
-      processed_with body before after (statements_code n site (before ++ (instr.Begin ∷ [])) (to_finish (finish_of n site before body)) 0 body) refl is begins
+      processed_with body before after (block_code n site (before ++ (instr.Begin ∷ [])) (to_finish (finish_of n site before body)) 0 body) refl is begins

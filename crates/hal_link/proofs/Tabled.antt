@@ -18,6 +18,7 @@ use Rattle.hal_code.specs.Images as machine
 use Rattle.hal_code.specs.Images.{expanded, start_of, tables_of, places_of}
 use Rattle.hal_link.specs.Linking.{Linked, alone, own_row, processes_from, known_start, image_with}
 use Rattle.hal_link.specs.Outlines.{Outline, outlines_of, block_of}
+use Rattle.hal_link.specs.Shapes.{shapes_of, reference_shape}
 
 expanded_alone : {T : Type 0} (rows : List T) → expanded (map alone rows) ≡ rows
 expanded_alone [] = refl
@@ -51,7 +52,7 @@ tables_same s views one =
 
 -- the row of the process with this number
 abbrev pub row_of : Set → List Outline → List ℕ → ℕ → Process
-row_of s os name p = record { name = name; block = block_of os p; places = map alone (map own_row (places_of_process s p)) }
+row_of s os name p = record { name = name; block = block_of os p; places = map alone (map (own_row s (shapes_of s)) (places_of_process s p)) }
 
 pub process_there : (s : Set) (os : List Outline) (q p : ℕ) (names : List (List ℕ)) (name : List ℕ) → slice_get names q ≡ Some name → slice_get (processes_from s os p names) q ≡ Some (row_of s os name (p + q))
 process_there s os q p [] name is = absurd (cc)
@@ -63,13 +64,14 @@ process_there s os (suc q) p (one ∷ names) name is =
     let number : suc p + q ≡ p + suc q = omega arith in
     process_there s os q (suc p) names name is ∙ ap (λ k. Some (row_of s os name k)) number
 
-held_by : (k : Option Kind) (v : Value) → machine.held_first (elim k [ None ↦ place.Reference 0 | Some one ↦ place.Data one v ]) ≡ (elim k [ None ↦ Refers Nowhere | Some one ↦ Holds v ])
-held_by None v = refl
-held_by (Some one) v = refl
+held_by : (k : Option Kind) (v : Value) (shape : ℕ) → machine.held_first (elim k [ None ↦ place.Reference shape | Some one ↦ place.Data one v ]) ≡ (elim k [ None ↦ Refers Nowhere | Some one ↦ Holds v ])
+held_by None v shape = refl
+held_by (Some one) v shape = refl
 
-held_same : (places : List Place) → map machine.held_first (map own_row places) ≡ map tree.held_first places
-held_same [] = refl
-held_same (one ∷ places) = ap (λ l. machine.held_first (own_row one) ∷ l) (held_same places) ∙ ap (λ h. h ∷ map tree.held_first places) (held_by one.kind one.initial)
+held_same : (s : Set) (places : List Place) → map machine.held_first (map (own_row s (shapes_of s)) places) ≡ map tree.held_first places
+held_same s [] = refl
+held_same s (one ∷ places) =
+    ap (λ l. machine.held_first (own_row s (shapes_of s) one) ∷ l) (held_same s places) ∙ ap (λ h. h ∷ map tree.held_first places) (held_by one.kind one.initial (reference_shape s (shapes_of s) one.owner))
 
 abbrev no_common : List (Run OwnPlace)
 no_common = []
@@ -81,4 +83,4 @@ places_begin s views one p name is =
     let there = process_there s (outlines_of s) p 0 s.tables.processes name is in
     let number : 0 + p ≡ p = omega arith in
     ap (λ (o : Option Process). map machine.held_first (elim o [ None ↦ [] | Some process ↦ expanded no_common ++ expanded process.places ])) there
-    ∙ (ap (map machine.held_first) (expanded_alone (map own_row (places_of_process s (0 + p)))) ∙ (held_same (places_of_process s (0 + p)) ∙ ap (λ k. map tree.held_first (places_of_process s k)) number))
+    ∙ (ap (map machine.held_first) (expanded_alone (map (own_row s (shapes_of s)) (places_of_process s (0 + p)))) ∙ (held_same s (places_of_process s (0 + p)) ∙ ap (λ k. map tree.held_first (places_of_process s k)) number))

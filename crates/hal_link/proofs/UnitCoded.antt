@@ -16,7 +16,7 @@ use Rattle.hal_code.specs.declared.instr.Instr.TheVariants as instr
 use Rattle.hal_code.specs.declared.row.Block.{Block}
 use Rattle.hal_agreement.specs.Codes.{Code}
 use Rattle.hal_agreement.specs.PlacedExpressions.{Has, One, pushes}
-use Rattle.hal_agreement.specs.PlacedStatements.{ToFinish, LeadsOut, StatementsAt}
+use Rattle.hal_agreement.specs.PlacedStatements.{ToFinish, of_block, LeadsOut, StatementsAt}
 use Rattle.hal_agreement.specs.PlacedBlocks.{EndAt, ClearsAt, leaving_by}
 use Rattle.hal_agreement.specs.Sites.{Site}
 use Rattle.hal_gen_expr.specs.Emitting.{Emitted, onwards}
@@ -25,11 +25,10 @@ use Rattle.hal_gen_expr.specs.Standing.{Begins, IsNumbered, Placed}
 use Rattle.hal_gen_expr.proofs.Expressed.{ok_is}
 use Rattle.hal_gen_expr.proofs.Forwarding.{Goes, none_goes, one_goes, joined_goes, first_goes}
 use Rattle.hal_gen_expr.proofs.Growing.{append_append, none_placed, one_placed, first_placed}
-use Rattle.hal_gen.specs.StatementCode.{statements_code}
-use Rattle.hal_gen.proofs.Forwarding.{Ahead, list_goes}
-use Rattle.hal_gen.proofs.Measured.{statements_longer}
-use Rattle.hal_gen.proofs.Stated.{statements_at}
-use Rattle.hal_link.specs.UnitCode.{clears_of, clear_of, cleared_code, end_code, end_of, to_caller, body_code, unit_code, kind_of_type, kind_of_returns, kind_of_result, unit_block}
+use Rattle.hal_gen.specs.StatementCode.{block_code}
+use Rattle.hal_gen.proofs.Forwarding.{Ahead, block_goes}
+use Rattle.hal_gen.proofs.Stated.{block_stands}
+use Rattle.hal_link.specs.UnitCode.{clears_of, clear_of, cleared_code, end_code, to_caller, body_code, unit_code, kind_of_type, kind_of_returns, kind_of_result, unit_block}
 
 -- what a block gives back where nothing was returned
 zero_of_kind : (kind : declarations.Kind) → machine.zero_of (choice.Known (kind_of_type kind)) ≡ Some (zero_of_type kind)
@@ -61,8 +60,8 @@ no_finish : (function : Bool) (at : ℕ) → leaving_by function ≡ ToFinish at
 no_finish true at is = absurd (cc)
 no_finish false at is = absurd (cc)
 
-to_the_caller : (head : Head) (end to : ℕ) → Ahead (to_caller head end) to
-to_the_caller head end to =
+to_the_caller : (head : Head) (to : ℕ) → Ahead (to_caller head) to
+to_the_caller head to =
     record {
       exit = λ label target there. absurd (cc);
       again = λ label target there. absurd (cc);
@@ -118,32 +117,33 @@ module _ (code : Code) where
 module _ (code : Code) (n : Numbering) (site : Site) (numbered : IsNumbered code n) where
   -- what is known of the code of a unit's statements and its end
   record BodyCoded (row : Block) (before after : List Instr) (head : Head) (body : Statements) : Type 0 where
+    pub handler : ℕ → ℕ
     pub finish : ℕ
-    pub statements : StatementsAt code site (to_caller head (end_of n site before body)) 0 body (length before) finish
-    pub leads_out : LeadsOut (λ mark. end_of n site before body) 0 body finish
+    pub statements : StatementsAt code site (of_block (leaving_by (is_function head)) handler) 0 body (length before) finish
+    pub leads_out : LeadsOut handler 0 body finish
     pub ends : EndAt code (is_function head) head row finish
     pub goes : Goes code (length before) (length after)
     pub begins : Begins before code.image.code
 
   -- of its statements, which end in this code
-  coded_by : (p first last : ℕ) (head : Head) (body : Statements) (before middle after : List Instr) → statements_code n site before (to_caller head (end_of n site before body)) 0 body ≡ Ok middle
+  coded_by : (p first last : ℕ) (head : Head) (body : Statements) (before middle after : List Instr) → block_code n site before (to_caller head) 0 body ≡ Ok middle
       → middle ++ end_code (is_function head) head ≡ after → Begins after code.image.code → BodyCoded (unit_block p head first last) before after head body
   coded_by p first last head body before middle after there is begins =
-      let exits = to_caller head (end_of n site before body) in
+      let exits = to_caller head in
       let last_code = ended code (is_function head) p head first last refl middle after is begins in
-      let inner = statements_at code n site numbered body exits 0 before middle there last_code.begins in
-      let longer = statements_longer n site body exits 0 before middle there in
-      let forward = list_goes code n site numbered body exits 0 before middle there (to_the_caller head (end_of n site before body) (length middle)) last_code.begins in
+      let inner = block_stands code n site numbered body exits 0 before middle there last_code.begins in
+      let forward = block_goes code n site numbered body exits 0 before middle there (to_the_caller head (length middle)) last_code.begins in
       record {
+        handler = inner.at.0;
         finish = length middle;
-        statements = inner.at;
-        leads_out = λ mark none. omega (arith, longer);
+        statements = inner.at.1;
+        leads_out = inner.at.2;
         ends = last_code.at;
         goes = joined_goes code (length before) (length middle) (length after) forward.at last_code.goes;
         begins = inner.begins;
       }
 
-  coded_with : (p first last : ℕ) (head : Head) (body : Statements) (before after : List Instr) (r : Emitted) → statements_code n site before (to_caller head (end_of n site before body)) 0 body ≡ r
+  coded_with : (p first last : ℕ) (head : Head) (body : Statements) (before after : List Instr) (r : Emitted) → block_code n site before (to_caller head) 0 body ≡ r
       → onwards r (λ middle. Ok (middle ++ end_code (is_function head) head)) ≡ Ok after → Begins after code.image.code → BodyCoded (unit_block p head first last) before after head body
   coded_with p first last head body before after (Ok middle) there is begins = coded_by p first last head body before middle after there (ok_is (middle ++ end_code (is_function head) head) after is) begins
   coded_with p first last head body before after (Err place) there is begins = absurd (cc)
@@ -151,14 +151,15 @@ module _ (code : Code) (n : Numbering) (site : Site) (numbered : IsNumbered code
   body_at : (p first last : ℕ) (head : Head) (body : Statements) (before after : List Instr) → body_code n site before head body ≡ Ok after → Begins after code.image.code
       → BodyCoded (unit_block p head first last) before after head body
   body_at p first last head body before after is begins =
-      coded_with p first last head body before after (statements_code n site before (to_caller head (end_of n site before body)) 0 body) refl is begins
+      coded_with p first last head body before after (block_code n site before (to_caller head) 0 body) refl is begins
 
   -- what is known of the code of a unit
   pub record UnitCoded (row : Block) (before after : List Instr) (head : Head) (body : Statements) : Type 0 where
     pub clears : ClearsAt code (clears_of site) (length before) (length (cleared_code site before))
+    pub handler : ℕ → ℕ
     pub finish : ℕ
-    pub statements : StatementsAt code site (to_caller head (end_of n site (cleared_code site before) body)) 0 body (length (cleared_code site before)) finish
-    pub leads_out : LeadsOut (λ mark. end_of n site (cleared_code site before) body) 0 body finish
+    pub statements : StatementsAt code site (of_block (leaving_by (is_function head)) handler) 0 body (length (cleared_code site before)) finish
+    pub leads_out : LeadsOut handler 0 body finish
     pub ends : EndAt code (is_function head) head row finish
     pub goes : Goes code (length before) (length after)
     pub begins : Begins before code.image.code
@@ -170,6 +171,7 @@ module _ (code : Code) (n : Numbering) (site : Site) (numbered : IsNumbered code
       let opening = clears_placed code (clears_of site) before (cleared_code site before) refl inner.begins in
       record {
         clears = opening.at;
+        handler = inner.handler;
         finish = inner.finish;
         statements = inner.statements;
         leads_out = inner.leads_out;

@@ -1,5 +1,6 @@
 pub mod ProcessCode
 pub mod UnitCode
+pub mod Shapes
 pub mod Outlines
 pub mod Linking
 pub mod Views

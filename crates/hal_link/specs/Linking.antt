@@ -23,6 +23,7 @@ use Rattle.hal_gen_expr.specs.Emitting.{Emitted}
 use Rattle.hal_gen_expr.specs.Numbering.{Numbering}
 use Rattle.hal_link.specs.Outlines.{Outline, outlines_of, block_of, numbering_of}
 use Rattle.hal_link.specs.ProcessCode.{process_code}
+use Rattle.hal_link.specs.Shapes.{Shapes, shapes_of, reference_shape}
 use Rattle.hal_link.specs.UnitCode.{unit_code, unit_block}
 
 -- the code of some blocks, and their rows
@@ -78,26 +79,26 @@ with_units s n p [] so_far = Ok so_far
 with_units s n p (k ∷ ks) so_far = and_then (with_unit s n p so_far (body_at s k)) (with_units s n p ks)
 
 -- the units that a process calls, and then the process itself
-abbrev pub with_outline : Set → List View → Outline → Linked → Linking
-with_outline s views o so_far =
-    and_then (with_units s (numbering_of views o) o.process o.called so_far) (λ late. with_process s (numbering_of views o) o.process late (body_at s o.unit))
+abbrev pub with_outline : Set → Shapes → List View → Outline → Linked → Linking
+with_outline s shapes views o so_far =
+    and_then (with_units s (numbering_of shapes views o) o.process o.called so_far) (λ late. with_process s (numbering_of shapes views o) o.process late (body_at s o.unit))
 
-unfoldable pub with_outlines : Set → List View → List Outline → Linked → Linking
-with_outlines s views [] so_far = Ok so_far
-with_outlines s views (o ∷ os) so_far = and_then (with_outline s views o so_far) (with_outlines s views os)
+unfoldable pub with_outlines : Set → Shapes → List View → List Outline → Linked → Linking
+with_outlines s shapes views [] so_far = Ok so_far
+with_outlines s shapes views (o ∷ os) so_far = and_then (with_outline s shapes views o so_far) (with_outlines s shapes views os)
 
 -- a run of one row
 abbrev pub alone : {T : Type 0} → T → Run T
 alone row = record { repeat = 1; row = row }
 
--- the row of an own place; a reference has no shape yet
-abbrev pub own_row : Place → OwnPlace
-own_row one = elim one.kind [ None ↦ place.Reference 0 | Some k ↦ place.Data k one.initial ]
+-- the row of an own place; a reference is to data of the shape of its parameter
+abbrev pub own_row : Set → Shapes → Place → OwnPlace
+own_row s shapes one = elim one.kind [ None ↦ place.Reference (reference_shape s shapes one.owner) | Some k ↦ place.Data k one.initial ]
 
 -- the rows of processes from this one on
 abbrev pub processes_from : Set → List Outline → ℕ → List (List ℕ) → List Process
 processes_from s os p [] = []
-processes_from s os p (name ∷ names) = record { name = name; block = block_of os p; places = map alone (map own_row (places_of_process s p)) } ∷ processes_from s os (suc p) names
+processes_from s os p (name ∷ names) = record { name = name; block = block_of os p; places = map alone (map (own_row s (shapes_of s)) (places_of_process s p)) } ∷ processes_from s os (suc p) names
 
 abbrev pub known_start : EventStart → Choice EventStart
 known_start start = choice.Known start
@@ -109,7 +110,7 @@ image_with s views one = record {
   common = [];
   processes = processes_from s (outlines_of s) 0 s.tables.processes;
   first = s.tables.first;
-  shapes = [];
+  shapes = shapes_of s;
   views = views;
   expressions = s.tables.expressions;
   blocks = one.blocks;
@@ -118,7 +119,7 @@ image_with s views one = record {
 }
 
 abbrev pub linking : Set → List View → Linking
-linking s views = with_outlines s views (outlines_of s) (linked [] [])
+linking s views = with_outlines s (shapes_of s) views (outlines_of s) (linked [] [])
 
 abbrev pub image_by : Set → List View → Linking → Result ImageParts (Option bases.Place)
 image_by s views (Ok one) = Ok (image_with s views one)

@@ -8,6 +8,7 @@ use Rattle.hal_meaning.specs.Places.{unit_numbers}
 use Rattle.hal_meaning.specs.Sets.{Set}
 use Rattle.hal_code.specs.declared.row.View.{View}
 use Rattle.hal_gen_expr.specs.Numbering.{Numbering, numbering_with}
+use Rattle.hal_link.specs.Shapes.{Shapes}
 
 -- a unit, the processes that reach it, and how many units do
 pub record Rank : Type 0 where
@@ -63,6 +64,6 @@ outlines_of s = outlines_from (ranks_of s.phrases) 0 0 (processes_of s.phrases)
 abbrev pub block_of : List Outline → ℕ → ℕ
 block_of outlines p = elim (slice_get outlines p) [ None ↦ 0 | Some o ↦ own_block o ]
 
--- how a process's code numbers views and blocks
-abbrev pub numbering_of : List View → Outline → Numbering
-numbering_of views o = numbering_with views o.first o.called
+-- how a process's code numbers shapes, views and blocks
+abbrev pub numbering_of : Shapes → List View → Outline → Numbering
+numbering_of shapes views o = numbering_with shapes views o.first o.called

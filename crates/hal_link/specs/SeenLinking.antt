@@ -11,6 +11,7 @@ use Rattle.hal_meaning.specs.Sets.{Set}
 use Rattle.hal_meaning.specs.Runs.{places_of_process}
 use Rattle.hal_link.specs.Linking.{alone, own_row}
 use Rattle.hal_link.specs.Outlines.{Outline, block_of}
+use Rattle.hal_link.specs.Shapes.{shapes_of}
 
 -- the own places of the set's layout are those of the set
 abbrev pub IsLaid : rust-set.Set → Type 0
@@ -18,7 +19,7 @@ IsLaid s = seen_own s.layout.now.own ≡ own_places (seen_set s).phrases (seen_s
 
 -- the row of a process
 abbrev pub process_row : Set → List Outline → ℕ → List ℕ → Process
-process_row s os p name = record { name = name; block = block_of os p; places = map alone (map own_row (places_of_process s p)) }
+process_row s os p name = record { name = name; block = block_of os p; places = map alone (map (own_row s (shapes_of s)) (places_of_process s p)) }
 
 -- the rows of processes from this one on
 unfoldable pub rows_from : Set → List Outline → ℕ → List (List ℕ) → List Process

@@ -1,5 +1,5 @@
 -- The code of a unit that is called: CLEAR of its AUTOMATIC data, its statements, and its end.
-use Rattle.std.specs.Prelude.{ℕ, suc, ◌+◌, Bool, true, false, List, [], ◌∷◌, ◌++◌, length, map, Ok, if◌then◌else◌}
+use Rattle.std.specs.Prelude.{ℕ, suc, ◌+◌, Bool, true, false, List, [], ◌∷◌, ◌++◌, map, Ok, if◌then◌else◌}
 use Rattle.hal_grammar.specs.Declarations as declarations
 use Rattle.hal_grammar.specs.Declarations.{BooleanKind, BitKind, CharacterKind}
 use Rattle.hal_grammar.specs.Statements.{Statements}
@@ -15,12 +15,12 @@ use Rattle.hal_code.specs.declared.row.ResultKind.{ResultKind}
 use Rattle.hal_code.specs.declared.row.ResultKind.TheVariants as result
 use Rattle.hal_agreement.specs.PlacedBlocks.{leaving_by}
 use Rattle.hal_agreement.specs.PlacedExpressions.{pushes}
-use Rattle.hal_agreement.specs.PlacedStatements.{Exits, of_block}
+use Rattle.hal_agreement.specs.PlacedStatements.{Exits}
 use Rattle.hal_agreement.specs.Sites.{Site}
 use Rattle.hal_gen_expr.specs.Emitting.{Emitted, onwards}
 use Rattle.hal_gen_expr.specs.Numbering.{Numbering}
-use Rattle.hal_gen.specs.Sizes.{statements_size}
-use Rattle.hal_gen.specs.StatementCode.{statements_code}
+use Rattle.hal_gen.specs.BlockExits.{of_body}
+use Rattle.hal_gen.specs.StatementCode.{block_code}
 
 -- the places of AUTOMATIC data of a unit, from the one with this number on, each cleared on its own
 abbrev pub clears_from : Set → ℕ → ℕ → List Place → List (ℕ × ℕ)
@@ -42,17 +42,13 @@ abbrev pub end_code : Bool → Head → List Instr
 end_code false head = instr.Return ∷ []
 end_code true head = instr.Raise 1 7 ∷ pushes (zero_of head) ∷ instr.Return ∷ []
 
--- where it stands behind these statements
-abbrev pub end_of : Numbering → Site → List Instr → Statements → ℕ
-end_of n site before body = length before + statements_size n site body
-
--- how RETURN leaves the unit; no statement of ON ERROR has code yet
-abbrev pub to_caller : Head → ℕ → Exits
-to_caller head end = of_block (leaving_by (is_function head)) (λ mark. end)
+-- how RETURN leaves the unit
+abbrev pub to_caller : Head → Exits
+to_caller head = of_body (leaving_by (is_function head))
 
 -- its statements, behind the code so far, and its end
 abbrev pub body_code : Numbering → Site → List Instr → Head → Statements → Emitted
-body_code n site before head body = onwards (statements_code n site before (to_caller head (end_of n site before body)) 0 body) (λ middle. Ok (middle ++ end_code (is_function head) head))
+body_code n site before head body = onwards (block_code n site before (to_caller head) 0 body) (λ middle. Ok (middle ++ end_code (is_function head) head))
 
 -- the whole unit: first its AUTOMATIC data have their first values again
 abbrev pub unit_code : Numbering → Site → List Instr → Head → Statements → Emitted

@@ -64,7 +64,7 @@ fn push_called(
 ) -> Result<(), AllocError>
     requires whole { IsSite whole.now }
     requires places { map lent_place places.now ≡ places_of_process (seen_set whole.now.set.now) process }
-    ensures { OnOk result (into.new.items ≡ views.with_called (seen_set whole.now.set.now) process into.old.items (sets.body_at (seen_set whole.now.set.now) unit)) }
+    ensures { OnOk result (into.new.items ≡ views.with_called whole.now.shapes.now (seen_set whole.now.set.now) process into.old.items (sets.body_at (seen_set whole.now.set.now) unit)) }
 {
     let Some(body) = body_at(whole, unit) else {
         return Ok(());
@@ -85,7 +85,7 @@ fn push_all_called(
 ) -> Result<(), AllocError>
     requires whole { IsSite whole.now }
     requires places { map lent_place places.now ≡ places_of_process (seen_set whole.now.set.now) process }
-    ensures { OnOk result (into.new.items ≡ views.with_all_called (seen_set whole.now.set.now) process into.old.items units.now) }
+    ensures { OnOk result (into.new.items ≡ views.with_all_called whole.now.shapes.now (seen_set whole.now.set.now) process into.old.items units.now) }
 {
     for unit in units {
         push_called(into, whole, places, process, *unit)?;
@@ -98,7 +98,7 @@ fn push_all_called(
 fn push_outline(into: &mut Vec<View>, whole: &Site<'_>, outline: &Outline) -> Result<(), AllocError>
     requires whole { IsSite whole.now }
     requires laid { IsLaid whole.now.set.now }
-    ensures { OnOk result (into.new.items ≡ views.with_all_called (seen_set whole.now.set.now) outline.now.process into.old.items outline.now.called.items) }
+    ensures { OnOk result (into.new.items ≡ views.with_all_called whole.now.shapes.now (seen_set whole.now.set.now) outline.now.process into.old.items outline.now.called.items) }
 {
     let places = places_of(
         whole.alloc,
@@ -117,7 +117,7 @@ pub(crate) fn push_outlines(
 ) -> Result<(), AllocError>
     requires whole { IsSite whole.now }
     requires laid { IsLaid whole.now.set.now }
-    ensures { OnOk result (into.new.items ≡ views.with_outlines (seen_set whole.now.set.now) into.old.items (map seen_outline list.now)) }
+    ensures { OnOk result (into.new.items ≡ views.with_outlines whole.now.shapes.now (seen_set whole.now.set.now) into.old.items (map seen_outline list.now)) }
 {
     for outline in list {
         push_outline(into, whole, outline)?;

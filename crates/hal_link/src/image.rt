@@ -17,6 +17,7 @@ ghost use Rattle.hal_link.specs.Links.{HasImage, MakesImage};
 ghost use Rattle.hal_link.specs.Linking as linking;
 ghost use Rattle.hal_link.specs.Outlines as outlining;
 ghost use Rattle.hal_link.specs.SeenLinking as seen;
+ghost use Rattle.hal_link.specs.Shapes.{shapes_of};
 ghost use Rattle.hal_link.specs.SeenOutlines.{seen_outline};
 
 use crate::called_views::push_outlines;
@@ -24,15 +25,16 @@ use crate::linking::{link_outlines, uncalled, views_of};
 use crate::outlines::{Outline, outlines_of, own_block};
 use crate::places::places_of;
 use crate::rows::{cell_rows, event_rows, place_rows};
+use crate::shapes::shapes_of;
 use crate::unlinked::Unlinked;
-use hal_code::{Block, ImageParts, Instr, Process, View};
+use hal_code::{Block, ImageParts, Instr, Process, Run, View};
 use hal_events::declared_events;
 use hal_gen_expr::{Events, Site};
 use hal_layout::items_of;
 use hal_reach::processes_of;
 use hal_referents::{FirstCells, Referent, referents_of};
 use hal_set::Set;
-use hal_values::{Listing, ReportName, Text};
+use hal_values::{Kind, Listing, ReportName, Text};
 use std::alloc::{AllocError, Global};
 
 /// The site from which those of processes are made.
@@ -42,6 +44,7 @@ fn whole_of<'a>(
     referents: &'a [Referent],
     cells: &'a FirstCells,
     events: Events<'a>,
+    shapes: &'a [Listing<Run<Kind>>],
 ) -> Site<'a>
     requires listed { map seen_referent referents.now ≡ naming.referents (seen_set set.now).phrases (seen_set set.now).constants }
     requires counted { AreFirstCells (seen_set set.now).phrases (seen_set set.now).constants cells.now }
@@ -50,6 +53,7 @@ fn whole_of<'a>(
     requires few { length events.processes.now + length events.declared.now ≤ 65535 }
     ensures site { IsSite result }
     ensures set { result.set.now ≡ set.now }
+    ensures shapes { result.shapes.now ≡ shapes.now }
 {
     Site {
         alloc,
@@ -61,6 +65,7 @@ fn whole_of<'a>(
         unit: 0,
         block: 0,
         marks: &[],
+        shapes,
         views: &[],
         calls: uncalled(),
     }
@@ -84,18 +89,20 @@ fn block_of(outlines: &[Outline], process: usize) -> Result<u32, AllocError>
 fn process_row(
     alloc: Global,
     set: &Set<'_>,
+    shapes: &[Listing<Run<Kind>>],
     outlines: &[Outline],
     process: usize,
     name: Text,
 ) -> Result<Process, AllocError>
     requires laid { seen.IsLaid set.now }
+    requires shapes { shapes.now ≡ shapes_of (seen_set set.now) }
     ensures { IfOk result (λ row. row ≡ seen.process_row (seen_set set.now) (map seen_outline outlines.now) process name) }
 {
     let places = places_of(alloc, &set.layout.own, process)?;
     Ok(Process {
         name,
         block: block_of(outlines, process)?,
-        places: place_rows(alloc, &places)?,
+        places: place_rows(alloc, set, shapes, &places)?,
     })
 }
 
@@ -104,10 +111,12 @@ fn process_row(
 fn process_rows(
     alloc: Global,
     set: &Set<'_>,
+    shapes: &[Listing<Run<Kind>>],
     outlines: &[Outline],
     names: &[Vec<u8>],
 ) -> Result<Option<Vec<Process>>, AllocError>
     requires laid { seen.IsLaid set.now }
+    requires shapes { shapes.now ≡ shapes_of (seen_set set.now) }
     ensures { IfOk result (λ found. option_map seen.seen_rows found ≡ seen.rows_if (seen_set set.now) (map seen_outline outlines.now) 0 [] (map seen_path names.now)) }
 {
     let mut rows = Vec::new(alloc);
@@ -115,7 +124,7 @@ fn process_rows(
         let Some(text) = Text::of(name) else {
             return Ok(None);
         };
-        rows.push(process_row(alloc, set, outlines, process, text)?)?;
+        rows.push(process_row(alloc, set, shapes, outlines, process, text)?)?;
     }
     Ok(Some(rows))
 }
@@ -155,17 +164,19 @@ fn copied_names(alloc: Global, names: &[ReportName]) -> Result<Listing<ReportNam
 fn image_with(
     alloc: Global,
     set: &Set<'_>,
+    shapes: Vec<Listing<Run<Kind>>>,
     outlines: &[Outline],
     views: Vec<View>,
     code: Vec<Instr>,
     blocks: Vec<Block>,
 ) -> Result<ImageParts, Unlinked>
     requires laid { seen.IsLaid set.now }
+    requires shapes { shapes.items ≡ shapes_of (seen_set set.now) }
     requires outlined { map seen_outline outlines.now ≡ outlining.outlines_of (seen_set set.now) }
     ensures { MakesImage set.now (linking.image_with (seen_set set.now) views.items (linking.linked code.items blocks.items)) result }
 {
     let layout = set.layout;
-    let Some(processes) = process_rows(alloc, set, outlines, &layout.processes)? else {
+    let Some(processes) = process_rows(alloc, set, &shapes, outlines, &layout.processes)? else {
         return Err(Unlinked::Wide);
     };
     let Ok(first) = u8::try_from(layout.first) else {
@@ -177,7 +188,7 @@ fn image_with(
         common: Listing::empty(alloc),
         processes: Listing::new(processes),
         first,
-        shapes: Listing::empty(alloc),
+        shapes: Listing::new(shapes),
         views: Listing::new(views),
         expressions: Listing::new(items_of(alloc, &layout.expressions)?),
         blocks: Listing::new(blocks),
@@ -194,6 +205,7 @@ fn views_in(
 ) -> Result<Vec<View>, AllocError>
     requires whole { IsSite whole.now }
     requires laid { seen.IsLaid whole.now.set.now }
+    requires shapes { whole.now.shapes.now ≡ shapes_of (seen_set whole.now.set.now) }
     requires processes { processes.now ≡ processes_of (seen_set whole.now.set.now).phrases }
     requires outlined { map seen_outline outlines.now ≡ outlining.outlines_of (seen_set whole.now.set.now) }
     ensures { IfOk result (λ list. list.items ≡ views_of (seen_set whole.now.set.now)) }
@@ -218,11 +230,12 @@ pub fn link(alloc: Global, set: &Set<'_>) -> Result<ImageParts, Unlinked>
         processes: &processes,
         declared: &declared,
     };
-    let whole = whole_of(alloc, &*set, &referents, &cells, events);
+    let shapes = shapes_of(alloc, set)?;
+    let whole = whole_of(alloc, &*set, &referents, &cells, events, &shapes);
     let outlines = outlines_of(alloc, set, &processes)?;
     let views = views_in(&whole, &processes, &outlines)?;
     let mut code = Vec::new(alloc);
     let mut blocks = Vec::new(alloc);
     link_outlines(&mut code, &mut blocks, &whole, &views, &outlines)?;
-    image_with(alloc, set, &outlines, views, code, blocks)
+    image_with(alloc, set, shapes, &outlines, views, code, blocks)
 }

@@ -11,6 +11,7 @@ mod places;
 mod processes;
 mod ranks;
 mod rows;
+mod shapes;
 mod units;
 mod unlinked;
 mod views;

@@ -50,7 +50,8 @@ pub(crate) fn site_in<'a>(
     requires whole { IsSite whole.now }
     ensures site { IsSite result }
     ensures seen { seen_site result ≡ finding.site_with (seen_set whole.now.set.now) (map lent_place places.now) (seen_body body.now) }
-    ensures views { seen_numbering result ≡ numbering_with views.now calls.entry.first calls.entry.units.now }
+    ensures shapes { result.shapes.now ≡ whole.now.shapes.now }
+    ensures views { seen_numbering result ≡ numbering_with whole.now.shapes.now views.now calls.entry.first calls.entry.units.now }
 {
     Site {
         alloc: whole.alloc,
@@ -62,6 +63,7 @@ pub(crate) fn site_in<'a>(
         unit: body.number,
         block: body.number,
         marks: &body.marks,
+        shapes: whole.shapes,
         views,
         calls,
     }
@@ -103,7 +105,7 @@ fn link_unit(
 ) -> Result<(), Unlinked>
     requires whole { IsSite whole.now }
     requires places { map lent_place places.now ≡ places_of_process (seen_set whole.now.set.now) outline.now.process }
-    ensures { Links (linking.with_unit (seen_set whole.now.set.now) (outlines.numbering_of views.now (seen_outline outline.now)) outline.now.process (linking.linked code.old.items blocks.old.items) (sets.body_at (seen_set whole.now.set.now) unit)) result code.new.items blocks.new.items }
+    ensures { Links (linking.with_unit (seen_set whole.now.set.now) (outlines.numbering_of whole.now.shapes.now views.now (seen_outline outline.now)) outline.now.process (linking.linked code.old.items blocks.old.items) (sets.body_at (seen_set whole.now.set.now) unit)) result code.new.items blocks.new.items }
 {
     let Some(body) = body_at(whole, unit) else {
         return Err(Unlinked::Lost);
@@ -127,7 +129,7 @@ fn link_units(
 ) -> Result<(), Unlinked>
     requires whole { IsSite whole.now }
     requires places { map lent_place places.now ≡ places_of_process (seen_set whole.now.set.now) outline.now.process }
-    ensures { Links (linking.with_units (seen_set whole.now.set.now) (outlines.numbering_of views.now (seen_outline outline.now)) outline.now.process units.now (linking.linked code.old.items blocks.old.items)) result code.new.items blocks.new.items }
+    ensures { Links (linking.with_units (seen_set whole.now.set.now) (outlines.numbering_of whole.now.shapes.now views.now (seen_outline outline.now)) outline.now.process units.now (linking.linked code.old.items blocks.old.items)) result code.new.items blocks.new.items }
 {
     for unit in units {
         link_unit(code, blocks, whole, views, places, outline, *unit)?;
@@ -147,7 +149,7 @@ fn link_process(
 ) -> Result<(), Unlinked>
     requires whole { IsSite whole.now }
     requires places { map lent_place places.now ≡ places_of_process (seen_set whole.now.set.now) outline.now.process }
-    ensures { Links (linking.with_process (seen_set whole.now.set.now) (outlines.numbering_of views.now (seen_outline outline.now)) outline.now.process (linking.linked code.old.items blocks.old.items) (sets.body_at (seen_set whole.now.set.now) outline.now.unit)) result code.new.items blocks.new.items }
+    ensures { Links (linking.with_process (seen_set whole.now.set.now) (outlines.numbering_of whole.now.shapes.now views.now (seen_outline outline.now)) outline.now.process (linking.linked code.old.items blocks.old.items) (sets.body_at (seen_set whole.now.set.now) outline.now.unit)) result code.new.items blocks.new.items }
 {
     let Some(body) = body_at(whole, outline.unit) else {
         return Err(Unlinked::Lost);
@@ -169,7 +171,7 @@ fn link_outline(
 ) -> Result<(), Unlinked>
     requires whole { IsSite whole.now }
     requires laid { IsLaid whole.now.set.now }
-    ensures { Links (linking.with_outline (seen_set whole.now.set.now) views.now (seen_outline outline.now) (linking.linked code.old.items blocks.old.items)) result code.new.items blocks.new.items }
+    ensures { Links (linking.with_outline (seen_set whole.now.set.now) whole.now.shapes.now views.now (seen_outline outline.now) (linking.linked code.old.items blocks.old.items)) result code.new.items blocks.new.items }
 {
     let places = places_of(
         whole.alloc,
@@ -199,7 +201,7 @@ pub(crate) fn link_outlines(
 ) -> Result<(), Unlinked>
     requires whole { IsSite whole.now }
     requires laid { IsLaid whole.now.set.now }
-    ensures { Links (linking.with_outlines (seen_set whole.now.set.now) views.now (map seen_outline list.now) (linking.linked code.old.items blocks.old.items)) result code.new.items blocks.new.items }
+    ensures { Links (linking.with_outlines (seen_set whole.now.set.now) whole.now.shapes.now views.now (map seen_outline list.now) (linking.linked code.old.items blocks.old.items)) result code.new.items blocks.new.items }
 {
     for outline in list {
         link_outline(code, blocks, whole, views, outline)?;
@@ -217,7 +219,7 @@ fn push_views(
 ) -> Result<(), AllocError>
     requires whole { IsSite whole.now }
     requires laid { IsLaid whole.now.set.now }
-    ensures { OnOk result (into.new.items ≡ views.with_body (seen_set whole.now.set.now) process into.old.items (sets.body_at (seen_set whole.now.set.now) unit)) }
+    ensures { OnOk result (into.new.items ≡ views.with_body whole.now.shapes.now (seen_set whole.now.set.now) process into.old.items (sets.body_at (seen_set whole.now.set.now) unit)) }
 {
     let Some(body) = body_at(whole, unit) else {
         return Ok(());
@@ -232,7 +234,7 @@ fn push_views(
 pub(crate) fn views_of(whole: &Site<'_>, units: &[usize]) -> Result<Vec<View>, AllocError>
     requires whole { IsSite whole.now }
     requires laid { IsLaid whole.now.set.now }
-    ensures { IfOk result (λ list. list.items ≡ views.with_processes (seen_set whole.now.set.now) 0 [] units.now) }
+    ensures { IfOk result (λ list. list.items ≡ views.with_processes whole.now.shapes.now (seen_set whole.now.set.now) 0 [] units.now) }
 {
     let mut list = Vec::new(whole.alloc);
     for (process, unit) in units.iter().enumerate() {

@@ -13,20 +13,31 @@ ghost use Rattle.hal_gen.specs.StatementCode as codes;
 ghost use Rattle.hal_link.specs.Members as members;
 
 use hal_code::Instr;
-use hal_gen::{Exits, Locks, after_statement, emit_statement, statement_size};
+use hal_gen::{Exits, Locks, after_statement, emit_direct, statement_size};
 use hal_gen_expr::{Site, Uncoded};
 use hal_tree::Element;
 use std::alloc::AllocError;
 
-/// How many instructions stand for what stands in a unit.
+/// How many instructions stand for what stands in a unit, where the next mark has this number.
 #[tactic(auto, using(hal_tree::proofs::MadeUnits::made_statement_element, hal_tree::proofs::MadeUnits::made_unit_element))]
-fn element_size(element: &Element, site: &Site<'_>) -> Result<usize, AllocError>
+fn element_size(element: &Element, site: &Site<'_>, mark: usize) -> Result<usize, AllocError>
     requires site { IsSite site.now }
-    ensures { IfOk result (λ size. size ≡ members.member_size (seen_numbering site.now) (seen_site site.now) (seen_element element.now)) }
+    ensures { IfOk result (λ size. size ≡ members.member_size (seen_numbering site.now) (seen_site site.now) mark (seen_element element.now)) }
 {
     match element {
-        Element::Statement(statement) => statement_size(statement, site),
+        Element::Statement(statement) => statement_size(statement, site, mark),
         Element::Unit(_) => Ok(0),
+    }
+}
+
+/// The number of the next mark behind it.
+#[tactic(auto, using(hal_tree::proofs::MadeUnits::made_statement_element, hal_tree::proofs::MadeUnits::made_unit_element))]
+fn after_element(element: &Element, mark: usize) -> Result<usize, AllocError>
+    ensures { IfOk result (λ next. next ≡ members.after_member mark (seen_element element.now)) }
+{
+    match element {
+        Element::Statement(statement) => after_statement(statement, mark),
+        Element::Unit(_) => Ok(mark),
     }
 }
 
@@ -34,14 +45,16 @@ fn element_size(element: &Element, site: &Site<'_>) -> Result<usize, AllocError>
 #[tactic(auto, unfolding(crate::specs::Members::with_members))]
 fn size_of_all(list: &[Element], site: &Site<'_>) -> Result<usize, AllocError>
     requires site { IsSite site.now }
-    ensures { IfOk result (λ size. size ≡ members.with_members (seen_numbering site.now) (seen_site site.now) 0 (map seen_element list.now)) }
+    ensures { IfOk result (λ size. size ≡ members.with_members (seen_numbering site.now) (seen_site site.now) 0 0 (map seen_element list.now)) }
 {
     let mut size: usize = 0;
+    let mut mark: usize = 0;
     for element in list {
-        let Some(sum) = size.checked_add(element_size(element, site)?) else {
+        let Some(sum) = size.checked_add(element_size(element, site, mark)?) else {
             return Err(AllocError);
         };
         size = sum;
+        mark = after_element(element, mark)?;
     }
     Ok(size)
 }
@@ -50,7 +63,7 @@ fn size_of_all(list: &[Element], site: &Site<'_>) -> Result<usize, AllocError>
 #[tactic(auto, using(crate::proofs::Coded::members_sized))]
 pub(crate) fn elements_size(list: &[Element], site: &Site<'_>) -> Result<usize, AllocError>
     requires site { IsSite site.now }
-    ensures { IfOk result (λ size. size ≡ sizes.statements_size (seen_numbering site.now) (seen_site site.now) (statements_of (elements (map seen_element list.now)))) }
+    ensures { IfOk result (λ size. size ≡ sizes.statements_size (seen_numbering site.now) (seen_site site.now) 0 (statements_of (elements (map seen_element list.now)))) }
 {
     size_of_all(list, site)
 }
@@ -70,19 +83,8 @@ fn emit_element<'a>(
     ensures { Emits (members.member_code (seen_numbering site.now) (seen_site site.now) code.old.items (seen_exits exits.now) mark (seen_element element.now)) result code.new.items }
 {
     match element {
-        Element::Statement(statement) => emit_statement(statement, code, site, locks, exits, mark),
+        Element::Statement(statement) => emit_direct(statement, code, site, locks, exits, mark),
         Element::Unit(_) => Ok(()),
-    }
-}
-
-/// The number of the next mark behind it.
-#[tactic(auto, using(hal_tree::proofs::MadeUnits::made_statement_element, hal_tree::proofs::MadeUnits::made_unit_element))]
-fn after_element(element: &Element, mark: usize) -> Result<usize, AllocError>
-    ensures { IfOk result (λ next. next ≡ members.after_member mark (seen_element element.now)) }
-{
-    match element {
-        Element::Statement(statement) => after_statement(statement, mark),
-        Element::Unit(_) => Ok(mark),
     }
 }
 
@@ -118,7 +120,7 @@ pub(crate) fn emit_elements<'a>(
 ) -> Result<(), Uncoded>
     requires site { IsSite site.now }
     requires locks { AreGroups site.now locks.now }
-    ensures { Emits (codes.statements_code (seen_numbering site.now) (seen_site site.now) code.old.items (seen_exits exits.now) 0 (statements_of (elements (map seen_element list.now)))) result code.new.items }
+    ensures { Emits (codes.block_code (seen_numbering site.now) (seen_site site.now) code.old.items (seen_exits exits.now) 0 (statements_of (elements (map seen_element list.now)))) result code.new.items }
 {
     emit_all(list, code, site, locks, exits)
 }

@@ -50,7 +50,7 @@ fn emit_process(
 {
     let finish = finish_of(code, site, body)?;
     push(code, Instr::Begin)?;
-    let exits = Exits::of_block(site.alloc, Leaving::ToFinish(finish), finish);
+    let exits = Exits::of_body(site.alloc, Leaving::ToFinish(finish));
     emit_elements(&body.unit.elements, code, site, locks, &exits)?;
     push(code, Instr::Finish)?;
     Ok(())

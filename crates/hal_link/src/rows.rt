@@ -2,12 +2,15 @@
 
 ghost use Rattle.std.specs.Prelude.{◌≡◌, ◌∷◌, ◌++◌, [], IfOk, OnOk, map};
 ghost use Rattle.hal_own_places.specs.SeenPlaces.{seen_place};
+ghost use Rattle.hal_set.specs.SeenSets.{seen_set};
 ghost use Rattle.hal_gen_expr.specs.SeenSites.{lent_place};
 ghost use Rattle.hal_link.specs.Linking as linking;
 
+use crate::shapes::reference_shape;
 use hal_code::{Choice, OwnPlace, Run};
 use hal_own_places::Place;
-use hal_values::{Cell, EventStart, Listing};
+use hal_set::Set;
+use hal_values::{Cell, EventStart, Kind, Listing};
 use std::alloc::{AllocError, Global};
 
 /// A shared cell, once more.
@@ -51,16 +54,21 @@ pub(crate) fn event_rows(
     Ok(Listing::new(rows))
 }
 
-/// The row of an own place; a reference has no shape yet.
-fn own_row(place: &Place) -> OwnPlace
-    ensures { result ≡ linking.own_row (seen_place place.now) }
+/// The row of an own place; a reference is to data of the shape of its parameter.
+fn own_row(
+    alloc: Global,
+    set: &Set<'_>,
+    shapes: &[Listing<Run<Kind>>],
+    place: &Place,
+) -> Result<OwnPlace, AllocError>
+    ensures { IfOk result (λ row. row ≡ linking.own_row (seen_set set.now) shapes.now (seen_place place.now)) }
 {
     match place.kind {
-        None => OwnPlace::Reference(0),
-        Some(kind) => OwnPlace::Data {
+        None => Ok(OwnPlace::Reference(reference_shape(alloc, set, shapes, place.owner)?)),
+        Some(kind) => Ok(OwnPlace::Data {
             kind,
             initial: place.initial.copy(),
-        },
+        }),
     }
 }
 
@@ -68,16 +76,16 @@ fn own_row(place: &Place) -> OwnPlace
 #[tactic(auto, using(hal_elements::proofs::Repeated::behind, hal_elements::proofs::Repeated::none_behind))]
 pub(crate) fn place_rows(
     alloc: Global,
+    set: &Set<'_>,
+    shapes: &[Listing<Run<Kind>>],
     places: &[&Place],
 ) -> Result<Listing<Run<OwnPlace>>, AllocError>
-    ensures { IfOk result (λ rows. rows ≡ map linking.alone (map linking.own_row (map lent_place places.now))) }
+    ensures { IfOk result (λ rows. rows ≡ map linking.alone (map (linking.own_row (seen_set set.now) shapes.now) (map lent_place places.now))) }
 {
     let mut rows = Vec::new(alloc);
     for place in places {
-        rows.push(Run {
-            repeat: 1,
-            row: own_row(place),
-        })?;
+        let row = own_row(alloc, set, shapes, place)?;
+        rows.push(Run { repeat: 1, row })?;
     }
     Ok(Listing::new(rows))
 }

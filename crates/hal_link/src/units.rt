@@ -1,6 +1,6 @@
 //! The code of units that are called.
 
-ghost use Rattle.std.specs.Prelude.{◌≡◌, ◌++◌, IfOk, OnOk, map};
+ghost use Rattle.std.specs.Prelude.{◌≡◌, ◌++◌, OnOk, map};
 ghost use Rattle.hal_tree.specs.SeenDeclarations.{seen_type};
 ghost use Rattle.hal_tree.specs.SeenUnits.{seen_head, seen_returns};
 ghost use Rattle.hal_own_places.specs.SeenPlaces.{seen_place};
@@ -17,7 +17,7 @@ ghost use Rattle.hal_link.specs.Links.{Links};
 ghost use Rattle.hal_link.specs.Linking as linking;
 ghost use Rattle.hal_link.specs.UnitCode as codes;
 
-use crate::members::{elements_size, emit_elements};
+use crate::members::emit_elements;
 use crate::processes::{is_function, push_block};
 use crate::unlinked::Unlinked;
 use hal_code::{Block, Choice, Instr, ResultKind};
@@ -111,24 +111,11 @@ fn leaving_by(head: &Head) -> Leaving
     }
 }
 
-/// Where control goes from inside the statements of a unit with this head, whose end stands there.
-fn exits_of<'a>(alloc: Global, head: &Head, end: usize) -> Exits<'a>
-    ensures { seen_exits result ≡ codes.to_caller (seen_head head.now) end }
+/// Where control goes from inside the statements of a unit with this head.
+fn exits_of<'a>(alloc: Global, head: &Head) -> Exits<'a>
+    ensures { seen_exits result ≡ codes.to_caller (seen_head head.now) }
 {
-    Exits::of_block(alloc, leaving_by(head), end)
-}
-
-/// Where the end of a unit stands, whose first statement is the next one.
-#[tactic(auto, using(crate::proofs::Coded::statements_listed))]
-fn end_of(code: &[Instr], site: &Site<'_>, body: &Body<'_>) -> Result<usize, AllocError>
-    requires site { IsSite site.now }
-    ensures { IfOk result (λ end. end ≡ codes.end_of (seen_numbering site.now) (seen_site site.now) code.now (seen_body body.now).statements) }
-{
-    let size = elements_size(&body.unit.elements, site)?;
-    match code.len().checked_add(size) {
-        None => Err(AllocError),
-        Some(end) => Ok(end),
-    }
+    Exits::of_body(alloc, leaving_by(head))
 }
 
 /// Whether a place belongs to AUTOMATIC data of the unit with this number.
@@ -191,8 +178,7 @@ fn emit_body(
     requires locks { AreGroups site.now locks.now }
     ensures { Emits (codes.body_code (seen_numbering site.now) (seen_site site.now) code.old.items (seen_body body.now).head (seen_body body.now).statements) result code.new.items }
 {
-    let end = end_of(code, site, body)?;
-    let exits = exits_of(site.alloc, &body.unit.head, end);
+    let exits = exits_of(site.alloc, &body.unit.head);
     emit_elements(&body.unit.elements, code, site, locks, &exits)?;
     emit_end(code, &body.unit.head)?;
     Ok(())

@@ -5,22 +5,27 @@ ghost use Rattle.std.specs.List.{list_any};
 ghost use Rattle.hal_cells.specs.SeenStoring.{seen_storing};
 ghost use Rattle.hal_phrases.specs.SeenPhrases.{seen_node, seen_phrase};
 ghost use Rattle.hal_referents.specs.SeenReferents.{seen_meant, seen_referent};
-ghost use Rattle.hal_tree.specs.SeenExpressions.{seen_reference};
+ghost use Rattle.hal_tree.specs.Rows.{expressions};
+ghost use Rattle.hal_tree.specs.SeenExpressions.{seen_expression, seen_reference, seen_subscript};
 ghost use Rattle.hal_tree.specs.SeenLeaves.{seen_name};
-ghost use Rattle.hal_gen_expr.specs.Numbering.{is_cell_view};
+ghost use Rattle.hal_gen_expr.specs.Numbering.{is_area_view, is_cell_view};
+ghost use Rattle.hal_meaning.specs.Calls.{parameter_named};
+ghost use Rattle.hal_gen_expr.specs.Shapes.{runs_of};
 ghost use Rattle.hal_gen_expr.specs.SeenLed.{seen_led};
 ghost use Rattle.hal_gen_expr.specs.SeenSites.{seen_site, IsSite};
 ghost use Rattle.hal_link.specs.Views as views;
 
 use hal_cells::Storing;
-use hal_code::{Base, Dimension, Target, View};
+use hal_code::{Base, Dimension, Run, Target, View};
+use hal_gen::within_block;
 use hal_gen_expr::{
-    Element, Led, Site, base_of, dimensions_led, element_named, first_led, is_cell_view, is_plain,
-    led_by, referent, speaks,
+    Element, Led, Site, base_of, dimensions_led, element_named, first_led, indexes, inputs_at,
+    is_area_view, is_cell_view, is_plain, led_by, outputs_at, parameter_named, parameter_runs,
+    referent, shape_in, speaks,
 };
 use hal_phrases::{Node, Phrase, Role};
 use hal_referents::{Meant, Referent};
-use hal_tree::{Identifier, Reference};
+use hal_tree::{Expr, Identifier, Reference, Subscript};
 use hal_values::{Kind, Listing};
 use std::alloc::AllocError;
 
@@ -132,7 +137,7 @@ fn push_led(
     requires site { IsSite site.now }
     ensures { OnOk result (into.new.items ≡ views.with_led (seen_site site.now) into.old.items spoken (Some (seen_led led.entry))) }
 {
-    let rows = dimensions_led(site.alloc, spoken, led)?;
+    let rows = dimensions_led(site.alloc, spoken, true, led)?;
     let one = first_led(led);
     let from = base_of(site, led.declared, led.stored, one.before);
     push_cell(into, rows, one.kind, from)
@@ -155,6 +160,242 @@ fn push_reference(
     match led_by(&reference.further, meant) {
         None => Ok(()),
         Some(led) => push_led(into, site, speaks(&reference.subscript), led),
+    }
+}
+
+/// Whether the view of the cells of the shape with this number in these dimensions, which begins there, is among these.
+fn has_area(views: &[View], rows: &[Dimension], shape: u32, from: Base) -> bool
+    ensures { result ≡ list_any (is_area_view from rows.now shape) views.now }
+{
+    views
+        .iter()
+        .any(|view| is_area_view(from, rows, shape, view))
+}
+
+/// Adds the view of the cells of the shape with this number in these dimensions, which begins there, unless it is among them.
+fn push_shape(
+    into: &mut Vec<View>,
+    rows: Vec<Dimension>,
+    from: Option<Base>,
+    shape: Option<u32>,
+) -> Result<(), AllocError>
+    ensures { OnOk result (into.new.items ≡ views.with_shape rows.items into.old.items from shape) }
+{
+    let Some(base) = from else {
+        return Ok(());
+    };
+    let Some(shape) = shape else {
+        return Ok(());
+    };
+    if has_area(into, &rows, shape, base) {
+        return Ok(());
+    }
+    into.push(View {
+        base,
+        dimensions: Listing::new(rows),
+        target: Target::Shape(shape),
+    })?;
+    Ok(())
+}
+
+/// Adds that of cells of these kinds which a subscript chooses.
+#[tactic(auto, unfolding(hal_gen_expr::specs::SeenLed::seen_led))]
+fn push_area(
+    into: &mut Vec<View>,
+    site: &Site<'_>,
+    runs: &[Run<Kind>],
+    subscript: &Subscript,
+    led: Led<'_>,
+) -> Result<(), AllocError>
+    requires site { IsSite site.now }
+    ensures { OnOk result (into.new.items ≡ views.with_area site.now.shapes.now (seen_site site.now) runs.now into.old.items (seen_subscript subscript.now) (Some (seen_led led.entry))) }
+{
+    let rows = dimensions_led(site.alloc, speaks(subscript), indexes(subscript), led)?;
+    let one = first_led(led);
+    let from = base_of(site, led.declared, led.stored, one.before);
+    push_shape(into, rows, from, shape_in(site.shapes, runs))
+}
+
+/// Adds that of an argument of these kinds.
+#[tactic(auto, using(hal_tree::proofs::MadeExpressions::made_reference))]
+fn push_referred(
+    into: &mut Vec<View>,
+    site: &Site<'_>,
+    runs: &[Run<Kind>],
+    reference: &Reference,
+) -> Result<(), AllocError>
+    requires site { IsSite site.now }
+    ensures { OnOk result (into.new.items ≡ views.with_referred site.now.shapes.now (seen_site site.now) runs.now into.old.items (seen_reference reference.now)) }
+{
+    match led_by(&reference.further, referent(site, &reference.name)) {
+        None => Ok(()),
+        Some(led) => push_area(into, site, runs, &reference.subscript, led),
+    }
+}
+
+/// Adds that of an argument for the parameter of this name of the unit with this number.
+#[tactic(auto, unfolding(hal_gen_expr::specs::SeenSites::seen_site))]
+fn push_spot(
+    into: &mut Vec<View>,
+    site: &Site<'_>,
+    unit: usize,
+    name: &Identifier,
+    reference: &Reference,
+) -> Result<(), AllocError>
+    requires site { IsSite site.now }
+    ensures { OnOk result (into.new.items ≡ views.with_spot site.now.shapes.now (seen_site site.now) into.old.items (parameter_named (seen_site site.now).set unit (seen_name name.now)) (seen_reference reference.now)) }
+{
+    let runs = parameter_runs(site.alloc, site.set, unit, name)?;
+    push_referred(into, site, &runs, reference)
+}
+
+/// Adds that of an argument of these kinds, where it is a reference.
+#[tactic(auto, using(hal_tree::proofs::MadeExpressions::made_or, hal_tree::proofs::MadeExpressions::made_and, hal_tree::proofs::MadeExpressions::made_compare, hal_tree::proofs::MadeExpressions::made_cat, hal_tree::proofs::MadeExpressions::made_sum, hal_tree::proofs::MadeExpressions::made_product, hal_tree::proofs::MadeExpressions::made_power, hal_tree::proofs::MadeExpressions::made_not, hal_tree::proofs::MadeExpressions::made_literal, hal_tree::proofs::MadeExpressions::made_decimal, hal_tree::proofs::MadeExpressions::made_referred, hal_tree::proofs::MadeExpressions::made_call, hal_tree::proofs::MadeExpressions::made_convert, hal_tree::proofs::MadeExpressions::made_parenthesis))]
+fn push_whole(
+    into: &mut Vec<View>,
+    site: &Site<'_>,
+    runs: &[Run<Kind>],
+    tree: &Expr,
+) -> Result<(), AllocError>
+    requires site { IsSite site.now }
+    ensures { OnOk result (into.new.items ≡ views.with_whole site.now.shapes.now (seen_site site.now) runs.now into.old.items (seen_expression tree.now)) }
+{
+    match tree {
+        Expr::Reference(reference) => push_referred(into, site, runs, reference),
+        Expr::Or { .. } => Ok(()),
+        Expr::And { .. } => Ok(()),
+        Expr::Compare { .. } => Ok(()),
+        Expr::Cat { .. } => Ok(()),
+        Expr::Sum { .. } => Ok(()),
+        Expr::Product { .. } => Ok(()),
+        Expr::Power { .. } => Ok(()),
+        Expr::Not { .. } => Ok(()),
+        Expr::Literal { .. } => Ok(()),
+        Expr::Decimal { .. } => Ok(()),
+        Expr::Call { .. } => Ok(()),
+        Expr::Convert { .. } => Ok(()),
+        Expr::Parenthesis { .. } => Ok(()),
+    }
+}
+
+/// Adds that of an argument for the whole parameter of this name of the unit with this number.
+#[tactic(auto, unfolding(hal_gen_expr::specs::SeenSites::seen_site))]
+fn push_whole_argument(
+    into: &mut Vec<View>,
+    site: &Site<'_>,
+    unit: usize,
+    name: &Identifier,
+    tree: &Expr,
+) -> Result<(), AllocError>
+    requires site { IsSite site.now }
+    ensures { OnOk result (into.new.items ≡ views.with_whole site.now.shapes.now (seen_site site.now) (runs_of (parameter_named (seen_site site.now).set unit (seen_name name.now)).shape) into.old.items (seen_expression tree.now)) }
+{
+    let runs = parameter_runs(site.alloc, site.set, unit, name)?;
+    push_whole(into, site, &runs, tree)
+}
+
+/// Adds that of an argument for the input parameter of this name, where it is an array or a structure.
+#[tactic(auto, unfolding(hal_gen_expr::specs::SeenSites::seen_site))]
+fn push_argument(
+    into: &mut Vec<View>,
+    site: &Site<'_>,
+    unit: usize,
+    name: &Identifier,
+    tree: &Expr,
+) -> Result<(), AllocError>
+    requires site { IsSite site.now }
+    ensures { OnOk result (into.new.items ≡ views.with_argument site.now.shapes.now (seen_site site.now) into.old.items (parameter_named (seen_site site.now).set unit (seen_name name.now)) (seen_expression tree.now)) }
+{
+    let one = parameter_named(site.alloc, site.set, unit, name)?;
+    if one.whole {
+        push_whole_argument(into, site, unit, name, tree)
+    } else {
+        Ok(())
+    }
+}
+
+/// Adds those of arguments for the input parameters of these names.
+#[cycle(arguments)]
+#[tactic(auto, unfolding(crate::specs::Views::with_arguments, hal_tree::specs::Rows::expressions))]
+fn push_arguments(
+    names: &[Identifier],
+    trees: &[Expr],
+    into: &mut Vec<View>,
+    site: &Site<'_>,
+    unit: usize,
+) -> Result<(), AllocError>
+    requires site { IsSite site.now }
+    ensures { OnOk result (into.new.items ≡ views.with_arguments site.now.shapes.now (seen_site site.now) unit into.old.items (map seen_name names.now) (expressions (map seen_expression trees.now))) }
+{
+    match (names.split_first(), trees.split_first()) {
+        (Some((name, others)), Some((first, more))) => {
+            push_argument(into, site, unit, name, first)?;
+            push_arguments(others, more, into, site, unit)
+        }
+        _ => Ok(()),
+    }
+}
+
+/// Adds those of ASSIGN arguments for the parameters of these names.
+#[cycle(spots)]
+#[tactic(auto, unfolding(crate::specs::Views::with_spots))]
+fn push_spots(
+    names: &[Identifier],
+    receivers: &[Reference],
+    into: &mut Vec<View>,
+    site: &Site<'_>,
+    unit: usize,
+) -> Result<(), AllocError>
+    requires site { IsSite site.now }
+    ensures { OnOk result (into.new.items ≡ views.with_spots site.now.shapes.now (seen_site site.now) unit into.old.items (map seen_name names.now) (map seen_reference receivers.now)) }
+{
+    match (names.split_first(), receivers.split_first()) {
+        (Some((name, others)), Some((receiver, more))) => {
+            push_spot(into, site, unit, name, receiver)?;
+            push_spots(others, more, into, site, unit)
+        }
+        _ => Ok(()),
+    }
+}
+
+/// Adds those of a call of what a phrase declares.
+fn push_declared_call(
+    into: &mut Vec<View>,
+    site: &Site<'_>,
+    arguments: &[Expr],
+    receivers: &[Reference],
+    referent: &Referent,
+) -> Result<(), AllocError>
+    requires site { IsSite site.now }
+    ensures { OnOk result (into.new.items ≡ views.with_call site.now.shapes.now (seen_site site.now) into.old.items (expressions (map seen_expression arguments.now)) (map seen_reference receivers.now) (seen_referent referent.now)) }
+{
+    match referent {
+        Referent::Block(unit) => {
+            push_arguments(inputs_at(site, *unit), arguments, into, site, *unit)?;
+            push_spots(outputs_at(site, *unit), receivers, into, site, *unit)
+        }
+        Referent::Data { .. } => Ok(()),
+        Referent::Constant(_) => Ok(()),
+        Referent::Event(_) => Ok(()),
+        Referent::Nothing => Ok(()),
+    }
+}
+
+/// Adds those of a call of what a name means.
+fn push_call(
+    into: &mut Vec<View>,
+    site: &Site<'_>,
+    arguments: &[Expr],
+    receivers: &[Reference],
+    meant: Meant<'_>,
+) -> Result<(), AllocError>
+    requires site { IsSite site.now }
+    ensures { OnOk result (into.new.items ≡ views.with_call site.now.shapes.now (seen_site site.now) into.old.items (expressions (map seen_expression arguments.now)) (map seen_reference receivers.now) (seen_meant meant.entry)) }
+{
+    match meant {
+        Meant::Declared(referent) => push_declared_call(into, site, arguments, receivers, referent),
+        Meant::Builtin(_) => Ok(()),
+        Meant::Nothing => Ok(()),
     }
 }
 
@@ -183,6 +424,15 @@ fn push_places(into: &mut Vec<View>, site: &Site<'_>, group: usize) -> Result<()
     push_place(into, site, group, 3)
 }
 
+/// Adds those of one with a TEMPORARY variable, which is the first of five.
+fn push_temporary(into: &mut Vec<View>, site: &Site<'_>, group: usize) -> Result<(), AllocError>
+    requires site { IsSite site.now }
+    ensures { OnOk result (into.new.items ≡ views.with_temporary (seen_site site.now) group into.old.items) }
+{
+    push_places(into, site, group)?;
+    push_place(into, site, group, 4)
+}
+
 /// Adds that of the number of a DO CASE.
 fn push_role(
     into: &mut Vec<View>,
@@ -199,15 +449,16 @@ fn push_role(
     }
 }
 
-/// Adds that of a phrase, of which this is the parent.
+/// Adds those of a phrase, of which these are the number and the parent.
 fn push_node(
     into: &mut Vec<View>,
     site: &Site<'_>,
+    number: usize,
     parent: usize,
     node: Node<'_>,
 ) -> Result<(), AllocError>
     requires site { IsSite site.now }
-    ensures { OnOk result (into.new.items ≡ views.with_node (seen_site site.now) into.old.items parent (seen_node node.entry)) }
+    ensures { OnOk result (into.new.items ≡ views.with_node site.now.shapes.now (seen_site site.now) into.old.items number parent (seen_node node.entry)) }
 {
     match node {
         Node::Expression { role, tree: _ } => push_role(into, site, parent, role),
@@ -215,25 +466,41 @@ fn push_node(
             push_meant(into, site, &[], referent(site, &name.name))?;
             push_places(into, site, parent)
         }
+        Node::TemporaryGroup { .. } => push_temporary(into, site, number),
         Node::Reference { role: _, reference } => push_reference(into, site, reference),
         Node::SubscriptName { name } => push_meant(into, site, &[], referent(site, &name.name)),
         Node::CallForm {
             place: _,
             name,
-            arguments: _,
-        } => push_meant(into, site, &[], referent(site, name)),
+            arguments,
+        } => {
+            push_meant(into, site, &[], referent(site, name))?;
+            push_call(into, site, arguments, &[], referent(site, name))
+        }
+        Node::Call {
+            name,
+            arguments,
+            receivers,
+        } => push_call(into, site, arguments, receivers, referent(site, &name.name)),
         _ => Ok(()),
     }
 }
 
-/// Adds that of a phrase, where it stands in the unit.
+/// Adds those of a phrase, where it stands in the unit; its names are looked up in the innermost block around it.
 #[tactic(auto, unfolding(hal_gen_expr::specs::SeenSites::seen_site))]
 fn push_phrase(into: &mut Vec<View>, site: &Site<'_>, phrase: &Phrase<'_>) -> Result<(), AllocError>
     requires site { IsSite site.now }
-    ensures { OnOk result (into.new.items ≡ views.with_phrase (seen_site site.now) into.old.items (seen_phrase phrase.now)) }
+    ensures { OnOk result (into.new.items ≡ views.with_phrase site.now.shapes.now (seen_site site.now) into.old.items (seen_phrase phrase.now)) }
 {
     if phrase.around.home == site.unit {
-        push_node(into, site, phrase.around.parent, phrase.node)
+        let inner = within_block(site, phrase.around.block);
+        push_node(
+            into,
+            &inner,
+            phrase.number,
+            phrase.around.parent,
+            phrase.node,
+        )
     } else {
         Ok(())
     }
@@ -247,7 +514,7 @@ pub(crate) fn push_phrases(
     phrases: &[Phrase<'_>],
 ) -> Result<(), AllocError>
     requires site { IsSite site.now }
-    ensures { OnOk result (into.new.items ≡ views.with_phrases (seen_site site.now) into.old.items (map seen_phrase phrases.now)) }
+    ensures { OnOk result (into.new.items ≡ views.with_phrases site.now.shapes.now (seen_site site.now) into.old.items (map seen_phrase phrases.now)) }
 {
     for phrase in phrases {
         push_phrase(into, site, phrase)?;

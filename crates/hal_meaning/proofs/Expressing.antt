@@ -26,12 +26,12 @@ use Rattle.hal_values.specs.declared.value.Value.{Value}
 use Rattle.hal_values.specs.declared.value.Value.TheVariants as value
 use Rattle.hal_values.specs.Answers.{Answered, error}
 use Rattle.hal_values.specs.Tables.{event_count}
-use Rattle.hal_states.specs.Spots.{Spot, further}
+use Rattle.hal_states.specs.Spots.{Spot, Held, further}
 use Rattle.hal_states.specs.Numbers.{integer_of}
 use Rattle.hal_meaning.specs.Elements.{Shape, chosen, offset}
 use Rattle.hal_meaning.specs.States.{State, Evaluated, Gives, bind}
 use Rattle.hal_meaning.specs.Access.{Here}
-use Rattle.hal_meaning.specs.Variables.{Meant, MeantData, MeantConstant, MeantEvent, MeantBlock, MeantBuiltin, MeantNothing, name_meant, Index, Single, Dimension, dimensions_of, all_inside, kind_of_first, is_arrayed}
+use Rattle.hal_meaning.specs.Variables.{Meant, MeantData, MeantConstant, MeantEvent, MeantBlock, MeantBuiltin, MeantNothing, name_meant, spot_named, Index, Single, Dimension, dimensions_of, all_inside, kind_of_first, is_arrayed}
 use Rattle.hal_meaning.specs.Calls.{Passed}
 use Rattle.hal_meaning.specs.Expressions.{operation_of_relation, operation_of_sign, operation_of_conversion, is_condition, are_conditions, becomes_condition, as_operand, apply_one, apply_two, signed, exponent_of, part_of, Located, located, event_value, alone_value, plain_value, named_value, built, sizes_named, copies_of, size_argument, is_size, inputs_at, is_whole_parameter, after_first, first_size, after_first_dimension, spoken, by_place, argument, call_form, subscripted, meant_chosen, part_unless, expression, joined, folded, summed, values, passed, chosen_by, referred, chosen_data, data_chosen, array_indexes, indexes, index, position, component, parts_of, part_chosen}
 use Rattle.hal_meaning.specs.Tasks.{Meaning}
@@ -129,12 +129,12 @@ module _ (h : Here) (limit n : ℕ) (a : Answered) (rec after : Meaning) (ready 
   Runs-form size give give' all all' multiply multiply' MeantNothing st fit gives items product =
       product (value.Int (pos 0)) st fit
 
-  Runs-subscripted : (path : List Naming) (choose choose' : Spot → Shape → State → Evaluated Located) (take take' : Bool → Value → State → Evaluated Value) (m : Meant) (st : State) → Fit h limit st
-      → ((at : Spot) (shape : Shape) → Runs h limit a (choose at shape st) (choose' at shape (pushed a st)))
+  Runs-subscripted : (path : List Naming) (choose choose' : Shape → State → Evaluated Located) (take take' : Bool → Value → State → Evaluated Value) (m : Meant) (st : State) → Fit h limit st
+      → ((shape : Shape) → Runs h limit a (choose shape st) (choose' shape (pushed a st)))
       → ((arrayed : Bool) (v : Value) (later : State) → Fit h limit later → Runs h limit a (take arrayed v later) (take' arrayed v (pushed a later)))
       → Runs h limit a (subscripted rec h path choose take m st) (subscripted after h path choose' take' m (pushed a st))
   Runs-subscripted path choose choose' take take' (MeantData at shape) st fit chooses takes =
-      seq h limit a _ _ _ _ (chooses at shape)
+      seq h limit a _ _ _ _ (chooses shape)
       (λ l later known. seq h limit a _ _ _ _ (Goes-read h h.set.turns limit a l.kind l.at later known) (λ v last more. takes (is_arrayed (sizes_named path shape)) v last more))
   Runs-subscripted path choose choose' take take' (MeantConstant v) st fit chooses takes =
       takes false v st fit
@@ -147,17 +147,17 @@ module _ (h : Here) (limit n : ℕ) (a : Answered) (rec after : Meaning) (ready 
   Runs-subscripted path choose choose' take take' MeantNothing st fit chooses takes =
       takes false (value.Int (pos 0)) st fit
 
-  Runs-meant : (choose choose' : Spot → Shape → State → Evaluated Located) (m : Meant) (st : State) → Fit h limit st
-      → ((at : Spot) (shape : Shape) → Runs h limit a (choose at shape st) (choose' at shape (pushed a st)))
+  Runs-meant : (choose choose' : Shape → State → Evaluated Located) (m : Meant) (st : State) → Fit h limit st
+      → ((shape : Shape) → Runs h limit a (choose shape st) (choose' shape (pushed a st)))
       → Runs h limit a (meant_chosen choose m st) (meant_chosen choose' m (pushed a st))
-  Runs-meant choose choose' (MeantData at shape) st fit chooses = chooses at shape
+  Runs-meant choose choose' (MeantData at shape) st fit chooses = chooses shape
   Runs-meant choose choose' (MeantConstant v) st fit chooses = (fit, refl)
   Runs-meant choose choose' (MeantEvent e) st fit chooses = (fit, refl)
   Runs-meant choose choose' (MeantBlock unit) st fit chooses = (fit, refl)
   Runs-meant choose choose' (MeantBuiltin b) st fit chooses = (fit, refl)
   Runs-meant choose choose' MeantNothing st fit chooses = (fit, refl)
 
-  Runs-by_place : (path : List Naming) (place place' : Evaluated Value) (at : Spot) (shape : Shape) (st : State) → Fit h limit st → Runs h limit a place place'
+  Runs-by_place : (path : List Naming) (place place' : Evaluated Value) (at : List Held → Spot) (shape : Shape) (st : State) → Fit h limit st → Runs h limit a place place'
       → Runs h limit a (by_place h path place at shape st) (by_place h path place' at shape (pushed a st))
   Runs-by_place path place place' at shape st fit is =
       Goes-if h.set.tables h.set.turns limit a (Fine h.set.tables h.set.turns limit) (is_arrayed (sizes_named path shape)) _ _ _ _
@@ -245,14 +245,14 @@ module _ (h : Here) (limit n : ℕ) (a : Answered) (rec after : Meaning) (ready 
 
     Runs-referred : (reference : Reference) (st : State) → Fit h limit st → Runs h limit a (referred rec h reference st) (referred after h reference (pushed a st))
     Runs-referred (Refers place name path subscript) st fit =
-        Runs-subscripted path (λ at shape before. data_chosen rec h path subscript at shape before) (λ at shape before. data_chosen after h path subscript at shape before)
+        Runs-subscripted path (λ shape before. data_chosen rec h path subscript (spot_named h name) shape before) (λ shape before. data_chosen after h path subscript (spot_named h name) shape before)
         (λ arrayed v later. component rec h arrayed subscript v later) (λ arrayed v later. component after h arrayed subscript v later) (name_meant h name st.kept.places) st fit
-        (λ at shape. Runs-data path subscript at shape st fit) (λ arrayed v later known. Runs-component arrayed subscript v later known)
+        (λ shape. Runs-data path subscript (spot_named h name) shape st fit) (λ arrayed v later known. Runs-component arrayed subscript v later known)
 
     pub Runs-chosen : (reference : Reference) (st : State) → Fit h limit st → Runs h limit a (chosen_data rec h reference st) (chosen_data after h reference (pushed a st))
-    Runs-chosen (Refers place name path subscript) st fit = Runs-meant (λ at shape before. data_chosen rec h path subscript at shape before) (λ at shape before. data_chosen after h path subscript at shape before) (name_meant h name st.kept.places) st fit (λ at shape. Runs-data path subscript at shape st fit)
+    Runs-chosen (Refers place name path subscript) st fit = Runs-meant (λ shape before. data_chosen rec h path subscript (spot_named h name) shape before) (λ shape before. data_chosen after h path subscript (spot_named h name) shape before) (name_meant h name st.kept.places) st fit (λ shape. Runs-data path subscript (spot_named h name) shape st fit)
 
-    Runs-data : (path : List Naming) (subscript : Subscript) (at : Spot) (shape : Shape) (st : State) → Fit h limit st
+    Runs-data : (path : List Naming) (subscript : Subscript) (at : List Held → Spot) (shape : Shape) (st : State) → Fit h limit st
         → Runs h limit a (data_chosen rec h path subscript at shape st) (data_chosen after h path subscript at shape (pushed a st))
     Runs-data path Unsubscripted at shape st fit = (fit, refl)
     Runs-data path (ByName place name) at shape st fit = Runs-by_place path _ _ at shape st fit (Runs-named name st fit)
@@ -262,7 +262,7 @@ module _ (h : Here) (limit n : ℕ) (a : Answered) (rec after : Meaning) (ready 
         (λ is later known. seq h limit a _ _ _ _
         (Goes-if h.set.tables h.set.turns limit a (Fine h.set.tables h.set.turns limit) (is_none arrays) _ _ _ _
         (λ none. Runs-array (sizes_named path shape) components later known) (λ some. Runs-indexes (dimensions_of (sizes_named path shape)) arrays later known))
-        (λ js last more. Runs-located h limit a (further (offset path shape.components) at) (kind_of_first (chosen path shape.components)) (spoken copies (copies_of shape) ++ dimensions_of (sizes_named path shape)) (is ++ js) last more))
+        (λ js last more. Runs-located h limit a (further (offset path shape.components) (at last.kept.places)) (kind_of_first (chosen path shape.components)) (spoken copies (copies_of shape) ++ dimensions_of (sizes_named path shape)) (is ++ js) last more))
 
     Runs-array : (sizes : List ℕ) (list : Subscripts) (st : State) → Fit h limit st → Runs h limit a (array_indexes rec h sizes list st) (array_indexes after h sizes list (pushed a st))
     Runs-array [] NoSubscripts st fit = (fit, refl)

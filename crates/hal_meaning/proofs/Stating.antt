@@ -24,12 +24,12 @@ use Rattle.hal_states.specs.Modes.{turns_given}
 use Rattle.hal_states.specs.Lines.{line_of}
 use Rattle.hal_states.specs.Numbers.{integer_of, holds, is_past}
 use Rattle.hal_meaning.specs.Marks.{after_statement, after_alternative}
-use Rattle.hal_meaning.specs.Variables.{Meant, MeantData, MeantConstant, MeantEvent, MeantBlock, MeantBuiltin, MeantNothing, name_meant}
+use Rattle.hal_meaning.specs.Variables.{Meant, MeantData, MeantConstant, MeantEvent, MeantBlock, MeantBuiltin, MeantNothing, name_meant, spot_named}
 use Rattle.hal_meaning.specs.States.{State, Evaluated, Gives, Asks, Caught, Restarts, Lost, bind, Flow, Normal, Leaves, Repeats, Returned}
 use Rattle.hal_meaning.specs.Access.{Here, within, updating, raise, turn, store}
 use Rattle.hal_meaning.specs.Expressions.{inputs_at, Located}
 use Rattle.hal_meaning.specs.RealTime.{stated_at_mark}
-use Rattle.hal_meaning.specs.Statements.{goes_on, replaced, components_in, component_received, received_by, is_array_named, received, all_received, kind_meant, kind_named, datum_of, datum_received, all_read, line_fitting, channel_of, written, spots, called, group_left, After, NextTurn, Ended, after_turn, goes_round, turn_made, turn_if, guard_holds, first_holds, span_holds, loop_place, kept_at, held_at, is_number, variable_spot, variable_stored, variable_read, group_here, end_place, update_left, resumed, settled, update_groups, entered_update, returned, step_of, bounds_kept, variable_kept, begun_stepping, span_begins, next_kept, next_stored, next_begun, next_stepping, looping, listed, next_listed, waited, goes_behind, one_of, spanned, statement, basic_statement, otherwise, without_case, case_of, selected, grouped, statements}
+use Rattle.hal_meaning.specs.Statements.{goes_on, replaced, components_in, component_received, received_by, is_array_named, received, all_received, kind_meant, kind_named, datum_of, datum_received, all_read, line_fitting, channel_of, written, spots, called, group_left, After, NextTurn, Ended, after_turn, goes_round, turn_made, turn_if, guard_holds, first_holds, span_holds, loop_place, kept_at, held_at, is_number, variable_stored, variable_read, group_here, end_place, update_left, resumed, settled, update_groups, entered_update, returned, step_of, bounds_kept, variable_kept, begun_stepping, span_begins, next_kept, next_stored, next_begun, next_stepping, looping, listed, next_listed, waited, goes_behind, one_of, spanned, statement, basic_statement, otherwise, without_case, case_of, selected, grouped, statements}
 use Rattle.hal_meaning.specs.Tasks.{Looping, Meaning, Tested, Stepping, Listing, Resuming}
 use Rattle.hal_meaning.proofs.Going.{weight, turns_in, spare, pushed, Turned-through, Fine, Answers, Goes-bind, Goes-weaker}
 use Rattle.hal_meaning.proofs.Accessing.{after_answer, Begins, Goes-ask, Goes-request, Goes-if, Goes-raise, Goes-turn, Goes-read, Goes-store}
@@ -65,10 +65,10 @@ Runs-line h limit a line st fit =
     (λ is. Runs-mapped h limit a _ _ (λ ignored. take 1000 line) (Goes-raise h h.set.turns limit a (error 3 3) st fit)) (λ is. (fit, refl))
 
 Runs-stored : (h : Here) (limit : ℕ) (a : Answered) (name : List ℕ) (v : Value) (st : State) → Fit h limit st → Runs h limit a (variable_stored h name v st) (variable_stored h name v (pushed a st))
-Runs-stored h limit a name v st fit = Goes-store h h.set.turns limit a (kind_meant [] (name_meant h name st.kept.places)) (variable_spot (name_meant h name st.kept.places)) v st fit
+Runs-stored h limit a name v st fit = Goes-store h h.set.turns limit a (kind_meant [] (name_meant h name st.kept.places)) (spot_named h name st.kept.places) v st fit
 
 Runs-read : (h : Here) (limit : ℕ) (a : Answered) (name : List ℕ) (st : State) → Fit h limit st → Runs h limit a (variable_read h name st) (variable_read h name (pushed a st))
-Runs-read h limit a name st fit = Goes-read h h.set.turns limit a (kind_meant [] (name_meant h name st.kept.places)) (variable_spot (name_meant h name st.kept.places)) st fit
+Runs-read h limit a name st fit = Goes-read h h.set.turns limit a (kind_meant [] (name_meant h name st.kept.places)) (spot_named h name st.kept.places) st fit
 
 Runs-kept : (h : Here) (limit : ℕ) (a : Answered) (name : List ℕ) (n : ℕ) (st : State) → Fit h limit st → Runs h limit a (variable_kept h name n st) (variable_kept h name n (pushed a st))
 Runs-kept h limit a name n st fit = Runs-stored h limit a name (held_at (suc (suc n)) st) st fit

@@ -60,10 +60,10 @@ abbrev pub entering : Here → List Entry → Body → Here
 entering h entries b =
     record { set = h.set; process = h.process; places = h.places; unit = b.number; block = b.number; marks = b.marks; body = b.statements; update = false; first = 0; below = all_entered h entries }
 
--- the references of ASSIGN parameters are kept
+-- the references of ASSIGN parameters are kept, from the last to the first
 abbrev pub bound : Here → ℕ → List Naming → List Spot → List Held → List Held
 bound h unit (name ∷ names) (at ∷ spots) places =
-    bound h unit names spots (slice_set places (first_place h.places (parameter_named h.set unit name).number) (Refers at))
+    slice_set (bound h unit names spots places) (first_place h.places (parameter_named h.set unit name).number) (Refers at)
 bound h unit names spots places = places
 
 -- an argument is stored in its parameter

@@ -32,8 +32,8 @@ use Rattle.hal_meaning.specs.Elements.{Shape, copy_size, chosen, offset}
 use Rattle.hal_meaning.specs.Sets.{Set, body_at}
 use Rattle.hal_meaning.specs.States.{State, Evaluated, Gives, bind}
 use Rattle.hal_meaning.specs.Access.{Here, ask, raise, tested, read}
-use Rattle.hal_meaning.specs.Variables.{Meant, MeantData, MeantConstant, MeantEvent, MeantBlock, MeantBuiltin, MeantNothing, name_meant, Index, Single, Several, Dimension, dimension, dimensions_of, all_inside, elements_before, sizes_of_first, kind_of_first, is_arrayed, is_whole}
-use Rattle.hal_meaning.specs.Calls.{Passed, Plain, Whole, parameter_named, inputs_of, call}
+use Rattle.hal_meaning.specs.Variables.{Meant, MeantData, MeantConstant, MeantEvent, MeantBlock, MeantBuiltin, MeantNothing, name_meant, spot_named, Index, Single, Several, Dimension, dimension, dimensions_of, all_inside, elements_before, sizes_of_first, kind_of_first, is_arrayed, is_whole}
+use Rattle.hal_meaning.specs.Calls.{Passed, Plain, Whole, parameter_named, inputs_of, outputs_of, call}
 use Rattle.hal_meaning.specs.Tasks.{Meaning}
 
 -- the operation of a comparison
@@ -192,6 +192,10 @@ is_size other = false
 abbrev pub inputs_at : Set → ℕ → List Naming
 inputs_at s unit = elim (body_at s unit) [ None ↦ [] | Some b ↦ inputs_of b.head ]
 
+-- the names of its ASSIGN parameters
+abbrev pub outputs_at : Set → ℕ → List Naming
+outputs_at s unit = elim (body_at s unit) [ None ↦ [] | Some b ↦ outputs_of b.head ]
+
 -- whether the first of these parameters of a unit is an array or a structure
 abbrev pub is_whole_parameter : Here → ℕ → List Naming → Bool
 is_whole_parameter h unit [] = false
@@ -215,12 +219,12 @@ abbrev pub spoken : Subscripts → List Dimension → List Dimension
 spoken NoSubscripts ds = []
 spoken other ds = ds
 
--- the data that a subscript without a mark chooses: it is the array's where there is one
-abbrev pub by_place : Here → List Naming → Evaluated Value → Spot → Shape → State → Evaluated Located
+-- the data that a subscript without a mark chooses: it is the array's where there is one. Where data begin is looked up once their subscripts are evaluated
+abbrev pub by_place : Here → List Naming → Evaluated Value → (List Held → Spot) → Shape → State → Evaluated Located
 by_place h path place at shape st =
     if is_arrayed (sizes_named path shape)
-    then bind place (λ v after. located h (further (offset path shape.components) at) (kind_of_first (chosen path shape.components)) (dimensions_of (sizes_named path shape)) (Single (integer_of v) ∷ []) after)
-    else Gives (record { at = further (offset path shape.components) at; kind = kind_of_first (chosen path shape.components) }) st
+    then bind place (λ v after. located h (further (offset path shape.components) (at after.kept.places)) (kind_of_first (chosen path shape.components)) (dimensions_of (sizes_named path shape)) (Single (integer_of v) ∷ []) after)
+    else Gives (record { at = further (offset path shape.components) (at st.kept.places); kind = kind_of_first (chosen path shape.components) }) st
 
 -- what an argument gives: of an array or a structure its subscripts alone are evaluated
 abbrev pub argument : Bool → (State → Evaluated Located) → (State → Evaluated Value) → State → Evaluated Passed
@@ -235,14 +239,14 @@ call_form rec h size arguments items multiplied (MeantBuiltin b) st =
 call_form rec h size arguments items multiplied m st = bind (plain_value rec h [] m st) (λ v after. multiplied v after)
 
 -- the value of what a name means, with a subscript: it is read before the subscripts of its component are evaluated
-abbrev pub subscripted : Meaning → Here → List Naming → (Spot → Shape → State → Evaluated Located) → (Bool → Value → State → Evaluated Value) → Meant → State → Evaluated Value
+abbrev pub subscripted : Meaning → Here → List Naming → (Shape → State → Evaluated Located) → (Bool → Value → State → Evaluated Value) → Meant → State → Evaluated Value
 subscripted rec h path choose component (MeantData at shape) st =
-    bind (choose at shape st) (λ l after. bind (read h l.kind l.at after) (λ v later. component (is_arrayed (sizes_named path shape)) v later))
+    bind (choose shape st) (λ l after. bind (read h l.kind l.at after) (λ v later. component (is_arrayed (sizes_named path shape)) v later))
 subscripted rec h path choose component m st = bind (plain_value rec h path m st) (λ v after. component false v after)
 
 -- where the data lie that a name means, with a subscript
-abbrev pub meant_chosen : (Spot → Shape → State → Evaluated Located) → Meant → State → Evaluated Located
-meant_chosen choose (MeantData at shape) st = choose at shape st
+abbrev pub meant_chosen : (Shape → State → Evaluated Located) → Meant → State → Evaluated Located
+meant_chosen choose (MeantData at shape) st = choose shape st
 meant_chosen choose m st = Gives (record { at = Nowhere; kind = kind.Double }) st
 
 -- a component's subscript without a mark, unless it is the array's
@@ -313,23 +317,24 @@ abbrev mutual
   -- a reference
   pub referred : Meaning → Here → Reference → State → Evaluated Value
   referred rec h (Refers place name path subscript) st =
-      subscripted rec h path (λ at shape before. data_chosen rec h path subscript at shape before) (λ arrayed v after. component rec h arrayed subscript v after) (name_meant h name st.kept.places) st
+      subscripted rec h path (λ shape before. data_chosen rec h path subscript (spot_named h name) shape before) (λ arrayed v after. component rec h arrayed subscript v after) (name_meant h name st.kept.places) st
 
   -- the data that a reference chooses
   pub chosen_data : Meaning → Here → Reference → State → Evaluated Located
   chosen_data rec h (Refers place name path subscript) st =
-      meant_chosen (λ at shape before. data_chosen rec h path subscript at shape before) (name_meant h name st.kept.places) st
+      meant_chosen (λ shape before. data_chosen rec h path subscript (spot_named h name) shape before) (name_meant h name st.kept.places) st
 
-  -- the data that copy and array subscripts choose; those without a mark are the array's where no others are
-  pub data_chosen : Meaning → Here → List Naming → Subscript → Spot → Shape → State → Evaluated Located
+  -- the data that copy and array subscripts choose; those without a mark are the array's where no others are. Where the data begin while the own places hold
+  -- something is given
+  pub data_chosen : Meaning → Here → List Naming → Subscript → (List Held → Spot) → Shape → State → Evaluated Located
   data_chosen rec h path Unsubscripted at shape st =
-      Gives (record { at = further (offset path shape.components) at; kind = kind_of_first (chosen path shape.components) }) st
+      Gives (record { at = further (offset path shape.components) (at st.kept.places); kind = kind_of_first (chosen path shape.components) }) st
   data_chosen rec h path (ByName place name) at shape st = by_place h path (named_value rec h name st) at shape st
   data_chosen rec h path (ByInteger place mark number) at shape st = by_place h path (Gives (value.Int (pos number)) st) at shape st
   data_chosen rec h path (ByParts place copies arrays components) at shape st =
       bind (indexes rec h (copies_of shape) copies st)
       (λ is after. bind (if is_none arrays then array_indexes rec h (sizes_named path shape) components after else indexes rec h (dimensions_of (sizes_named path shape)) arrays after)
-      (λ js later. located h (further (offset path shape.components) at) (kind_of_first (chosen path shape.components)) (spoken copies (copies_of shape) ++ dimensions_of (sizes_named path shape)) (is ++ js) later))
+      (λ js later. located h (further (offset path shape.components) (at later.kept.places)) (kind_of_first (chosen path shape.components)) (spoken copies (copies_of shape) ++ dimensions_of (sizes_named path shape)) (is ++ js) later))
 
   -- subscripts without a mark, of an array of these sizes; else they are the component's
   pub array_indexes : Meaning → Here → List ℕ → Subscripts → State → Evaluated (List Index)

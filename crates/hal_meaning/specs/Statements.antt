@@ -27,7 +27,7 @@ use Rattle.hal_values.specs.declared.value.Value.TheVariants as value
 use Rattle.hal_values.specs.Answers.{Answered, error}
 use Rattle.hal_values.specs.Answers as answered
 use Rattle.hal_values.specs.Searching.{with_entry, without}
-use Rattle.hal_states.specs.Spots.{Spot, Nowhere, Held, Holds, Refers, held_in}
+use Rattle.hal_states.specs.Spots.{Spot, Held, Holds, Refers, held_in}
 use Rattle.hal_states.specs.Modes.{closed, opened}
 use Rattle.hal_states.specs.Lines.{line_of}
 use Rattle.hal_states.specs.Numbers.{integer_of, holds, is_past}
@@ -38,7 +38,7 @@ use Rattle.hal_meaning.specs.ReportNames.{first_place}
 use Rattle.hal_meaning.specs.Sets.{body_at}
 use Rattle.hal_meaning.specs.States.{State, with_entries, with_mode, with_places, Evaluated, Gives, Asks, Caught, Restarts, Lost, bind, Flow, Normal, Leaves, Repeats, Returned}
 use Rattle.hal_meaning.specs.Access.{Here, within, updating, ask, request_made, raise, turn, read, store}
-use Rattle.hal_meaning.specs.Variables.{Meant, MeantData, MeantBlock, name_meant, kind_of_first, is_arrayed}
+use Rattle.hal_meaning.specs.Variables.{Meant, MeantData, MeantBlock, name_meant, spot_named, kind_of_first, is_arrayed}
 use Rattle.hal_meaning.specs.Calls.{call, returned_by}
 use Rattle.hal_meaning.specs.Expressions.{expression, values, passed, inputs_at, chosen_data, Located, part_chosen, named_value, sizes_named}
 use Rattle.hal_meaning.specs.RealTime.{time, stated_at_mark, scheduled, named_or_own, priority_changed, eventful, side_of}
@@ -232,15 +232,11 @@ abbrev pub is_number : Value → ℕ → Bool
 is_number v k = compares op2.Equal v (value.Int (pos k))
 
 -- a DO FOR group's variable
-abbrev pub variable_spot : Meant → Spot
-variable_spot (MeantData at shape) = at
-variable_spot other = Nowhere
-
 abbrev pub variable_stored : Here → List ℕ → Value → State → Evaluated (Unit {0})
-variable_stored h name v st = store h (kind_meant [] (name_meant h name st.kept.places)) (variable_spot (name_meant h name st.kept.places)) v st
+variable_stored h name v st = store h (kind_meant [] (name_meant h name st.kept.places)) (spot_named h name st.kept.places) v st
 
 abbrev pub variable_read : Here → List ℕ → State → Evaluated Value
-variable_read h name st = read h (kind_meant [] (name_meant h name st.kept.places)) (variable_spot (name_meant h name st.kept.places)) st
+variable_read h name st = read h (kind_meant [] (name_meant h name st.kept.places)) (spot_named h name st.kept.places) st
 
 -- where names are looked up in a group with this mark: a TEMPORARY is known there alone
 abbrev pub group_here : Here → Bool → ℕ → Here

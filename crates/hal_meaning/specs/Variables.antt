@@ -75,6 +75,15 @@ builtin_meant name = elim (builtin_named name) [ None ↦ MeantNothing | Some b 
 abbrev pub name_meant : Here → List ℕ → List Held → Meant
 name_meant h name places = elim (meant h.set.phrases h.block name) [ None ↦ builtin_meant name | Some k ↦ declaration_meant h places k ]
 
+-- where data begin that a name means
+abbrev pub spot_meant : Meant → Spot
+spot_meant (MeantData at shape) = at
+spot_meant other = Nowhere
+
+-- the same while the own places hold this: those of an ASSIGN parameter begin where its reference leads
+abbrev pub spot_named : Here → List ℕ → List Held → Spot
+spot_named h name places = spot_meant (name_meant h name places)
+
 -- a subscript of copies or of an array: one place, or places from one to another
 pub data Index : Type 0 where
   Single : (place : ℤ) → Index

@@ -1,5 +1,5 @@
 pub mod Exclusions
+pub mod Fetching
 pub mod Headline
-pub mod Lists
 pub mod Performing
 pub mod Prepared

@@ -1,5 +1,5 @@
 -- Why a call answers what it answers. Each cause says that nothing earlier in the order is wrong: the words, the files as they are named, the
--- script, the unit.
+-- script, the set of the units.
 use Rattle.std.specs.Prelude.{◌≡◌, ℕ, zero, suc, ◌<◌, ◌≤◌, List, [], ◌∷◌, Some, None, length}
 use Rattle.std.specs.Str.Lines.{lines}
 use Rattle.hal_base.specs.declared.limits.TheConstants.{TEXT_LIMIT}
@@ -31,38 +31,45 @@ FirstWrong Wrong files (name ∷ names) (suc number) = (bytes : List ℕ) × IsP
 -- the first of the files that the words name which isn't fit has this number
 pub record IsFirstWrong (Wrong : List File → List ℕ → Type 0) (files : List File) (words : List (List ℕ)) (number : ℕ) : Type 0 where
   pub script : List ℕ
-  pub unit : List ℕ
-  pub form : IsRunLine words script unit
-  pub wrong : FirstWrong Wrong files (script ∷ unit ∷ []) number
+  pub units : List (List ℕ)
+  pub form : IsRunLine words script units
+  pub wrong : FirstWrong Wrong files (script ∷ units) number
+
+-- the files with these names are there, one with the bytes of each text
+abbrev pub ArePresent : List File → List (List ℕ) → List (List ℕ) → Type 0
+ArePresent files [] [] = Unit {0}
+ArePresent files [] (text ∷ texts) = ⊥
+ArePresent files (name ∷ names) [] = ⊥
+ArePresent files (name ∷ names) (text ∷ texts) = IsPresent files name text × ArePresent files names texts
 
 -- the words have their form, and the files that they name are there
-pub record Fetched (files : List File) (words : List (List ℕ)) (script unit : List ℕ) : Type 0 where
+pub record Fetched (files : List File) (words : List (List ℕ)) (script : List ℕ) (units : List (List ℕ)) : Type 0 where
   pub script_name : List ℕ
-  pub unit_name : List ℕ
-  pub form : IsRunLine words script_name unit_name
+  pub unit_names : List (List ℕ)
+  pub form : IsRunLine words script_name unit_names
   pub script_file : IsPresent files script_name script
-  pub unit_file : IsPresent files unit_name unit
+  pub unit_files : ArePresent files unit_names units
 
 -- a script whose first faulty line is this one, for this reason
 pub record IsFaulty (files : List File) (words : List (List ℕ)) (fault : ScriptFault) : Type 0 where
   pub script : List ℕ
-  pub unit : List ℕ
-  pub fetched : Fetched files words script unit
+  pub units : List (List ℕ)
+  pub fetched : Fetched files words script units
   pub first : IsFault (lines script) fault
 
--- a unit breaks this rule at this place
+-- the set of the units breaks this rule at this place
 pub record IsBroken (files : List File) (words : List (List ℕ)) (refusal : Refusal) : Type 0 where
   pub script : List ℕ
-  pub unit : List ℕ
+  pub units : List (List ℕ)
   pub script_lines : List ScriptLine
-  pub fetched : Fetched files words script unit
+  pub fetched : Fetched files words script units
   pub read : IsScriptOf (lines script) script_lines
-  pub broken : Breaks (unit ∷ []) refusal
+  pub broken : Breaks units refusal
 
--- nothing is wrong: this is the script, and these files are the set of the unit, which has a meaning
+-- nothing is wrong: this is the script, and these files are the set of the units, which has a meaning
 pub record IsWork (files : List File) (words : List (List ℕ)) (script : List ScriptLine) (set : List units.File) : Type 0 where
   pub script_text : List ℕ
-  pub unit_text : List ℕ
-  pub fetched : Fetched files words script_text unit_text
+  pub unit_texts : List (List ℕ)
+  pub fetched : Fetched files words script_text unit_texts
   pub read : IsScriptOf (lines script_text) script
-  pub has : HasMeaning (unit_text ∷ []) set
+  pub has : HasMeaning unit_texts set

@@ -1,5 +1,5 @@
 -- What an outcome claims.
-use Rattle.std.specs.Prelude.{◌≡◌, ◌≢◌, ℕ, ◌+◌, ◌≤◌, ◌⊎◌, List, [], ◌++◌, length, take, Option, Some, None, IsSome, codes, slice_get, unwrap_or, nat_eq, if◌then◌else◌, ◌↔◌}
+use Rattle.std.specs.Prelude.{◌≡◌, ◌≢◌, ℕ, ◌+◌, ◌≤◌, ◌⊎◌, List, [], ◌++◌, length, take, Option, Some, None, IfSome, IsSome, codes, slice_get, unwrap_or, nat_eq, if◌then◌else◌, ◌↔◌}
 use Rattle.std.specs.Fmt.{decimal}
 use Rattle.hal_base.specs.declared.refusal.Refusal.{Refusal}
 use Rattle.hal_base.specs.Faults.{Rose}
@@ -10,7 +10,7 @@ use Rattle.exec_model.specs.declared.script.ScriptLine.{ScriptLine}
 use Rattle.hal_script.specs.declared.fault.ScriptFault.{ScriptFault}
 use Rattle.exec_model.specs.declared.event.Event.{Event}
 use Rattle.hal_top.specs.declared.outcome.Outcome.{Outcome}
-use Rattle.hal_top.specs.CommandLine.{usage_line}
+use Rattle.hal_top.specs.CommandLine.{file_of_unit, usage_line}
 use Rattle.hal_top.specs.Performed.{HasReport}
 use Rattle.hal_top.specs.Causes.{IsWork}
 
@@ -83,7 +83,7 @@ pub record PrintsFront (files : List File) (words : List (List ℕ)) (journal : 
 pub record IsTold (outcome : Outcome) : Type 0 where
   pub file : IsSome outcome.file ↔ ((outcome.status ≡ 3) ⊎ (outcome.status ≡ 4) ⊎ (outcome.status ≡ 5) ⊎ (outcome.status ≡ 6))
   pub of_script : outcome.status ≡ 6 → outcome.file ≡ Some 0
-  pub of_unit : outcome.status ≡ 5 → outcome.file ≡ Some 1
+  pub of_unit : IfSome outcome.refused (λ refusal. outcome.file ≡ Some (file_of_unit refusal.place.unit))
   pub refused : IsSome outcome.refused ↔ (outcome.status ≡ 5)
   pub script_fault : IsSome outcome.script_fault ↔ (outcome.status ≡ 6)
   pub image_fault : outcome.image_fault ≡ None

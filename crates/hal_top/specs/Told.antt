@@ -1,16 +1,17 @@
 -- What the steps of a call answer.
-use Rattle.std.specs.Prelude.{ℕ, List, [], Option, Some, None, Result, Ok, Err, Vec}
+use Rattle.std.specs.Prelude.{◌≡◌, ℕ, suc, List, [], Option, Some, None, Result, Ok, Err, Vec, map}
 use Rattle.std.specs.declared.alloc.Global.{Global}
 use Rattle.hal_base.specs.Files.{File}
 use Rattle.hal_base.specs.declared.refusal.Refusal.{Refusal}
+use Rattle.hal_compile.specs.Reading.{seen_text}
 use Rattle.hal_script.specs.declared.fault.ScriptFault.{ScriptFault}
 use Rattle.hal_top.specs.declared.fetch.NoFile.{NoFile}
 use Rattle.hal_top.specs.declared.fetch.NoFile.TheVariants as file
 use Rattle.hal_top.specs.declared.refused.Refused.{Refused}
 use Rattle.hal_top.specs.declared.refused.Refused.TheVariants.{Usage, Absent, TooLong, Script, Rule, Shelf, Memory}
 use Rattle.hal_top.specs.declared.outcome.Outcome.{Outcome}
-use Rattle.hal_top.specs.CommandLine.{HasNoForm}
-use Rattle.hal_top.specs.Causes.{IsPresent, IsAbsent, IsTooLong, IsFirstWrong, IsFaulty, IsBroken}
+use Rattle.hal_top.specs.CommandLine.{HasNoForm, file_of_unit}
+use Rattle.hal_top.specs.Causes.{IsPresent, ArePresent, IsAbsent, IsTooLong, FirstWrong, IsFirstWrong, IsFaulty, IsBroken}
 
 -- the bytes of a file, or why there are none
 abbrev pub FetchesFile : List File → List ℕ → Result (Vec ℕ Global) NoFile → Type 0
@@ -19,6 +20,21 @@ FetchesFile files name (Err file.Absent) = IsAbsent files name
 FetchesFile files name (Err file.TooLong) = IsTooLong files name
 FetchesFile files name (Err file.Shelf) = Unit {0}
 FetchesFile files name (Err file.Memory) = Unit {0}
+
+-- of files with these names, which stand behind the script, the first that isn't fit is refused, by its number
+abbrev pub IsUnfit : List File → List (List ℕ) → Refused → Type 0
+IsUnfit files names (Absent number) = (before : ℕ) × (number ≡ suc before) × FirstWrong IsAbsent files names before
+IsUnfit files names (TooLong number) = (before : ℕ) × (number ≡ suc before) × FirstWrong IsTooLong files names before
+IsUnfit files names Shelf = Unit {0}
+IsUnfit files names Memory = Unit {0}
+IsUnfit files names Usage = ⊥
+IsUnfit files names (Script fault) = ⊥
+IsUnfit files names (Rule refusal) = ⊥
+
+-- the texts of the units with these names, or which of them isn't fit
+abbrev pub FetchesUnits : List File → List (List ℕ) → Result (Vec (Vec ℕ Global) Global) Refused → Type 0
+FetchesUnits files names (Ok units) = ArePresent files names (map seen_text units.items)
+FetchesUnits files names (Err refused) = IsUnfit files names refused
 
 -- a refusal has its cause
 abbrev pub IsCause : List File → List (List ℕ) → Refused → Type 0
@@ -43,7 +59,7 @@ abbrev pub file_of : Refused → Option ℕ
 file_of Usage = None
 file_of (Absent number) = Some number
 file_of (TooLong number) = Some number
-file_of (Rule refusal) = Some 1
+file_of (Rule refusal) = Some (file_of_unit refusal.place.unit)
 file_of (Script fault) = Some 0
 file_of Shelf = None
 file_of Memory = None

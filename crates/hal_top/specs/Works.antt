@@ -1,5 +1,5 @@
 -- What is to be run, or why nothing is.
-use Rattle.std.specs.Prelude.{◌≡◌, ℕ, List, [], ◌∷◌, Result, Ok, Err}
+use Rattle.std.specs.Prelude.{◌≡◌, ℕ, List, Result, Ok, Err}
 use Rattle.std.specs.Str.Lines.{lines}
 use Rattle.hal_base.specs.Files.{File}
 use Rattle.hal_grammar.specs.Units as units
@@ -23,16 +23,16 @@ IsCauseOfFile file.TooLong number refused = refused ≡ TooLong number
 IsCauseOfFile file.Shelf number refused = refused ≡ Shelf
 IsCauseOfFile file.Memory number refused = refused ≡ Memory
 
--- the work of a script's and a unit's bytes, or which of them is wrong
-abbrev pub IsWorkOf : List ℕ → List ℕ → Result Work Refused → Type 0
-IsWorkOf script unit (Ok work) = IsScriptOf (lines script) work.script × MakesImage (unit ∷ []) work.image
-IsWorkOf script unit (Err (Script fault)) = IsFault (lines script) fault
-IsWorkOf script unit (Err (Rule refusal)) = ((orders : List ScriptLine) × IsScriptOf (lines script) orders) × Breaks (unit ∷ []) refusal
-IsWorkOf script unit (Err Memory) = Unit {0}
-IsWorkOf script unit (Err Usage) = ⊥
-IsWorkOf script unit (Err (Absent number)) = ⊥
-IsWorkOf script unit (Err (TooLong number)) = ⊥
-IsWorkOf script unit (Err Shelf) = ⊥
+-- the work of a script's bytes and those of units, or which of them is wrong
+abbrev pub IsWorkOf : List ℕ → List (List ℕ) → Result Work Refused → Type 0
+IsWorkOf script units (Ok work) = IsScriptOf (lines script) work.script × MakesImage units work.image
+IsWorkOf script units (Err (Script fault)) = IsFault (lines script) fault
+IsWorkOf script units (Err (Rule refusal)) = ((orders : List ScriptLine) × IsScriptOf (lines script) orders) × Breaks units refusal
+IsWorkOf script units (Err Memory) = Unit {0}
+IsWorkOf script units (Err Usage) = ⊥
+IsWorkOf script units (Err (Absent number)) = ⊥
+IsWorkOf script units (Err (TooLong number)) = ⊥
+IsWorkOf script units (Err Shelf) = ⊥
 
 -- this script and a set of which this is the image are the work that the words name
 pub record HasImage (files : List File) (words : List (List ℕ)) (script : List ScriptLine) (image : ImageParts) : Type 0 where

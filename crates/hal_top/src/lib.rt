@@ -1,4 +1,4 @@
-//! The top call: words, files, script and unit come in, and a report or one line of refusal goes out.
+//! The top call: words, files, script and units come in, and a report or one line of refusal goes out.
 #![tactic(auto)]
 
 mod fetch;

@@ -11,7 +11,7 @@ pub struct Outcome {
     pub journal: Journal,
     /// The file that is at fault, numbered from 0 in the order of the words.
     pub file: Option<u32>,
-    /// The rule that is broken, and where.
+    /// The rule that is broken, and where; the file is that of the place's unit.
     pub refused: Option<Refusal>,
     /// The first faulty line of the script.
     pub script_fault: Option<ScriptFault>,

@@ -1,10 +1,14 @@
 //! From the words of a call to what is to be run.
 
-ghost use Rattle.std.specs.Prelude.{◌≡◌, ◌≤◌, ◌↔◌, IfOk, IfSome, IsErrOf};
+ghost use Rattle.std.specs.Prelude.{◌≡◌, ◌≤◌, ◌↔◌, ◌+◌, ◌++◌, ◌∷◌, [], IfErr, IfOk, IfSome, IsErrOf, OnOk, length, map};
 ghost use Rattle.exec_model.specs.Scripts.{IsScript};
 ghost use Rattle.hal_base.specs.Faults.{Rose};
+ghost use Rattle.hal_base.specs.declared.limits.TheConstants.{UNIT_LIMIT};
 ghost use Rattle.hal_compile.specs.Compiling.{CanRun};
+ghost use Rattle.hal_compile.specs.Reading.{seen_text};
 ghost use Rattle.hal_top.specs.CommandLine.{texts, HasNoForm};
+ghost use Rattle.hal_top.specs.Told.{FetchesUnits};
+ghost use Rattle.hal_top.specs.declared.refused.Refused.TheVariants.{Memory};
 ghost use Rattle.hal_top.specs.Works.{IsCauseOfFile, IsWorkOf, Told};
 
 use crate::fetch::{NoFile, fetched};
@@ -13,7 +17,7 @@ use crate::words::run_line;
 use exec_model::Script;
 use hal_base::{Fault, Shelf};
 use hal_code::ImageParts;
-use hal_compile::image_of_text;
+use hal_compile::image_of_texts;
 use hal_script::{ScriptError, read_script};
 use std::alloc::Global;
 
@@ -21,7 +25,7 @@ use std::alloc::Global;
 #[derive(Drop)]
 pub struct Work {
     pub script: Script,
-    /// The image of the unit.
+    /// The image of the units.
     pub image: ImageParts,
 }
 
@@ -37,10 +41,50 @@ fn refused_file(fault: NoFile, number: u32) -> Refused
     }
 }
 
-/// The work that a script and a unit give.
+/// Adds the text of a unit.
+fn push_text(units: &mut Vec<Vec<u8>>, text: Vec<u8>) -> Result<(), Refused>
+    ensures added { OnOk result (map seen_text units.new.items ≡ map seen_text units.old.items ++ (seen_text text ∷ [])) }
+    ensures one { OnOk result (length units.new.items ≡ length units.old.items + 1) }
+    ensures wanting { IfErr result (λ refused. refused ≡ Memory) }
+{
+    match units.push(text) {
+        Ok(()) => Ok(()),
+        Err(_) => Err(Refused::Memory),
+    }
+}
+
+/// The texts of the units with these names, in order; or the first of them that isn't fit, by its number behind the script.
+fn fetched_units<S: Shelf>(
+    alloc: Global,
+    shelf: &mut S,
+    names: &[String],
+) -> Result<Vec<Vec<u8>>, Refused>
+    requires few { length names.now ≤ UNIT_LIMIT }
+    ensures answer { IfSome (S.files shelf.old) (λ files. FetchesUnits files (texts names.now) result) }
+    ensures count { IfOk result (λ units. length units.items ≡ length names.now) }
+    ensures usage { IsErrOf result Refused.Usage → ⊥ }
+    ensures failed { IsErrOf result Refused.Shelf → Rose (S.faults shelf.old) (S.faults shelf.new) }
+    ensures same { S.files shelf.new ≡ S.files shelf.old }
+    ensures later { S.faults shelf.old ≤ S.faults shelf.new }
+{
+    let mut units = Vec::new(alloc);
+    let mut number = 1;
+    for name in names {
+        let text = match fetched(alloc, shelf, name.as_str()) {
+            Ok(text) => text,
+            Err(fault) => return Err(refused_file(fault, number)),
+        };
+        push_text(&mut units, text)?;
+        number += 1;
+    }
+    Ok(units)
+}
+
+/// The work that a script and the units of a set give.
 #[tactic(auto, using(crate::proofs::Prepared::runs_of))]
-fn work_of(alloc: Global, script: &[u8], unit: &[u8]) -> Result<Work, Refused>
-    ensures work { IsWorkOf script.now unit.now result }
+fn work_of(alloc: Global, script: &[u8], units: &[Vec<u8>]) -> Result<Work, Refused>
+    requires few { length units.now ≤ UNIT_LIMIT }
+    ensures work { IsWorkOf script.now (map seen_text units.now) result }
     ensures limits { IfOk result (λ work. IsScript work.script) }
     ensures runs { IfOk result (λ work. CanRun work.image) }
 {
@@ -49,7 +93,7 @@ fn work_of(alloc: Global, script: &[u8], unit: &[u8]) -> Result<Work, Refused>
         Err(ScriptError::Faulty(fault)) => return Err(Refused::Script(fault)),
         Err(ScriptError::Memory(_)) => return Err(Refused::Memory),
     };
-    match image_of_text(alloc, unit) {
+    match image_of_texts(alloc, units) {
         Ok(image) => Ok(Work { script, image }),
         Err(Fault::Broken(refusal)) => Err(Refused::Rule(refusal)),
         Err(Fault::Memory(_)) => Err(Refused::Memory),
@@ -57,7 +101,7 @@ fn work_of(alloc: Global, script: &[u8], unit: &[u8]) -> Result<Work, Refused>
 }
 
 /// The work that the words name, or the first thing that is wrong: in the words, in the files as they
-/// are named, in the script, in the unit.
+/// are named, in the script, in the set of the units.
 pub fn prepare<S: Shelf>(alloc: Global, words: &[String], shelf: &mut S) -> Result<Work, Refused>
     ensures told { IfSome (S.files shelf.old) (λ files. Told files (texts words.now) result) }
     ensures limits { IfOk result (λ work. IsScript work.script) }
@@ -74,9 +118,9 @@ pub fn prepare<S: Shelf>(alloc: Global, words: &[String], shelf: &mut S) -> Resu
         Ok(bytes) => bytes,
         Err(fault) => return Err(refused_file(fault, 0)),
     };
-    let unit = match fetched(alloc, shelf, command.unit) {
-        Ok(bytes) => bytes,
-        Err(fault) => return Err(refused_file(fault, 1)),
+    let units = match fetched_units(alloc, shelf, command.units) {
+        Ok(units) => units,
+        Err(refused) => return Err(refused),
     };
-    work_of(alloc, script.as_slice(), unit.as_slice())
+    work_of(alloc, script.as_slice(), units.as_slice())
 }

@@ -1,6 +1,6 @@
 ghost use Rattle.std.specs.Prelude.{◌≡◌, ◌≤◌, ◌⊎◌, ◌++◌, IfOk};
 ghost use Rattle.std.specs.String.{string_bytes};
-ghost use Rattle.hal_top.specs.CommandLine.{texts, usage_line};
+ghost use Rattle.hal_top.specs.CommandLine.{texts, file_of_unit, usage_line};
 ghost use Rattle.hal_top.specs.Outcomes.{refusal_line, file_word, Prints};
 ghost use Rattle.hal_top.specs.Told.{outcome_of};
 ghost use Rattle.hal_top.specs.declared.refused.Refused.TheVariants.{Memory, Usage};
@@ -16,6 +16,13 @@ use std::alloc::{AllocError, Global};
 const USAGE: &str =
     "usage: hal run LANES SCRIPT UNIT.. | build UNIT.. | exec LANES SCRIPT IMAGE | make NUMBER SIZE\n";
 
+/// The number of a unit's file among those that the words name: the script is the first of them.
+fn file_of_unit(unit: u32) -> u32
+    ensures { result ≡ file_of_unit unit }
+{
+    unit.saturating_add(1)
+}
+
 /// The outcome of a refusal: nothing ran.
 fn outcome(alloc: Global, refused: Refused) -> Outcome
     ensures { result ≡ outcome_of refused }
@@ -24,7 +31,12 @@ fn outcome(alloc: Global, refused: Refused) -> Outcome
         Refused::Usage => (2, None, None, None),
         Refused::Absent(number) => (3, Some(number), None, None),
         Refused::TooLong(number) => (4, Some(number), None, None),
-        Refused::Rule(refusal) => (5, Some(1), Some(refusal), None),
+        Refused::Rule(refusal) => (
+            5,
+            Some(file_of_unit(refusal.place.unit)),
+            Some(refusal),
+            None,
+        ),
         Refused::Script(fault) => (6, Some(0), None, Some(fault)),
         Refused::Shelf => (7, None, None, None),
         Refused::Memory => (9, None, None, None),
@@ -64,7 +76,7 @@ fn refusal_text(alloc: Global, words: &[String], refused: Refused) -> Result<Str
             format!(in alloc; "{name}: too long\n")
         }
         Refused::Rule(refusal) => {
-            let name = word_of_file(words, 1);
+            let name = word_of_file(words, file_of_unit(refusal.place.unit));
             let line = refusal.place.line;
             let column = refusal.place.column;
             let rule = refusal.rule.0;

@@ -12,7 +12,7 @@ pub enum Refused {
     TooLong(u32),
     /// The script has a faulty line.
     Script(ScriptFault),
-    /// The unit breaks a rule.
+    /// The set of the units breaks a rule.
     Rule(Refusal),
     /// The shelf failed.
     Shelf,

@@ -16,8 +16,8 @@ use crate::refused::Refused;
 use hal_base::{Shelf, Sink};
 use std::alloc::Global;
 
-/// Does what the words ask for: `run 1 SCRIPT UNIT` fetches the two files, reads them, runs the
-/// unit's PROGRAM under the script, and prints the report. `words` are those after the program's
+/// Does what the words ask for: `run 1 SCRIPT UNIT..` fetches the files, reads them, runs the first
+/// PROGRAM of the set of the units under the script, and prints the report. `words` are those after the program's
 /// name. A refusal prints its one line and nothing else. docs/EXECUTIVE.md lists the statuses, and
 /// docs/CLAIMS.md says each clause in words.
 pub fn hal<S: Shelf, O: Sink>(

@@ -16,7 +16,7 @@ use Rattle.hal_gen_expr.specs.Calling.{argument_code}
 use Rattle.hal_gen_expr.specs.Emitting.{Emitted, onwards}
 use Rattle.hal_gen_expr.specs.ExpressionCode as codes
 use Rattle.hal_gen_expr.specs.SeenSites.{seen_site, seen_numbering}
-use Rattle.hal_gen_expr.proofs.Calling.{argument_none, argument_some, arguments_step, next_mapped}
+use Rattle.hal_gen_expr.proofs.Calling.{argument_whole, argument_plain, whole_given, arguments_step, next_mapped}
 use Rattle.hal_gen_expr.proofs.Chained.{after, went_on, stopped}
 use Rattle.hal_gen_expr.proofs.+expressions.Goals as goal
 
@@ -107,17 +107,28 @@ expressions::emit_of_two-returns-in_err-emit_expression-2 t c =
     stopped (codes.built_code (seen_numbering c.args.site.now) (seen_site c.args.site.now) c.args.code.now.items c.args.place (operation.Two c.args.op) (expressions (map seen_expression c.args.arguments.now.items))) (codes.expression_code (seen_numbering c.args.site.now) (seen_site c.args.site.now) c.emit_expression.new.code.items (seen_expression c.in-Some-split_first.right.now)) (λ (last : List Instr). codes.emit_one last c.args.place (two c.args.op)) c.in_err-emit_expression-2.field-0.0 c.emit_expression-2.result c.from_residual-in_err-emit_expression-2.result c.emit_expression-2.new.code.items
     (after (codes.built_code (seen_numbering c.args.site.now) (seen_site c.args.site.now) c.args.code.now.items c.args.place (operation.Two c.args.op) (expressions (map seen_expression c.args.arguments.now.items))) (codes.expression_code (seen_numbering c.args.site.now) (seen_site c.args.site.now) c.args.code.now.items (seen_expression c.in-Some.left.now)) (λ (middle : List Instr). onwards (codes.expression_code (seen_numbering c.args.site.now) (seen_site c.args.site.now) middle (seen_expression c.in-Some-split_first.right.now)) (λ (last : List Instr). codes.emit_one last c.args.place (two c.args.op))) c.emit_expression.new.code.items shape first) failed same there
 
+pub expressions::emit_whole_argument-returns-in_err-runs : goal.expressions::emit_whole_argument-returns-in_err-runs
+expressions::emit_whole_argument-returns-in_err-runs t c = let p = err_from_is_err_and c.from_residual.result c.from_residual.ensures.1 in rw (p.1, p.2) tt
+
+pub expressions::emit_whole_argument-returns : goal.expressions::emit_whole_argument-returns
+expressions::emit_whole_argument-returns t c =
+    subst (λ (wanted : Emitted). Emits wanted c.emit_whole.result c.emit_whole.new.code.items)
+    (whole_given (seen_numbering c.args.site.now) (seen_site c.args.site.now) c.args.code.now.items c.args.place c.args.unit (seen_name c.args.name.now) (seen_expression c.args.tree.now) c.deref.result.now (c.deref.ensures.value ∙ c.in_ok-runs.ensures))
+    c.emit_whole.ensures
+
 pub expressions::emit_argument-returns-in_err-is_whole_parameter : goal.expressions::emit_argument-returns-in_err-is_whole_parameter
 expressions::emit_argument-returns-in_err-is_whole_parameter t c = let p = err_from_is_err_and c.from_residual.result c.from_residual.ensures.1 in rw (p.1, p.2) tt
 
 pub expressions::emit_argument-returns-then-branch : goal.expressions::emit_argument-returns-then-branch
 expressions::emit_argument-returns-then-branch t c =
-    argument_none (seen_numbering c.args.site.now) (seen_site c.args.site.now) c.args.code.now.items c.args.place c.args.unit (seen_name c.args.name.now) (seen_expression c.args.tree.now) (sym c.in_ok-is_whole_parameter.ensures ∙ c.if-branch.true)
+    subst (λ (wanted : Emitted). Emits wanted c.emit_whole_argument.result c.emit_whole_argument.new.code.items)
+    (argument_whole (seen_numbering c.args.site.now) (seen_site c.args.site.now) c.args.code.now.items c.args.place c.args.unit (seen_name c.args.name.now) (seen_expression c.args.tree.now) (sym c.in_ok-is_whole_parameter.ensures ∙ c.if-branch.true))
+    c.emit_whole_argument.ensures
 
 pub expressions::emit_argument-returns : goal.expressions::emit_argument-returns
 expressions::emit_argument-returns t c =
     subst (λ (wanted : Emitted). Emits wanted c.emit_expression.result c.emit_expression.new.code.items)
-    (sym (argument_some (seen_numbering c.args.site.now) (seen_site c.args.site.now) c.args.code.now.items c.args.place c.args.unit (seen_name c.args.name.now) (seen_expression c.args.tree.now) (sym c.in_ok-is_whole_parameter.ensures ∙ c.if-branch.false)))
+    (argument_plain (seen_numbering c.args.site.now) (seen_site c.args.site.now) c.args.code.now.items c.args.place c.args.unit (seen_name c.args.name.now) (seen_expression c.args.tree.now) (sym c.in_ok-is_whole_parameter.ensures ∙ c.if-branch.false))
     c.emit_expression.ensures
 
 pub expressions::emit_arguments-returns-in_err-emit_argument : goal.expressions::emit_arguments-returns-in_err-emit_argument

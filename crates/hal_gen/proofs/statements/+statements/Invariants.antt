@@ -13,3 +13,7 @@ invariant-emit_statements-loop-tree l =
 abbrev pub invariant-emit_selected-loop-tree : goal.invariant-emit_selected-loop-tree
 invariant-emit_selected-loop-tree l =
     codes.selected_code (seen_numbering l.site) (seen_site l.site) l.code.items (seen_exits l.exits) l.selection.place l.selection.cell l.selection.end l.following l.number (statements (map seen_statement (drop l.tree-index l.list))) ≡ codes.selected_code (seen_numbering l.site) (seen_site l.site) l.fn.code.items (seen_exits l.exits) l.selection.place l.selection.cell l.selection.end l.mark 1 (statements (map seen_statement l.list))
+
+abbrev pub invariant-emit_block-loop-tree : goal.invariant-emit_block-loop-tree
+invariant-emit_block-loop-tree l =
+    codes.block_code (seen_numbering l.site) (seen_site l.site) l.code.items (seen_exits l.exits) l.following (statements (map seen_statement (drop l.tree-index l.list))) ≡ codes.block_code (seen_numbering l.site) (seen_site l.site) l.fn.code.items (seen_exits l.exits) l.mark (statements (map seen_statement l.list))

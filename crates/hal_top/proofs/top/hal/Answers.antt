@@ -1,5 +1,11 @@
-use Rattle.hal_top.proofs.Headline.{work-none_absent, work-none_long, work-not_faulty, work-not_broken, reported-whole, reported-front, refused-faulty, refused-broken, refused-work, printed-completes, memory-completes}
+use Rattle.hal_top.proofs.Headline.{work-none_absent, work-none_long, work-not_faulty, work-not_broken, reported-whole, reported-front, refused-absent, refused-long, refused-faulty, refused-broken, refused-work, printed-completes, memory-completes}
 use Rattle.hal_top.proofs.top.hal.Goals as goal
+
+pub returns-in-Err-clause-absent_exactly : goal.returns-in-Err-clause-absent_exactly
+returns-in-Err-clause-absent_exactly g c = refused-absent (g.S.Shelf.files c.args.shelf.now) _ _ _ c.refuse.ensures.outcome c.in-Err.ensures.told
+
+pub returns-in-Err-clause-too_long_exactly : goal.returns-in-Err-clause-too_long_exactly
+returns-in-Err-clause-too_long_exactly g c = refused-long (g.S.Shelf.files c.args.shelf.now) _ _ _ c.refuse.ensures.outcome c.in-Err.ensures.told
 
 pub returns-in-Err-clause-faulty_exactly : goal.returns-in-Err-clause-faulty_exactly
 returns-in-Err-clause-faulty_exactly g c = refused-faulty (g.S.Shelf.files c.args.shelf.now) _ _ _ c.refuse.ensures.outcome c.in-Err.ensures.told
