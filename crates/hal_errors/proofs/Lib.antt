@@ -1,0 +1,3 @@
+mod Removing
+mod Blocks
+mod Rows
