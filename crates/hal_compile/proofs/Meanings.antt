@@ -111,7 +111,7 @@ compiled_lacks_none files image place compiled (inl told) = clash (linked_in fil
   where
     clash : (found : _) → found ≡ Ok image → found ≡ Err (Some place) → ⊥
     clash found ok err = cc
-compiled_lacks_none files image place compiled (inr (at, none)) = none image compiled
+compiled_lacks_none files image place compiled (inr (at, there, none)) = none image compiled
 
 both_ways : (b : Bool) → b ≡ true → b ≡ false → ⊥
 both_ways b is not = cc

@@ -25,6 +25,9 @@ found image = Ok image
 abbrev nowhere : Result ImageParts (Option Place)
 nowhere = Err None
 
+abbrev missing : Place → Result ImageParts (Option Place)
+missing at = Err (Some at)
+
 clash : (b : Bool) → b ≡ true → b ≡ false → ⊥
 clash b is not = cc
 
@@ -43,8 +46,11 @@ pub fits : (image : ImageParts) (told : Bool) → IsTrue told ↔ CanRun image �
 fits image told by is = (refl, by.0 is)
 
 pub cannot_run : (image : ImageParts) (told : Bool) → IsTrue told ↔ CanRun image → told ≡ false → Fits (Ok image) (Err beginning)
-cannot_run image told by is = inr (refl, λ other same runs. clash told (by.1 (runs_as other same runs)) is)
+cannot_run image told by is = inr (refl, (λ at same. there at same), λ other same runs. clash told (by.1 (runs_as other same runs)) is)
   where
+    there : (at : Place) → found image ≡ missing at → ⊥
+    there at same = cc
+
     runs_as : (other : ImageParts) → found image ≡ found other → CanRun other → CanRun image
     runs_as other same runs =
         let equal : image ≡ other = cc in
@@ -58,8 +64,11 @@ pub told_there : (wanted : Result ImageParts (Option Place)) (place : Place) →
 told_there wanted place is = inl is
 
 pub told_nowhere : (wanted : Result ImageParts (Option Place)) → wanted ≡ Err None → Fits wanted (Err beginning)
-told_nowhere wanted is = inr (refl, λ image also runs. apart image (sym is ∙ also))
+told_nowhere wanted is = inr (refl, (λ at also. there at (sym is ∙ also)), λ image also runs. apart image (sym is ∙ also))
   where
+    there : (at : Place) → nowhere ≡ missing at → ⊥
+    there at same = cc
+
     apart : (image : ImageParts) → nowhere ≡ found image → ⊥
     apart image same = cc
 
@@ -85,7 +94,7 @@ set_as files ps vs l bs turns p v laid b t =
 found_by : (files : List File) (answer : Result ImageParts Place) → IsNarrow (layout_of (phrases_of files) (known (phrases_of files))) → Fits (linked_in files) answer → IsImageOf files answer
 found_by files (Ok image) room fit = record { linked = fit.0; narrow = room; runs = fit.1 }
 found_by files (Err place) room (inl told) = inl told
-found_by files (Err place) room (inr (at, none)) = inr (at, λ image compiled. none image compiled.linked compiled.runs)
+found_by files (Err place) room (inr (at, there, none)) = inr (at, (λ one narrow_there told. there one told), λ image compiled. none image compiled.linked compiled.runs)
 
 pub image_found : (files : List File) (answer : Result (Result ImageParts Place) AllocError) (l : Layout) → l ≡ layout_of (phrases_of files) (known (phrases_of files)) → IsNarrow l
     → IfOk answer (Fits (linked_in files)) → IfOk answer (IsImageOf files)
@@ -97,4 +106,9 @@ room_for l told is room = (narrow l).0 (sym is ∙ room)
 
 -- where they have none, there is none
 pub too_wide : (files : List File) (l : Layout) (told : Bool) → l ≡ layout_of (phrases_of files) (known (phrases_of files)) → told ≡ is_narrow l → told ≡ false → IsImageOf files (Err beginning)
-too_wide files l told same is wide = inr (refl, λ image compiled. clash (is_narrow l) ((narrow l).1 (subst IsNarrow (sym same) compiled.narrow)) (sym is ∙ wide))
+too_wide files l told same is wide =
+    inr (
+      refl,
+      (λ at narrow_there found_there. clash (is_narrow l) ((narrow l).1 (subst IsNarrow (sym same) narrow_there)) (sym is ∙ wide)),
+      λ image compiled. clash (is_narrow l) ((narrow l).1 (subst IsNarrow (sym same) compiled.narrow)) (sym is ∙ wide),
+    )

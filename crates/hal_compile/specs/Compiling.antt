@@ -62,13 +62,16 @@ pub record Compiles (files : List File) (image : ImageParts) : Type 0 where
   pub narrow : IsNarrow (layout_of (phrases_of files) (known (phrases_of files)))
   pub runs : CanRun image
 
--- the files have no image: this is the place of the first phrase that has no code yet, or the beginning of the set where all have code
+-- the files have no image: this is the place of the first phrase that has no code yet, or the beginning of the set where all have code or the tables have no room
 abbrev pub IsUncompiled : List File → Place → Type 0
-IsUncompiled files place = (linked_in files ≡ Err (Some place)) ⊎ ((place ≡ beginning) × ((image : ImageParts) → Compiles files image → ⊥))
+IsUncompiled files place =
+    (linked_in files ≡ Err (Some place))
+    ⊎ ((place ≡ beginning) × ((at : Place) → IsNarrow (layout_of (phrases_of files) (known (phrases_of files))) → linked_in files ≡ Err (Some at) → ⊥) × ((image : ImageParts) → Compiles files image → ⊥))
 
 -- what linking came to gives an image that can run, or lacks one, as at this place
 abbrev pub Lacks : Result ImageParts (Option Place) → Place → Type 0
-Lacks wanted place = (wanted ≡ Err (Some place)) ⊎ ((place ≡ beginning) × ((image : ImageParts) → wanted ≡ Ok image → CanRun image → ⊥))
+Lacks wanted place =
+    (wanted ≡ Err (Some place)) ⊎ ((place ≡ beginning) × ((at : Place) → wanted ≡ Err (Some at) → ⊥) × ((image : ImageParts) → wanted ≡ Ok image → CanRun image → ⊥))
 
 abbrev pub Fits : Result ImageParts (Option Place) → Result ImageParts Place → Type 0
 Fits wanted (Ok image) = (wanted ≡ Ok image) × CanRun image
