@@ -5,7 +5,7 @@ A program of its own, crates/parse_times, makes a unit of one kind and parses it
 of unit of so many bytes: its words, the processor time of parsing it once (the difference between parsing
 it TIMES times and not at all; the least of three), the words a second, and the time's ratio to that of
 a unit of half the bytes. The larger unit is nearly at the limit of 65,536 words. The ratio is to stay
-below 2.5 for each kind. On an idle machine it is 2.2 at most.
+below 2.5 for each kind. On an idle machine it is 2.2 at most. No unit is to take a second, those that are no files among them.
 """
 import sys
 
@@ -18,6 +18,7 @@ KINDS = (('list', 150_000), ('sum', 160_000), ('product', 180_000), ('parenthese
 UNREAD = ('stuck', 'endless')
 TIMES = 30
 HIGHEST = 2.5
+SECONDS = 1.0
 
 
 def cost(path, kind, size, times):
@@ -44,7 +45,7 @@ def main():
         half, _ = each(path, kind, size // 2)
         whole, words = each(path, kind, size)
         print(f'{kind:>13}{words:8}{whole * 1000:8.2f}{words / whole / 1e6:10.2f}{whole / half:8.2f}')
-        is_fine = is_fine and whole / half < HIGHEST
+        is_fine = is_fine and whole / half < HIGHEST and whole < SECONDS
     return 0 if is_fine else 1
 
 

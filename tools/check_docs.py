@@ -8,6 +8,7 @@ import pathlib
 import re
 import subprocess
 import sys
+import tempfile
 
 ROOT = pathlib.Path(__file__).resolve().parent.parent
 
@@ -26,6 +27,11 @@ KINDS = re.compile(r'^## Kinds\n(.*?)^## ', re.MULTILINE | re.DOTALL)
 LOCKS = re.compile(r'^## Locks\n(.*?)^## ', re.MULTILINE | re.DOTALL)
 CALLS = re.compile(r'^## Calls\n(.*?)^## ', re.MULTILINE | re.DOTALL)
 TEMPLATES = re.compile(r'^## Templates\n(.*?)^## ', re.MULTILINE | re.DOTALL)
+# A row of a table of docs/LANGUAGE.md that is run: what it shows, the unit, the script and the report, whose lines ` / ` parts.
+RUN_UNIT = re.compile(r'^\| ([^|`]+) \| `( [^`]*;)` \| `([^`]*)` \| `([^`]*)` \|$', re.MULTILINE)
+# A row of a table of docs/IMAGE.md: the title of a row of crates/code_rows, its image, and the instruction that is wrong; and the tables that several of them share.
+WRONG_IMAGE = re.compile(r'^\| [^|`]+ \| ([^|`]+) \| `([^`]*)` \| `x\.img: instruction (\d+)` \|$', re.MULTILINE)
+SHARED_TABLES = re.compile(r'T stands for `([^`]*)`')
 NAMED_UNIT = re.compile(r'^\| `([ D][^`]*;)` \| (?:(\d+), (\d+:\d+)(?: of unit (\d+))?|right) \|$', re.MULTILINE)
 
 
@@ -37,15 +43,31 @@ def own_files():
             yield path
 
 
-def example_faults(folder):
-    """What is wrong with the run of an example: `hal run 1 script.txt UNIT..` gives report.txt."""
-    units = sorted(unit.name for unit in folder.glob('*.hal'))
-    run = subprocess.run([ROOT / 'hal', 'run', '1', 'script.txt', *units], cwd=folder, capture_output=True)
-    want = (folder / 'report.txt').read_bytes()
-    if run.returncode != 0 or run.stdout != want:
-        yield f'status {run.returncode}, and the report was\n{run.stdout.decode(errors="replace")}'
+def hal(folder, *words):
+    """What comes of `hal` with these words in this folder."""
+    return subprocess.run([ROOT / 'hal', *words], cwd=folder, capture_output=True)
+
+
+def run_faults(folder, *words):
+    """What is wrong with a run of an example, which gives report.txt."""
+    run = hal(folder, *words)
+    if run.returncode != 0 or run.stdout != (folder / 'report.txt').read_bytes():
+        yield f'{words[0]} ended with status {run.returncode}, and the report was\n{run.stdout.decode(errors="replace")}'
     if run.stderr:
-        yield f'standard error was\n{run.stderr.decode(errors="replace")}'
+        yield f'standard error of {words[0]} was\n{run.stderr.decode(errors="replace")}'
+
+
+def example_faults(folder):
+    """What is wrong with an example: its units give its report, two builds of them the same bytes, and these the report again."""
+    units = sorted(unit.name for unit in folder.glob('*.hal'))
+    yield from run_faults(folder, 'run', '1', 'script.txt', *units)
+    first, second = (hal(folder, 'build', *units) for _ in range(2))
+    if first.returncode != 0 or (first.stdout, first.stderr) != (second.stdout, b''):
+        yield f'builds ended with status {first.returncode} and {second.returncode}, or with other bytes'
+    with tempfile.NamedTemporaryFile(suffix='.img') as image:
+        image.write(first.stdout)
+        image.flush()
+        yield from run_faults(folder, 'exec', '1', 'script.txt', image.name)
 
 
 def wrong_body_faults():
@@ -64,6 +86,31 @@ def named_unit_faults(section, name):
     rows = {line for line in (ROOT / 'crates/name_rows/data' / name).read_text().splitlines() if ' => ' in line}
     for row in sorted(told ^ rows):
         yield f'{"no row" if row in told else "not told"}: {row}'
+
+
+def case_of(shows, unit, *texts):
+    """A row of docs/LANGUAGE.md that is run, as a case."""
+    script, report = (text.replace(' / ', '\n') for text in texts)
+    return f'{shows}\n-- unit p.hal\n{unit}\n-- script\n{script}\n-- prints\n{report}\n'
+
+
+def run_unit_faults():
+    """Units of docs/LANGUAGE.md with a report that are no case of those that the gate runs, and cases that it leaves out."""
+    told = {case_of(*row) for row in RUN_UNIT.findall((ROOT / 'docs/LANGUAGE.md').read_text())}
+    cases = re.split(r'(?:\A|(?<=\n))== ', (ROOT / 'crates/case_rows/data/language.cases').read_text())[1:-1]
+    for case in sorted(told ^ set(cases)):
+        yield f'{"no case" if case in told else "not told"}: {case.splitlines()[0]}'
+
+
+def wrong_image_faults():
+    """Images of docs/IMAGE.md that are no row of crates/code_rows with this title and this failure."""
+    text = (ROOT / 'docs/IMAGE.md').read_text()
+    tables = SHARED_TABLES.search(text)[1]
+    rows = ''.join((ROOT / 'crates/code_rows/rows' / name).read_text() for name in ('wrong_instructions.txt', 'wrong_tables.txt'))
+    for shows, image, number in WRONG_IMAGE.findall(text):
+        lines = re.sub('^T(?= / )', lambda _: tables, image).replace(' / ', '\n')
+        if f'== {shows}\n-- image\n{lines}\n-- fails {number}\n' not in rows:
+            yield f'no row: {shows}'
 
 
 def document_faults(path, text):
@@ -104,6 +151,8 @@ def main():
     sections = (NAMES, 'language.rows'), (KINDS, 'kinds.rows'), (LOCKS, 'lock_rules.rows'), (CALLS, 'call_rules.rows'), (TEMPLATES, 'template_rules.rows')
     for section, name in sections:
         faults += [f'docs/LANGUAGE.md: {fault}' for fault in named_unit_faults(section, name)]
+    faults += [f'docs/LANGUAGE.md: {fault}' for fault in run_unit_faults()]
+    faults += [f'docs/IMAGE.md: {fault}' for fault in wrong_image_faults()]
     for path in own_files():
         text = path.read_text(errors='replace')
         name = path.relative_to(ROOT)

@@ -18,6 +18,8 @@ use Rattle.hal_agreement.proofs.Linking.{only, one_unit, begun_plain}
 use Rattle.hal_code.proofs.Forwards.{right_is_forward}
 use Rattle.hal_agreement.specs.Placed.{IsPlacedProcess, IsPlaced}
 use Rattle.meaning_rows.specs.Trees.{o, nm, es, ts, ss, is, st, el}
+use Rattle.std.proofs.Common.{sym}
+use Rattle.hal_agreement.proofs.Viewing.{further_none}
 use Rattle.std.proofs.Common.{refl}
 use Rattle.hal_values.specs.declared.value.Kind.TheVariants as kind
 use Rattle.hal_values.specs.declared.value.Value.TheVariants as value
@@ -95,7 +97,7 @@ process1 zero exists = record {
   plain = refl;
   places = refl;
   block = only called1 0;
-  units = one_unit image1 set1 (places_of_process set1 0) called1 0 _ _ refl refl (record { found = refl; clears = []; start = 0; begins = refl; cleared = λ held. begun_plain set1 called1 (places_of_process set1 0) held refl; handler = λ place. 17; finish = 17; statements = (6, (4, (λ held. (3, (2, (λ held. (record { number = 3; view = _; cell = refl; row = refl; plain = record { dimensions = refl; target = refl; base = refl } }, (refl, refl))), refl, (record { number = 4; view = _; address = refl; row = refl; viewed = λ later. record { dimensions = refl; target = refl; base = refl } }), refl), refl, refl)), (λ held. (record { number = 5; view = _; cell = refl; row = refl; plain = record { dimensions = refl; target = refl; base = refl } }, (refl, refl)))), (17, (13, (10, 10, (λ held. (9, (6, 8, refl, (8, (λ held. (record { number = 3; view = _; cell = refl; row = refl; plain = record { dimensions = refl; target = refl; base = refl } }, (refl, refl))), refl), (record { number = 6; view = _; address = refl; row = refl; viewed = λ later. record { dimensions = refl; target = refl; base = refl } }), refl), refl, refl)), refl, (12, (λ held. (record { number = 5; view = _; cell = refl; row = refl; plain = record { dimensions = refl; target = refl; base = refl } }, (refl, refl))), refl, refl)), (λ held. (16, (15, (λ held. (record { number = 3; view = _; cell = refl; row = refl; plain = record { dimensions = refl; target = refl; base = refl } }, (refl, refl))), refl, (record { number = 6; view = _; address = refl; row = refl; viewed = λ later. record { dimensions = refl; target = refl; base = refl } }), refl), (refl, refl)))), refl)); leads_out = λ place none. refl; ends = (refl, refl) });
+  units = one_unit image1 set1 (places_of_process set1 0) called1 0 _ _ refl refl (record { found = refl; clears = []; start = 0; begins = refl; cleared = λ held. begun_plain set1 called1 (places_of_process set1 0) held refl; handler = λ place. 17; finish = 17; statements = (6, (4, (λ held. (3, (2, (λ held. (record { number = 3; view = _; cell = refl; row = refl; plain = record { dimensions = refl; target = refl; base = refl } }, (refl, refl))), refl, (record { number = 4; view = _; address = refl; row = refl; viewed = λ later. record { dimensions = refl; target = refl; base = refl } }), refl), refl, refl)), (λ held. (record { number = 5; view = _; cell = refl; row = refl; plain = record { dimensions = refl; target = refl; base = refl } }, (refl, refl)))), (17, (13, (10, 10, (λ held. (9, (6, 8, 0, 0, (refl, refl), (8, (λ held. (record { number = 3; view = _; cell = refl; row = refl; plain = record { dimensions = refl; target = refl; base = refl } }, (refl, refl))), (refl, refl)), (record { number = 6; view = _; address = refl; row = refl; viewed = λ later. record { dimensions = refl; target = refl; base = sym (further_none _) } }), refl), refl, refl)), refl, (12, (λ held. (record { number = 5; view = _; cell = refl; row = refl; plain = record { dimensions = refl; target = refl; base = refl } }, (refl, refl))), refl, refl)), (λ held. (16, (15, (λ held. (record { number = 3; view = _; cell = refl; row = refl; plain = record { dimensions = refl; target = refl; base = refl } }, (refl, refl))), refl, (record { number = 6; view = _; address = refl; row = refl; viewed = λ later. record { dimensions = refl; target = refl; base = refl } }), refl), (refl, refl)))), refl)); leads_out = λ place none. refl; ends = (refl, refl) });
   spot = λ place. 41;
   code = record { finish = 41; statements = (29, (λ held. (21, 23, (20, (1, refl, (λ held. ((record { number = 0; view = _; address = refl; row = refl; viewed = λ later. record { dimensions = refl; target = refl; base = refl } }), refl))), (21, (refl, refl), refl)), (22, (0, refl, (λ held. ((record { number = 1; view = _; address = refl; row = refl; viewed = λ later. record { dimensions = refl; target = refl; base = refl } }), refl))), (23, (1, refl, (λ held. ((record { number = 0; view = _; address = refl; row = refl; viewed = λ later. record { dimensions = refl; target = refl; base = refl } }), refl))), refl)), (record { number = 0; body = _; row = _; named = refl; found = refl; block = refl; gives = refl; bound = 25; middle = 28; references = (24, (23, refl, (refl, refl)), (refl, refl)); parameters = (27, (25, refl, ((λ held. record { number = 3; view = _; cell = refl; row = refl; plain = record { dimensions = refl; target = refl; base = refl } }), (refl, refl))), (refl, refl)); call = (refl, refl) }))), (41, (λ held. (32, 35, (30, (1, refl, (λ held. ((record { number = 0; view = _; address = refl; row = refl; viewed = λ later. record { dimensions = refl; target = refl; base = refl } }), refl))), (32, (λ held. (record { number = 7; view = _; cell = refl; row = refl; plain = record { dimensions = refl; target = refl; base = refl } }, (refl, refl))), refl)), (34, (0, refl, (λ held. (33, (refl, refl), refl, (record { number = 2; view = _; address = refl; row = refl; viewed = λ later. record { dimensions = refl; target = refl; base = refl } }), refl))), (35, (1, refl, (λ held. ((record { number = 0; view = _; address = refl; row = refl; viewed = λ later. record { dimensions = refl; target = refl; base = refl } }), refl))), refl)), (record { number = 0; body = _; row = _; named = refl; found = refl; block = refl; gives = refl; bound = 37; middle = 40; references = (36, (35, refl, (refl, refl)), (refl, refl)); parameters = (39, (37, refl, ((λ held. record { number = 3; view = _; cell = refl; row = refl; plain = record { dimensions = refl; target = refl; base = refl } }), (refl, refl))), (refl, refl)); call = (refl, refl) }))), refl)); leads_out = λ place none. refl; last = refl };
 }

@@ -97,7 +97,7 @@ process1 zero exists = record {
   block = λ unit. None;
   units = λ unit number b one named found block. absurd (cc);
   spot = λ place. 65;
-  code = record { finish = 65; statements = (5, (2, (refl, refl), (λ held. (4, (2, 3, refl, (3, (refl, refl), refl), (record { number = 0; view = _; address = refl; row = refl; viewed = λ later. record { dimensions = refl; target = refl; base = refl } }), refl), (refl, refl)))), (16, (12, (10, 10, (λ held. (9, (5, 8, refl, (8, (refl, (7, (refl, refl), refl, refl)), refl), (record { number = 0; view = _; address = refl; row = refl; viewed = λ later. record { dimensions = refl; target = refl; base = refl } }), refl), refl, refl)), refl, (11, (refl, refl), refl, refl)), (λ held. (15, (14, (λ held. (record { number = 2; view = _; cell = refl; row = refl; plain = record { dimensions = refl; target = refl; base = refl } }, (refl, refl))), refl, (record { number = 0; view = _; address = refl; row = refl; viewed = λ later. record { dimensions = refl; target = refl; base = refl } }), refl), (refl, refl)))), (25, (22, (λ held. (21, (16, 20, refl, (20, (18, 18, (λ held. (record { number = 2; view = _; cell = refl; row = refl; plain = record { dimensions = refl; target = refl; base = refl } }, (refl, refl))), refl, (19, (refl, refl), refl, refl)), refl), (record { number = 0; view = _; address = refl; row = refl; viewed = λ later. record { dimensions = refl; target = refl; base = refl } }), refl), refl, refl)), (λ held. (24, (23, (refl, refl), refl, (record { number = 0; view = _; address = refl; row = refl; viewed = λ later. record { dimensions = refl; target = refl; base = refl } }), refl), (refl, refl)))), (65, (6, 64, (λ rec h st same. refl), (30, (λ held. (26, (25, 25, refl, refl, (record { number = 1; view = _; address = refl; row = refl; viewed = λ later. record { dimensions = refl; target = refl; base = refl } }), refl), refl, (29, (28, (refl, refl), (refl, refl)), (refl, refl)))), refl, (35, (λ held. (32, ((record { number = 1; view = _; address = refl; row = refl; viewed = λ later. record { dimensions = refl; target = refl; base = refl } }), refl), refl, (refl, (refl, refl)))), refl, (41, (λ held. (37, ((record { number = 1; view = _; address = refl; row = refl; viewed = λ later. record { dimensions = refl; target = refl; base = refl } }), refl), refl, (40, (λ held. (record { number = 2; view = _; cell = refl; row = refl; plain = record { dimensions = refl; target = refl; base = refl } }, (refl, refl))), (refl, refl)))), refl, (47, (λ held. (43, (42, 42, refl, refl, (record { number = 1; view = _; address = refl; row = refl; viewed = λ later. record { dimensions = refl; target = refl; base = refl } }), refl), refl, (46, (refl, (refl, refl)), (refl, refl)))), refl, (54, (λ held. (49, (48, 48, refl, refl, (record { number = 1; view = _; address = refl; row = refl; viewed = λ later. record { dimensions = refl; target = refl; base = refl } }), refl), refl, (53, (51, (refl, refl), (λ held. (record { number = 2; view = _; cell = refl; row = refl; plain = record { dimensions = refl; target = refl; base = refl } }, (refl, refl)))), (refl, refl)))), refl, (58, (λ held. (57, (56, (refl, refl), refl, (record { number = 0; view = _; address = refl; row = refl; viewed = λ later. record { dimensions = refl; target = refl; base = refl } }), refl), refl, refl)), refl, (63, (λ held. (60, ((record { number = 3; view = _; address = refl; row = refl; viewed = λ later. record { dimensions = refl; target = refl; base = refl } }), refl), refl, (refl, (refl, refl)))), refl, refl))))))), (refl, refl)), refl)))); leads_out = λ place none. refl; last = refl };
+  code = record { finish = 65; statements = (5, (2, (refl, refl), (λ held. (4, (2, 3, 0, 0, (refl, refl), (3, (refl, refl), (refl, refl)), (record { number = 0; view = _; address = refl; row = refl; viewed = λ later. record { dimensions = refl; target = refl; base = refl } }), refl), (refl, refl)))), (16, (12, (10, 10, (λ held. (9, (5, 8, 0, 0, (refl, refl), (8, (refl, (7, (refl, refl), refl, refl)), (refl, refl)), (record { number = 0; view = _; address = refl; row = refl; viewed = λ later. record { dimensions = refl; target = refl; base = refl } }), refl), refl, refl)), refl, (11, (refl, refl), refl, refl)), (λ held. (15, (14, (λ held. (record { number = 2; view = _; cell = refl; row = refl; plain = record { dimensions = refl; target = refl; base = refl } }, (refl, refl))), refl, (record { number = 0; view = _; address = refl; row = refl; viewed = λ later. record { dimensions = refl; target = refl; base = refl } }), refl), (refl, refl)))), (25, (22, (λ held. (21, (16, 20, 0, 0, (refl, refl), (20, (18, 18, (λ held. (record { number = 2; view = _; cell = refl; row = refl; plain = record { dimensions = refl; target = refl; base = refl } }, (refl, refl))), refl, (19, (refl, refl), refl, refl)), (refl, refl)), (record { number = 0; view = _; address = refl; row = refl; viewed = λ later. record { dimensions = refl; target = refl; base = refl } }), refl), refl, refl)), (λ held. (24, (23, (refl, refl), refl, (record { number = 0; view = _; address = refl; row = refl; viewed = λ later. record { dimensions = refl; target = refl; base = refl } }), refl), (refl, refl)))), (65, (6, 64, (λ rec h st same. refl), (30, (λ held. (26, (25, 25, 0, 0, (refl, refl), (refl, refl), (record { number = 1; view = _; address = refl; row = refl; viewed = λ later. record { dimensions = refl; target = refl; base = refl } }), refl), refl, (29, (28, (refl, refl), (refl, refl)), (refl, refl)))), refl, (35, (λ held. (32, ((record { number = 1; view = _; address = refl; row = refl; viewed = λ later. record { dimensions = refl; target = refl; base = refl } }), refl), refl, (refl, (refl, refl)))), refl, (41, (λ held. (37, ((record { number = 1; view = _; address = refl; row = refl; viewed = λ later. record { dimensions = refl; target = refl; base = refl } }), refl), refl, (40, (λ held. (record { number = 2; view = _; cell = refl; row = refl; plain = record { dimensions = refl; target = refl; base = refl } }, (refl, refl))), (refl, refl)))), refl, (47, (λ held. (43, (42, 42, 0, 0, (refl, refl), (refl, refl), (record { number = 1; view = _; address = refl; row = refl; viewed = λ later. record { dimensions = refl; target = refl; base = refl } }), refl), refl, (46, (refl, (refl, refl)), (refl, refl)))), refl, (54, (λ held. (49, (48, 48, 0, 0, (refl, refl), (refl, refl), (record { number = 1; view = _; address = refl; row = refl; viewed = λ later. record { dimensions = refl; target = refl; base = refl } }), refl), refl, (53, (51, (refl, refl), (λ held. (record { number = 2; view = _; cell = refl; row = refl; plain = record { dimensions = refl; target = refl; base = refl } }, (refl, refl)))), (refl, refl)))), refl, (58, (λ held. (57, (56, (refl, refl), refl, (record { number = 0; view = _; address = refl; row = refl; viewed = λ later. record { dimensions = refl; target = refl; base = refl } }), refl), refl, refl)), refl, (63, (λ held. (60, ((record { number = 3; view = _; address = refl; row = refl; viewed = λ later. record { dimensions = refl; target = refl; base = refl } }), refl), refl, (refl, (refl, refl)))), refl, refl))))))), (refl, refl)), refl)))); leads_out = λ place none. refl; last = refl };
 }
 process1 (suc p) exists = absurd (none_more1 p exists)
 
@@ -131,7 +131,7 @@ process2 zero exists = record {
   block = λ unit. None;
   units = λ unit number b one named found block. absurd (cc);
   spot = λ place. 51;
-  code = record { finish = 51; statements = (7, (2, (refl, refl), (λ held. (3, ((record { number = 0; view = _; address = refl; row = refl; viewed = λ later. record { dimensions = refl; target = refl; base = refl } }), refl), (refl, refl, refl, (refl, refl))))), (14, (8, (refl, refl), (λ held. (9, ((record { number = 0; view = _; address = refl; row = refl; viewed = λ later. record { dimensions = refl; target = refl; base = refl } }), refl), (12, refl, (λ held. (record { number = 1; view = _; cell = refl; row = refl; plain = record { dimensions = refl; target = refl; base = refl } }, (refl, refl))), refl, (refl, refl))))), (21, (15, (refl, refl), (λ held. (16, (15, 15, refl, refl, (record { number = 0; view = _; address = refl; row = refl; viewed = λ later. record { dimensions = refl; target = refl; base = refl } }), refl), (19, refl, (18, (refl, refl), (refl, refl)), refl, (refl, refl))))), (28, (22, (refl, refl), (λ held. (23, (22, 22, refl, refl, (record { number = 0; view = _; address = refl; row = refl; viewed = λ later. record { dimensions = refl; target = refl; base = refl } }), refl), (26, refl, (refl, (refl, refl)), refl, (refl, refl))))), (36, (29, (refl, refl), (λ held. (30, (29, 29, refl, refl, (record { number = 0; view = _; address = refl; row = refl; viewed = λ later. record { dimensions = refl; target = refl; base = refl } }), refl), (34, refl, (32, (refl, refl), (λ held. (record { number = 1; view = _; cell = refl; row = refl; plain = record { dimensions = refl; target = refl; base = refl } }, (refl, refl)))), refl, (refl, refl))))), (43, (37, (refl, refl), (λ held. (38, (37, 37, refl, refl, (record { number = 2; view = _; address = refl; row = refl; viewed = λ later. record { dimensions = refl; target = refl; base = refl } }), refl), (41, refl, (40, (refl, refl), (refl, refl)), refl, (refl, refl))))), (51, (44, (refl, refl), (λ held. (47, (44, 46, refl, (46, (λ held. (record { number = 1; view = _; cell = refl; row = refl; plain = record { dimensions = refl; target = refl; base = refl } }, (refl, refl))), refl), (record { number = 3; view = _; address = refl; row = refl; viewed = λ later. record { dimensions = refl; target = refl; base = refl } }), refl), (49, refl, (refl, refl), refl, (refl, refl))))), refl))))))); leads_out = λ place none. refl; last = refl };
+  code = record { finish = 51; statements = (7, (2, (refl, refl), (λ held. (3, ((record { number = 0; view = _; address = refl; row = refl; viewed = λ later. record { dimensions = refl; target = refl; base = refl } }), refl), (refl, refl, refl, (refl, refl))))), (14, (8, (refl, refl), (λ held. (9, ((record { number = 0; view = _; address = refl; row = refl; viewed = λ later. record { dimensions = refl; target = refl; base = refl } }), refl), (12, refl, (λ held. (record { number = 1; view = _; cell = refl; row = refl; plain = record { dimensions = refl; target = refl; base = refl } }, (refl, refl))), refl, (refl, refl))))), (21, (15, (refl, refl), (λ held. (16, (15, 15, 0, 0, (refl, refl), (refl, refl), (record { number = 0; view = _; address = refl; row = refl; viewed = λ later. record { dimensions = refl; target = refl; base = refl } }), refl), (19, refl, (18, (refl, refl), (refl, refl)), refl, (refl, refl))))), (28, (22, (refl, refl), (λ held. (23, (22, 22, 0, 0, (refl, refl), (refl, refl), (record { number = 0; view = _; address = refl; row = refl; viewed = λ later. record { dimensions = refl; target = refl; base = refl } }), refl), (26, refl, (refl, (refl, refl)), refl, (refl, refl))))), (36, (29, (refl, refl), (λ held. (30, (29, 29, 0, 0, (refl, refl), (refl, refl), (record { number = 0; view = _; address = refl; row = refl; viewed = λ later. record { dimensions = refl; target = refl; base = refl } }), refl), (34, refl, (32, (refl, refl), (λ held. (record { number = 1; view = _; cell = refl; row = refl; plain = record { dimensions = refl; target = refl; base = refl } }, (refl, refl)))), refl, (refl, refl))))), (43, (37, (refl, refl), (λ held. (38, (37, 37, 0, 0, (refl, refl), (refl, refl), (record { number = 2; view = _; address = refl; row = refl; viewed = λ later. record { dimensions = refl; target = refl; base = refl } }), refl), (41, refl, (40, (refl, refl), (refl, refl)), refl, (refl, refl))))), (51, (44, (refl, refl), (λ held. (47, (44, 46, 0, 0, (refl, refl), (46, (λ held. (record { number = 1; view = _; cell = refl; row = refl; plain = record { dimensions = refl; target = refl; base = refl } }, (refl, refl))), (refl, refl)), (record { number = 3; view = _; address = refl; row = refl; viewed = λ later. record { dimensions = refl; target = refl; base = refl } }), refl), (49, refl, (refl, refl), refl, (refl, refl))))), refl))))))); leads_out = λ place none. refl; last = refl };
 }
 process2 (suc p) exists = absurd (none_more2 p exists)
 

@@ -92,16 +92,22 @@ fn file_told(alloc: Global, file: Option<u32>) -> Result<String, AllocError> {
     }
 }
 
-/// What a call came to: the status, the file that is told, the number of events, and what is printed.
-fn told(alloc: Global, outcome: &Outcome, taken: &[u8]) -> Result<String, AllocError> {
-    if outcome.image_fault.is_some() {
-        return String::from_str(alloc, " the fault of an image");
+/// Which instruction is told, where one is.
+fn instruction_told(alloc: Global, number: Option<u64>) -> Result<String, AllocError> {
+    match number {
+        None => String::from_str(alloc, ""),
+        Some(number) => format!(in alloc; ", instruction {number}"),
     }
+}
+
+/// What a call came to: the status, the file and the instruction that are told, the number of events, and what is printed.
+fn told(alloc: Global, outcome: &Outcome, taken: &[u8]) -> Result<String, AllocError> {
     let taken = notation_of(alloc, taken)?;
     let status = outcome.status;
     let file = file_told(alloc, outcome.file)?;
+    let instruction = instruction_told(alloc, outcome.image_fault)?;
     let events = outcome.journal.as_slice().len();
-    format!(in alloc; " status {status}, {file}, {events} events ({taken})")
+    format!(in alloc; " status {status}, {file}{instruction}, {events} events ({taken})")
 }
 
 /// What the call of these words comes to.
@@ -121,4 +127,13 @@ pub(crate) fn called(alloc: Global, call: &Call) -> Result<String, AllocError> {
     let mut shelf = shelf_of(alloc, call)?;
     let mut sink = sink_of(alloc, call)?;
     answer(alloc, words.as_slice(), &mut shelf, &mut sink)
+}
+
+/// What a call prints, as rows write bytes.
+pub(crate) fn printed(alloc: Global, call: &Call) -> Result<String, AllocError> {
+    let words = words_of(alloc, call.words)?;
+    let mut shelf = shelf_of(alloc, call)?;
+    let mut sink = sink_of(alloc, call)?;
+    hal(alloc, words.as_slice(), &mut shelf, &mut sink);
+    notation_of(alloc, sink.taken())
 }

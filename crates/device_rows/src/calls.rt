@@ -6,8 +6,10 @@
 //!                                                        `blanks 9` so many blanks
 //!     1 => status 7, ..                                  the calls of the shelf that fail
 //!     9 | 2 | 1 | run 17 => status 2, ..                 the room of the sink, how many bytes it takes at once, its puts that fail, and the words
+//!     RUN 5\n | p.img | HALI.. => status 0, ..           the script's bytes, and the name and the bytes of the image that runs under it
+//!     RUN 9\n | HELLO => status 0, ..                    the script's bytes, and those of the unit that is built and whose image runs under it
 
-use crate::call::{Call, HELLO_CALL, called};
+use crate::call::{Call, HELLO_CALL, called, printed};
 use crate::fields::halves;
 use std::alloc::{AllocError, Global};
 
@@ -63,4 +65,48 @@ pub(crate) fn of_sink(alloc: Global, row: &str) -> Result<String, AllocError> {
             ..HELLO_CALL
         },
     )
+}
+
+/// What a run of the image of this name and with these bytes comes to.
+fn executed<'a>(
+    alloc: Global,
+    script_bytes: &'a str,
+    image: &'a str,
+    image_bytes: &'a str,
+) -> Result<String, AllocError> {
+    called(
+        alloc,
+        &Call {
+            words: "exec 1 s.txt p.img",
+            script: ("s.txt", script_bytes),
+            unit: (image, image_bytes),
+            ..HELLO_CALL
+        },
+    )
+}
+
+/// What a run of an image comes to.
+pub(crate) fn of_image(alloc: Global, row: &str) -> Result<String, AllocError> {
+    let (script_bytes, row) = halves(row);
+    let (image, image_bytes) = halves(row);
+    executed(alloc, script_bytes, image, image_bytes)
+}
+
+/// What is built of the unit with these bytes.
+fn built(alloc: Global, unit_bytes: &str) -> Result<String, AllocError> {
+    printed(
+        alloc,
+        &Call {
+            words: "build p.hal",
+            unit: ("p.hal", unit_bytes),
+            ..HELLO_CALL
+        },
+    )
+}
+
+/// What a run of what is built of a unit comes to.
+pub(crate) fn of_built(alloc: Global, row: &str) -> Result<String, AllocError> {
+    let (script_bytes, unit_bytes) = halves(row);
+    let image = built(alloc, unit_bytes)?;
+    executed(alloc, script_bytes, "p.img", image.as_str())
 }

@@ -52,6 +52,8 @@ fn came_of_call(alloc: Global, way: &str, tried: &str) -> Result<String, AllocEr
         "files" => calls::of_files(alloc, tried),
         "shelf" => calls::of_shelf(alloc, tried),
         "sink" => calls::of_sink(alloc, tried),
+        "image" => calls::of_image(alloc, tried),
+        "built" => calls::of_built(alloc, tried),
         _ => String::from_str(alloc, " a way in which nothing is tried"),
     }
 }

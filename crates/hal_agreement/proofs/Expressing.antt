@@ -1,5 +1,5 @@
 -- The code of an expression leaves the value on the stack that the tree gives.
-use Rattle.std.specs.Prelude.{◌≡◌, ℕ, suc, nat_lt, length, Bool, true, false, ◌&&◌, ◌||◌, List, [], ◌∷◌, ◌++◌, ℤ, pos, Option, Some, None, slice_get, if◌then◌else◌}
+use Rattle.std.specs.Prelude.{◌≡◌, ℕ, suc, ◌+◌, nat_lt, length, Bool, true, false, ◌&&◌, ◌||◌, List, [], ◌∷◌, ◌++◌, ℤ, pos, ◌+ℤ◌, ◌-ℤ◌, Option, Some, None, slice_get, if◌then◌else◌}
 use Rattle.std.proofs.Common.{refl, sym, ap, subst, ◌∙◌}
 use Rattle.std.proofs.Math.Path.{fun_ext}
 use Rattle.hal_grammar.specs.Leaves.{Naming, Sign, Plus, Minus}
@@ -36,7 +36,7 @@ use Rattle.hal_meaning.specs.States.{State, Evaluated, Gives, Asks, Caught, Rest
 use Rattle.hal_meaning.specs.Access.{Here, ask, read}
 use Rattle.hal_meaning.specs.Calls.{Parameter, parameter_named, Passed, Plain, Whole, call}
 use Rattle.hal_meaning.specs.Bodies.{meant}
-use Rattle.hal_meaning.specs.Variables.{Meant, MeantData, MeantConstant, MeantEvent, MeantBlock, MeantBuiltin, MeantNothing, meant_by, declaration_meant, builtin_meant, name_meant, spot_meant, spot_named, kind_of_first, Index, Single, Dimension, dimensions_of, is_arrayed, is_whole}
+use Rattle.hal_meaning.specs.Variables.{Meant, MeantData, MeantConstant, MeantEvent, MeantBlock, MeantBuiltin, MeantNothing, meant_by, declaration_meant, builtin_meant, name_meant, spot_meant, spot_named, kind_of_first, Index, Single, Several, Dimension, dimensions_of, is_arrayed, is_whole}
 use Rattle.hal_meaning.specs.Expressions.{literal_value, is_condition, are_conditions, becomes_condition, as_condition, as_operand, apply_one, apply_two, signed, exponent_of, operation_of_relation, operation_of_sign, operation_of_conversion, event_value, alone_value, plain_value, built, is_size, size_value, size_argument, inputs_at, call_form, subscripted, meant_chosen, expression, joined, folded, summed, values, argument, passed, chosen_by, referred, chosen_data, data_chosen, component, Located, located, named_value, sizes_named, copies_of, spoken, array_indexes, indexes, index, position, part_of, parts_of, part_chosen}
 use Rattle.hal_meaning.specs.Tasks.{Meaning}
 use Rattle.hal_code.specs.declared.choice.Choice.TheVariants as choice
@@ -54,13 +54,14 @@ use Rattle.hal_code.specs.Computing.{part_taken, part_picked}
 use Rattle.hal_code.specs.Machine.{act}
 use Rattle.hal_agreement.specs.Codes.{Code}
 use Rattle.hal_agreement.specs.Sites.{site_of, here_at}
-use Rattle.hal_agreement.specs.PlacedExpressions.{One, pushes, two, AddressAt, ElementAt, AloneAt, CallAt, ValueAt, NameAt, EitherAt, PlaceAt, ArrayAt, array_spoken, DataAt, SubscriptedAt, SignAt, OperandAt, ExpressionAt, JoinedAt, FoldedAt, TermsAt, CalledAt, BuiltAt, ArgumentsAt, WholeArgumentAt, WholeAt, ReferenceAt, ChosenAt, IndexesAt, PositionAt, ComponentAt, PartsAt, PartAt, picks, places_of}
+use Rattle.hal_agreement.specs.PlacedExpressions.{One, pushes, two, AddressAt, ElementAt, AloneAt, CallAt, ValueAt, NameAt, EitherAt, PlaceAt, ArrayAt, array_spoken, single_dimensions, single_places, IsPosition, IsSpan, SpanAt, DataAt, SubscriptedAt, SignAt, OperandAt, ExpressionAt, JoinedAt, FoldedAt, TermsAt, CalledAt, BuiltAt, ArgumentsAt, WholeArgumentAt, WholeAt, ReferenceAt, ChosenAt, IndexesAt, PositionAt, ComponentAt, PartsAt, PartAt, picks, places_of}
 use Rattle.hal_agreement.proofs.Calling.{IsArgument, AreArguments, function_reaches}
 use Rattle.hal_agreement.proofs.Knowing.{Sound}
 use Rattle.hal_agreement.proofs.Leading.{stays}
 use Rattle.hal_agreement.proofs.Reaching.{Nest, setting, core_at, Reaches, bind_reaches, acts}
 use Rattle.hal_agreement.proofs.Viewing.{further_none, address_reaches}
-use Rattle.hal_agreement.proofs.Indexing.{laid, single, singles, laid_both, singles_both, lengths_both, located_same, element_reaches}
+use Rattle.hal_agreement.proofs.Indexing.{laid, single, singles, element_reaches}
+use Rattle.hal_agreement.proofs.Choosing.{Choice, OfOne, OfMany, values_of, indexes_of, Chooses, chooses_none, with_one, with_many, chooses_both, indexes_both, values_laid, as_many_values, as_many_indexes, located_chosen, located_same}
 use Rattle.hal_agreement.proofs.Raising.{Standing, bind_bind, asks_then, tested_reaches, read_reaches}
 
 -- what a declaration means goes by the site alone
@@ -295,75 +296,117 @@ module _ (code : Code) (begin : ℕ) (rec : Meaning) (sound : Sound code begin r
       (bind_reaches (setting code begin h) n (λ v after. From here.0 (Val v ∷ stack) line after) fine _ st.left place (λ v after. bind (located h (spot after.kept.places) k (dimensions_of (n1 ∷ ns)) (Single (integer_of v) ∷ []) after) go) (stands here.0 here.1)
       (λ v after. element_address fine (dimensions_of (n1 ∷ ns)) given k spot (v ∷ []) here.0 to stack line after go here.3 here.4 (ap (λ sizes. length (dimensions_of (n1 ∷ sizes))) (sym here.2)) each))
 
+  -- one more subscript of an array without a mark
+  array_more : (size : ℕ) (sizes : List ℕ) (sub : Sub) (others : Subscripts) (st : State) → ((after : State) → array_indexes rec h sizes others after ≡ indexes rec h (dimensions_of sizes) others after)
+      → array_indexes rec h (size ∷ sizes) (MoreSubscripts sub others) st ≡ indexes rec h (dimensions_of (size ∷ sizes)) (MoreSubscripts sub others) st
+  array_more size sizes sub others st same =
+      same_bind (index rec h size sub st) (λ i after. bind (array_indexes rec h sizes others after) (λ is later. Gives (i ∷ is) later)) (λ i after. bind (indexes rec h (dimensions_of sizes) others after) (λ is later. Gives (i ∷ is) later))
+      (λ i after. ap (λ r. bind r (λ is later. Gives (i ∷ is) later)) (same after))
+
   -- array subscripts without a mark are places of the array's dimensions
-  array_same : (sizes : List ℕ) (list : Subscripts) (from to : ℕ) (st : State) → IndexesAt code (site_of h) (dimensions_of sizes) list from to → array_indexes rec h sizes list st ≡ indexes rec h (dimensions_of sizes) list st
-  array_same [] NoSubscripts from to st here = refl
-  array_same (size ∷ sizes) (MoreSubscripts (OnePlace one) others) from to st here =
-      same_bind (index rec h size (OnePlace one) st) (λ i after. bind (array_indexes rec h sizes others after) (λ is later. Gives (i ∷ is) later)) (λ i after. bind (indexes rec h (dimensions_of sizes) others after) (λ is later. Gives (i ∷ is) later))
-      (λ i after. ap (λ r. bind r (λ is later. Gives (i ∷ is) later)) (array_same sizes others here.0 to after here.2))
-  array_same [] (MoreSubscripts first others) from to st here = absurd here
-  array_same (size ∷ sizes) NoSubscripts from to st here = absurd here
-  array_same (size ∷ sizes) (MoreSubscripts (Every place) others) from to st here = absurd here
-  array_same (size ∷ sizes) (MoreSubscripts (Range first behind) others) from to st here = absurd here
-  array_same (size ∷ sizes) (MoreSubscripts (Portion count first) others) from to st here = absurd here
+  array_same : (sizes : List ℕ) (list : Subscripts) (before from to : ℕ) (st : State) → IndexesAt code (site_of h) (dimensions_of sizes) list before from to → array_indexes rec h sizes list st ≡ indexes rec h (dimensions_of sizes) list st
+  array_same [] NoSubscripts before from to st here = refl
+  array_same (size ∷ sizes) (MoreSubscripts (OnePlace one) others) before from to st here = array_more size sizes (OnePlace one) others st (λ after. array_same sizes others before here.0 to after here.2)
+  array_same (size ∷ sizes) (MoreSubscripts (Every place) others) before from to st here = array_more size sizes (Every place) others st (λ after. array_same sizes others here.1 from to after here.4)
+  array_same (size ∷ sizes) (MoreSubscripts (Range first behind) others) before from to st here = array_more size sizes (Range first behind) others st (λ after. array_same sizes others here.1 from to after here.4)
+  array_same (size ∷ sizes) (MoreSubscripts (Portion count first) others) before from to st here = array_more size sizes (Portion count first) others st (λ after. array_same sizes others here.1 from to after here.4)
+  array_same [] (MoreSubscripts first others) before from to st here = absurd here
+  array_same (size ∷ sizes) NoSubscripts before from to st here = absurd here
 
   -- copies without subscripts have no places
   spoken_same : (list : Subscripts) (ds : List Dimension) (st : State) → indexes rec h ds list st ≡ indexes rec h (spoken list ds) list st
   spoken_same NoSubscripts ds st = refl
   spoken_same (MoreSubscripts first others) ds st = refl
 
-  -- places are put on these operands, and something is done with them
-  abbrev Laying : {A : Type 0} (fine : A → State → Option Step) (ds : List Dimension) (to : ℕ) (stack : List Operand) (line : List ℕ) (go : List Index → State → Evaluated A) → Type 0
-  Laying fine ds to stack line go = (vs : List Value) (after : State) → length vs ≡ length ds → Reaches (setting code begin h) n fine (From to (laid vs stack) line after) after.left (go (singles vs) after)
+  -- a constant place
+  position_given : (size : ℕ) (one : Position) (k : ℤ) (st : State) → IsPosition (site_of h) size one k → position rec h size one st ≡ Gives k st
+  position_given size (FromBeginning one) k st is = ap (λ r. bind r (λ v after. Gives (integer_of v) after)) (is rec h st refl)
+  position_given size (FromEnd place terms) k st is = ap (λ r. bind r (λ v after. Gives (integer_of v) after)) (is rec h st refl)
+
+  -- several constant places
+  span_given : (size : ℕ) (sub : Sub) (first last : ℤ) (st : State) → IsSpan (site_of h) size sub first last → index rec h size sub st ≡ Gives (Several first last) st
+  span_given size (Every place) first last st is = ap (λ k. Gives (Several k (pos size)) st) (sym is.0) ∙ ap (λ k. Gives (Several first k) st) (sym is.1)
+  span_given size (OnePlace one) first last st is = absurd is
+  span_given size (Range one other) first last st is =
+      ap (λ r. bind r (λ i after. bind (position rec h size other after) (λ j later. Gives (Several i j) later))) (position_given size one first st is.0)
+      ∙ ap (λ r. bind r (λ j later. Gives (Several first j) later)) (position_given size other last st is.1)
+  span_given size (Portion count one) first last st is =
+      ap (λ r. bind r (λ n after. bind (position rec h size one after) (λ i later. Gives (Several i ((i +ℤ integer_of n) -ℤ pos 1)) later))) (is.1 rec h st refl)
+      ∙ (ap (λ r. bind r (λ i later. Gives (Several i ((i +ℤ is.0) -ℤ pos 1)) later)) (position_given size one first st is.2)
+      ∙ ap (λ k. Gives (Several first k) st) (sym is.3))
+
+  -- what is chosen leaves values on these operands, and something is done with them
+  abbrev Laying : {A : Type 0} (fine : A → State → Option Step) (ds left : List Dimension) (before to : ℕ) (stack : List Operand) (line : List ℕ) (go : List Index → State → Evaluated A) → Type 0
+  Laying fine ds left before to stack line go =
+      (cs : List Choice) (after : State) → Chooses ds left before cs → Reaches (setting code begin h) n fine (From to (laid (values_of cs) stack) line after) after.left (go (indexes_of cs) after)
 
   -- the places of a list are, wherever they stand
-  abbrev Lays : {A : Type 0} (fine : A → State → Option Step) (ds : List Dimension) (list : Subscripts) (from to : ℕ) (stack : List Operand) (line : List ℕ) (st : State) → Type 0
-  Lays {A} fine ds list from to stack line st =
-      (go : List Index → State → Evaluated A) → IndexesAt code (site_of h) ds list from to → Laying fine ds to stack line go → Reaches (setting code begin h) n fine (From from stack line st) st.left (bind (indexes rec h ds list st) go)
+  abbrev Lays : {A : Type 0} (fine : A → State → Option Step) (ds : List Dimension) (list : Subscripts) (before from to : ℕ) (stack : List Operand) (line : List ℕ) (st : State) → Type 0
+  Lays {A} fine ds list before from to stack line st =
+      (go : List Index → State → Evaluated A) → IndexesAt code (site_of h) ds list before from to → Laying fine ds (single_dimensions ds list) before to stack line go
+      → Reaches (setting code begin h) n fine (From from stack line st) st.left (bind (indexes rec h ds list st) go)
 
   -- there are no places
-  none_laid : {A : Type 0} (fine : A → State → Option Step) (from to : ℕ) (stack : List Operand) (line : List ℕ) (st : State) (go : List Index → State → Evaluated A) → from ≡ to → Laying fine [] to stack line go
+  none_laid : {A : Type 0} (fine : A → State → Option Step) (before from to : ℕ) (stack : List Operand) (line : List ℕ) (st : State) (go : List Index → State → Evaluated A) → before ≡ 0 → from ≡ to → Laying fine [] [] before to stack line go
       → Reaches (setting code begin h) n fine (From from stack line st) st.left (go [] st)
-  none_laid fine from to stack line st go same each = subst (λ begins. Reaches (setting code begin h) n fine (From begins stack line st) st.left (go [] st)) (sym same) (each [] st refl)
+  none_laid fine before from to stack line st go none same each =
+      subst (λ begins. Reaches (setting code begin h) n fine (From begins stack line st) st.left (go [] st)) (sym same) (each [] st (chooses_none before none))
+
+  -- several places are constant: nothing is done for them
+  behind_span : {A : Type 0} (fine : A → State → Option Step) (d : Dimension) (ds : List Dimension) (sub : Sub) (others : Subscripts) (first last : ℤ) (from : ℕ) (stack : List Operand) (line : List ℕ) (st : State) (go : List Index → State → Evaluated A)
+      → index rec h d.size sub st ≡ Gives (Several first last) st
+      → Reaches (setting code begin h) n fine (From from stack line st) st.left (bind (indexes rec h ds others st) (λ is later. go (Several first last ∷ is) later))
+      → Reaches (setting code begin h) n fine (From from stack line st) st.left (bind (indexes rec h (d ∷ ds) (MoreSubscripts sub others) st) go)
+  behind_span fine d ds sub others first last from stack line st go is goes =
+      subst (λ r. Reaches (setting code begin h) n fine (From from stack line st) st.left r)
+      (sym (ap (λ r. bind (bind r (λ i after. bind (indexes rec h ds others after) (λ is later. Gives (i ∷ is) later))) go) is
+      ∙ bind_bind (indexes rec h ds others st) (λ is later. Gives (Several first last ∷ is) later) go)) goes
 
   -- subscripts without a mark
-  array_reaches : {A : Type 0} (fine : A → State → Option Step) (sizes : List ℕ) (list : Subscripts) (from to : ℕ) (stack : List Operand) (line : List ℕ) (st : State) (go : List Index → State → Evaluated A)
-      → Lays fine (spoken list (dimensions_of sizes)) list from to stack line st → ArrayAt (λ begins ends. IndexesAt code (site_of h) (spoken list (dimensions_of sizes)) list begins ends) sizes from to
-      → Laying fine (spoken list (dimensions_of sizes)) to stack line go → Reaches (setting code begin h) n fine (From from stack line st) st.left (bind (array_indexes rec h sizes list st) go)
-  array_reaches fine [] NoSubscripts from to stack line st go places same each = none_laid fine from to stack line st go same each
-  array_reaches fine [] (MoreSubscripts first others) from to stack line st go places same each = none_laid fine from to stack line st go same each
-  array_reaches fine (size ∷ sizes) NoSubscripts from to stack line st go places same each = none_laid fine from to stack line st go same each
-  array_reaches fine (size ∷ sizes) (MoreSubscripts first others) from to stack line st go places here each =
-      subst (λ r. Reaches (setting code begin h) n fine (From from stack line st) st.left (bind r go)) (sym (array_same (size ∷ sizes) (MoreSubscripts first others) from to st here)) (places go here each)
+  array_reaches : {A : Type 0} (fine : A → State → Option Step) (sizes : List ℕ) (list : Subscripts) (before from to : ℕ) (stack : List Operand) (line : List ℕ) (st : State) (go : List Index → State → Evaluated A)
+      → Lays fine (spoken list (dimensions_of sizes)) list before from to stack line st → ArrayAt (λ begins ends. IndexesAt code (site_of h) (spoken list (dimensions_of sizes)) list before begins ends) sizes before from to
+      → Laying fine (spoken list (dimensions_of sizes)) (single_dimensions (spoken list (dimensions_of sizes)) list) before to stack line go
+      → Reaches (setting code begin h) n fine (From from stack line st) st.left (bind (array_indexes rec h sizes list st) go)
+  array_reaches fine [] NoSubscripts before from to stack line st go places here each = none_laid fine before from to stack line st go here.0 here.1 each
+  array_reaches fine [] (MoreSubscripts first others) before from to stack line st go places here each = none_laid fine before from to stack line st go here.0 here.1 each
+  array_reaches fine (size ∷ sizes) NoSubscripts before from to stack line st go places here each = none_laid fine before from to stack line st go here.0 here.1 each
+  array_reaches fine (size ∷ sizes) (MoreSubscripts first others) before from to stack line st go places here each =
+      subst (λ r. Reaches (setting code begin h) n fine (From from stack line st) st.left (bind r go)) (sym (array_same (size ∷ sizes) (MoreSubscripts first others) before from to st here)) (places go here each)
 
   -- subscripts of an array, with a mark behind them or without one
-  either_reaches : {A : Type 0} (fine : A → State → Option Step) (unmarked : Bool) (sizes : List ℕ) (components arrays : Subscripts) (from to : ℕ) (stack : List Operand) (line : List ℕ) (st : State) (go : List Index → State → Evaluated A)
-      → Lays fine (spoken components (dimensions_of sizes)) components from to stack line st → Lays fine (dimensions_of sizes) arrays from to stack line st
-      → EitherAt unmarked (λ begins ends. ArrayAt (λ first behind. IndexesAt code (site_of h) (spoken components (dimensions_of sizes)) components first behind) sizes begins ends)
-      (λ begins ends. IndexesAt code (site_of h) (dimensions_of sizes) arrays begins ends) from to
-      → Laying fine (array_spoken unmarked components (dimensions_of sizes)) to stack line go
+  either_reaches : {A : Type 0} (fine : A → State → Option Step) (unmarked : Bool) (sizes : List ℕ) (components arrays : Subscripts) (before from to : ℕ) (stack : List Operand) (line : List ℕ) (st : State) (go : List Index → State → Evaluated A)
+      → Lays fine (spoken components (dimensions_of sizes)) components before from to stack line st → Lays fine (dimensions_of sizes) arrays before from to stack line st
+      → EitherAt unmarked (λ begins ends. ArrayAt (λ first behind. IndexesAt code (site_of h) (spoken components (dimensions_of sizes)) components before first behind) sizes before begins ends)
+      (λ begins ends. IndexesAt code (site_of h) (dimensions_of sizes) arrays before begins ends) from to
+      → Laying fine (array_spoken unmarked components (dimensions_of sizes)) (single_places unmarked components arrays (dimensions_of sizes)) before to stack line go
       → Reaches (setting code begin h) n fine (From from stack line st) st.left (bind (if unmarked then array_indexes rec h sizes components st else indexes rec h (dimensions_of sizes) arrays st) go)
-  either_reaches fine true sizes components arrays from to stack line st go first second here each = array_reaches fine sizes components from to stack line st go first here each
-  either_reaches fine false sizes components arrays from to stack line st go first second here each = second go here each
+  either_reaches fine true sizes components arrays before from to stack line st go first second here each = array_reaches fine sizes components before from to stack line st go first here each
+  either_reaches fine false sizes components arrays before from to stack line st go first second here each = second go here each
 
   -- the address of an element behind the places of copies, which lie on the stack, and of its array
-  behind_copies : {A : Type 0} (fine : A → State → Option Step) (unmarked : Bool) (ds : List Dimension) (sizes : List ℕ) (components arrays : Subscripts) (given : Target) (k : Kind) (spot : List Held → Spot) (vs : List Value) (from middle to : ℕ) (stack : List Operand)
-      (line : List ℕ) (st : State) (go : Located → State → Evaluated A) → Lays fine (spoken components (dimensions_of sizes)) components from middle (laid vs stack) line st → Lays fine (dimensions_of sizes) arrays from middle (laid vs stack) line st
-      → EitherAt unmarked (λ begins ends. ArrayAt (λ first behind. IndexesAt code (site_of h) (spoken components (dimensions_of sizes)) components first behind) sizes begins ends)
-      (λ begins ends. IndexesAt code (site_of h) (dimensions_of sizes) arrays begins ends) from middle
-      → ElementAt code (ds ++ array_spoken unmarked components (dimensions_of sizes)) given spot middle → suc middle ≡ to → length vs ≡ length ds → Addressed fine given k to stack line go
-      → Reaches (setting code begin h) n fine (From from (laid vs stack) line st) st.left
-      (bind (bind (if unmarked then array_indexes rec h sizes components st else indexes rec h (dimensions_of sizes) arrays st) (λ js later. located h (spot later.kept.places) k (ds ++ dimensions_of sizes) (singles vs ++ js) later)) go)
-  behind_copies fine unmarked ds sizes components arrays given k spot vs from middle to stack line st go first second here at same many each =
-      subst (λ r. Reaches (setting code begin h) n fine (From from (laid vs stack) line st) st.left r)
-      (sym (bind_bind (if unmarked then array_indexes rec h sizes components st else indexes rec h (dimensions_of sizes) arrays st) (λ js later. located h (spot later.kept.places) k (ds ++ dimensions_of sizes) (singles vs ++ js) later) go))
-      (either_reaches fine unmarked sizes components arrays from middle (laid vs stack) line st (λ js later. bind (located h (spot later.kept.places) k (ds ++ dimensions_of sizes) (singles vs ++ js) later) go) first second here
-      (λ ws later more. subst (λ below. Reaches (setting code begin h) n fine (From middle below line later) later.left (bind (located h (spot later.kept.places) k (ds ++ dimensions_of sizes) (singles vs ++ singles ws) later) go)) (laid_both vs ws stack)
-      (subst (λ is. Reaches (setting code begin h) n fine (From middle (laid (vs ++ ws) stack) line later) later.left (bind (located h (spot later.kept.places) k (ds ++ dimensions_of sizes) is later) go)) (singles_both vs ws)
-      (subst (λ l. Reaches (setting code begin h) n fine (From middle (laid (vs ++ ws) stack) line later) later.left (bind l go))
-      (sym (located_same h (spot later.kept.places) k unmarked components ds (dimensions_of sizes) (vs ++ ws) later (lengths_both vs ws ds (array_spoken unmarked components (dimensions_of sizes)) many more)))
-      (element_address fine (ds ++ array_spoken unmarked components (dimensions_of sizes)) given k spot (vs ++ ws) middle to stack line later go at same
-      (lengths_both vs ws ds (array_spoken unmarked components (dimensions_of sizes)) many more) each)))))
+  behind_copies : {A : Type 0} (fine : A → State → Option Step) (unmarked : Bool) (ds left : List Dimension) (skipped : ℕ) (sizes : List ℕ) (components arrays : Subscripts) (passed : ℕ) (given : Target) (k : Kind) (spot : List Held → Spot) (cs : List Choice)
+      (from middle to : ℕ) (stack : List Operand) (line : List ℕ) (st : State) (go : Located → State → Evaluated A)
+      → Lays fine (spoken components (dimensions_of sizes)) components passed from middle (laid (values_of cs) stack) line st → Lays fine (dimensions_of sizes) arrays passed from middle (laid (values_of cs) stack) line st
+      → EitherAt unmarked (λ begins ends. ArrayAt (λ first behind. IndexesAt code (site_of h) (spoken components (dimensions_of sizes)) components passed first behind) sizes passed begins ends)
+      (λ begins ends. IndexesAt code (site_of h) (dimensions_of sizes) arrays passed begins ends) from middle
+      → ElementAt code (left ++ single_places unmarked components arrays (dimensions_of sizes)) given (λ held. further (skipped + passed) (spot held)) middle → suc middle ≡ to → Chooses ds left skipped cs → Addressed fine given k to stack line go
+      → Reaches (setting code begin h) n fine (From from (laid (values_of cs) stack) line st) st.left
+      (bind (bind (if unmarked then array_indexes rec h sizes components st else indexes rec h (dimensions_of sizes) arrays st) (λ js later. located h (spot later.kept.places) k (ds ++ dimensions_of sizes) (indexes_of cs ++ js) later)) go)
+  behind_copies fine unmarked ds left skipped sizes components arrays passed given k spot cs from middle to stack line st go first second here at same are each =
+      subst (λ r. Reaches (setting code begin h) n fine (From from (laid (values_of cs) stack) line st) st.left r)
+      (sym (bind_bind (if unmarked then array_indexes rec h sizes components st else indexes rec h (dimensions_of sizes) arrays st) (λ js later. located h (spot later.kept.places) k (ds ++ dimensions_of sizes) (indexes_of cs ++ js) later) go))
+      (either_reaches fine unmarked sizes components arrays passed from middle (laid (values_of cs) stack) line st (λ js later. bind (located h (spot later.kept.places) k (ds ++ dimensions_of sizes) (indexes_of cs ++ js) later) go) first second here
+      (λ es later more.
+      let spokens = array_spoken unmarked components (dimensions_of sizes) in
+      let ones = single_places unmarked components arrays (dimensions_of sizes) in
+      let both = chooses_both ds left skipped cs spokens ones passed es are more in
+      let place : located h (spot later.kept.places) k (ds ++ dimensions_of sizes) (indexes_of cs ++ indexes_of es) later ≡ located h (further (skipped + passed) (spot later.kept.places)) k (left ++ ones) (singles (values_of (cs ++ es))) later =
+      ap (λ is. located h (spot later.kept.places) k (ds ++ dimensions_of sizes) is later) (sym (indexes_both cs es))
+      ∙ (located_same h (spot later.kept.places) k unmarked components ds (dimensions_of sizes) (indexes_of (cs ++ es)) later (as_many_indexes (ds ++ spokens) (left ++ ones) (skipped + passed) (cs ++ es) both)
+      ∙ located_chosen h (spot later.kept.places) k later (ds ++ spokens) (left ++ ones) (skipped + passed) (cs ++ es) both) in
+      subst (λ below. Reaches (setting code begin h) n fine (From middle below line later) later.left (bind (located h (spot later.kept.places) k (ds ++ dimensions_of sizes) (indexes_of cs ++ indexes_of es) later) go)) (values_laid cs es stack)
+      (subst (λ l. Reaches (setting code begin h) n fine (From middle (laid (values_of (cs ++ es)) stack) line later) later.left (bind l go)) (sym place)
+      (element_address fine (left ++ ones) given k (λ held. further (skipped + passed) (spot held)) (values_of (cs ++ es)) middle to stack line later go at same (as_many_values (ds ++ spokens) (left ++ ones) (skipped + passed) (cs ++ es) both) each))))
 
   -- what a name means, with a subscript: its data are addressed, they are read, and then comes their component
   subscripted_reaches : (path : List Naming) (choose : Shape → State → Evaluated Located) (part : Bool → Value → State → Evaluated Value) (address : Shape → ℕ → ℕ → Type 0) (parted : Bool → ℕ → ℕ → Type 0) (m : Meant) (from to : ℕ)
@@ -679,36 +722,46 @@ module _ (code : Code) (begin : ℕ) (rec : Meaning) (sound : Sound code begin r
     chosen_reaches w fine given path (ByParts place copies arrays components) spot shape from to stack line st go here each =
         subst (λ r. Reaches (setting code begin h) n fine (From from stack line st) st.left r)
         (ap (λ r. bind r (λ is after. bind (elements is after) go)) (sym (spoken_same copies (copies_of shape) st)) ∙ sym (bind_bind (indexes rec h (copies_of shape) copies st) elements go))
-        (indexes_reaches w fine (spoken copies (copies_of shape)) copies from here.0 stack line st (λ is after. bind (elements is after) go) here.2
-        (λ vs after many. behind_copies fine (is_none arrays) (spoken copies (copies_of shape)) (sizes_named path shape) components arrays given (kind_of_first (chosen path shape.components)) (λ held. further (offset path shape.components) (spot held)) vs here.0 here.1 to
-        stack line after go (λ next at later. indexes_reaches w fine (spoken components (dimensions_of (sizes_named path shape))) components here.0 here.1 (laid vs stack) line after next at later)
-        (λ next at later. indexes_reaches w fine (dimensions_of (sizes_named path shape)) arrays here.0 here.1 (laid vs stack) line after
-        next at later) here.3 here.4 here.5 many each))
+        (indexes_reaches w fine (spoken copies (copies_of shape)) copies here.2 from here.0 stack line st (λ is after. bind (elements is after) go) here.4
+        (λ cs after are. behind_copies fine (is_none arrays) (spoken copies (copies_of shape)) (single_dimensions (spoken copies (copies_of shape)) copies) here.2 (sizes_named path shape) components arrays here.3 given (kind_of_first (chosen path shape.components))
+        (λ held. further (offset path shape.components) (spot held)) cs here.0 here.1 to stack line after go
+        (λ next at later. indexes_reaches w fine (spoken components (dimensions_of (sizes_named path shape))) components here.3 here.0 here.1 (laid (values_of cs) stack) line after next at later)
+        (λ next at later. indexes_reaches w fine (dimensions_of (sizes_named path shape)) arrays here.3 here.0 here.1 (laid (values_of cs) stack) line after next at later) here.5 here.6 here.7 are each))
       where
         elements : List Index → State → Evaluated Located
         elements is after =
             bind (if is_none arrays then array_indexes rec h (sizes_named path shape) components after else indexes rec h (dimensions_of (sizes_named path shape)) arrays after)
             (λ js later. located h (further (offset path shape.components) (spot later.kept.places)) (kind_of_first (chosen path shape.components)) (spoken copies (copies_of shape) ++ dimensions_of (sizes_named path shape)) (is ++ js) later)
 
-    -- places for dimensions, one for each
-    indexes_reaches : (w : Outcome) (fine : Of w → State → Option Step) (ds : List Dimension) (list : Subscripts) (from to : ℕ) (stack : List Operand) (line : List ℕ) (st : State) (go : List Index → State → Evaluated (Of w)) → IndexesAt code (site_of h) ds list from to
-        → ((vs : List Value) (after : State) → length vs ≡ length ds → Reaches (setting code begin h) n fine (From to (laid vs stack) line after) after.left (go (singles vs) after))
+    -- subscripts of dimensions, one for each
+    indexes_reaches : (w : Outcome) (fine : Of w → State → Option Step) (ds : List Dimension) (list : Subscripts) (before from to : ℕ) (stack : List Operand) (line : List ℕ) (st : State) (go : List Index → State → Evaluated (Of w)) → IndexesAt code (site_of h) ds list before from to
+        → ((cs : List Choice) (after : State) → Chooses ds (single_dimensions ds list) before cs → Reaches (setting code begin h) n fine (From to (laid (values_of cs) stack) line after) after.left (go (indexes_of cs) after))
         → Reaches (setting code begin h) n fine (From from stack line st) st.left (bind (indexes rec h ds list st) go)
-    indexes_reaches w fine [] NoSubscripts from to stack line st go same each =
-        subst (λ begins. Reaches (setting code begin h) n fine (From begins stack line st) st.left (go [] st)) (sym same) (each [] st refl)
-    indexes_reaches w fine (d ∷ ds) (MoreSubscripts (OnePlace one) others) from to stack line st go here each =
+    indexes_reaches w fine [] NoSubscripts before from to stack line st go here each =
+        subst (λ begins. Reaches (setting code begin h) n fine (From begins stack line st) st.left (go [] st)) (sym here.1) (each [] st (chooses_none before here.0))
+    indexes_reaches w fine (d ∷ ds) (MoreSubscripts (OnePlace one) others) before from to stack line st go here each =
         subst (λ r. Reaches (setting code begin h) n fine (From from stack line st) st.left r)
         (sym (bind_bind (index rec h d.size (OnePlace one) st) (λ i after. bind (indexes rec h ds others after) (λ is later. Gives (i ∷ is) later)) go
         ∙ bind_bind (position rec h d.size one st) (λ i after. Gives (Single i) after) (λ i after. bind (bind (indexes rec h ds others after) (λ is later. Gives (i ∷ is) later)) go)))
         (position_reaches w fine one d.size (instr.Int (pos d.size)) from here.0 stack line st (λ i after. bind (bind (indexes rec h ds others after) (λ is later. Gives (Single i ∷ is) later)) go) (λ at now. refl) here.1
         (λ v after. subst (λ r. Reaches (setting code begin h) n fine (From here.0 (Val v ∷ stack) line after) after.left r)
         (sym (bind_bind (indexes rec h ds others after) (λ is later. Gives (single v ∷ is) later) go))
-        (indexes_reaches w fine ds others here.0 to (Val v ∷ stack) line after (λ is later. go (single v ∷ is) later) here.2 (λ vs later many. each (v ∷ vs) later (ap suc many)))))
-    indexes_reaches w fine [] (MoreSubscripts first others) from to stack line st go here each = absurd here
-    indexes_reaches w fine (d ∷ ds) NoSubscripts from to stack line st go here each = absurd here
-    indexes_reaches w fine (d ∷ ds) (MoreSubscripts (Every place) others) from to stack line st go here each = absurd here
-    indexes_reaches w fine (d ∷ ds) (MoreSubscripts (Range first behind) others) from to stack line st go here each = absurd here
-    indexes_reaches w fine (d ∷ ds) (MoreSubscripts (Portion count first) others) from to stack line st go here each = absurd here
+        (indexes_reaches w fine ds others before here.0 to (Val v ∷ stack) line after (λ is later. go (single v ∷ is) later) here.2
+        (λ cs later are. each (OfOne d v ∷ cs) later (with_one d v ds (single_dimensions ds others) before cs are)))))
+    indexes_reaches w fine (d ∷ ds) (MoreSubscripts (Every place) others) before from to stack line st go here each =
+        behind_span fine d ds (Every place) others here.2.first here.2.last from stack line st go (span_given d.size (Every place) here.2.first here.2.last st here.2.span)
+        (indexes_reaches w fine ds others here.1 from to stack line st (λ is later. go (Several here.2.first here.2.last ∷ is) later) here.4
+        (λ cs later are. each (OfMany d here.2.first here.2.last ∷ cs) later (with_many d here.2.first here.2.last ds (single_dimensions ds others) here.0 here.1 before cs here.2.inside here.2.behind here.3 are)))
+    indexes_reaches w fine (d ∷ ds) (MoreSubscripts (Range one other) others) before from to stack line st go here each =
+        behind_span fine d ds (Range one other) others here.2.first here.2.last from stack line st go (span_given d.size (Range one other) here.2.first here.2.last st here.2.span)
+        (indexes_reaches w fine ds others here.1 from to stack line st (λ is later. go (Several here.2.first here.2.last ∷ is) later) here.4
+        (λ cs later are. each (OfMany d here.2.first here.2.last ∷ cs) later (with_many d here.2.first here.2.last ds (single_dimensions ds others) here.0 here.1 before cs here.2.inside here.2.behind here.3 are)))
+    indexes_reaches w fine (d ∷ ds) (MoreSubscripts (Portion count one) others) before from to stack line st go here each =
+        behind_span fine d ds (Portion count one) others here.2.first here.2.last from stack line st go (span_given d.size (Portion count one) here.2.first here.2.last st here.2.span)
+        (indexes_reaches w fine ds others here.1 from to stack line st (λ is later. go (Several here.2.first here.2.last ∷ is) later) here.4
+        (λ cs later are. each (OfMany d here.2.first here.2.last ∷ cs) later (with_many d here.2.first here.2.last ds (single_dimensions ds others) here.0 here.1 before cs here.2.inside here.2.behind here.3 are)))
+    indexes_reaches w fine [] (MoreSubscripts first others) before from to stack line st go here each = absurd here
+    indexes_reaches w fine (d ∷ ds) NoSubscripts before from to stack line st go here each = absurd here
 
     -- a place, of data the number of whose places an instruction leaves
     position_reaches : (w : Outcome) (fine : Of w → State → Option Step) (one : Position) (size : ℕ) (ends : Instr) (from to : ℕ) (stack : List Operand) (line : List ℕ) (st : State) (go : ℤ → State → Evaluated (Of w))

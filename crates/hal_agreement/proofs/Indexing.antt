@@ -83,43 +83,10 @@ pub laid_both : (vs ws : List Value) (stack : List Operand) → laid (vs ++ ws) 
 laid_both [] ws stack = refl
 laid_both (v ∷ vs) ws stack = laid_both vs ws (Val v ∷ stack)
 
-pub singles_both : (vs ws : List Value) → singles (vs ++ ws) ≡ singles vs ++ singles ws
-singles_both [] ws = refl
-singles_both (v ∷ vs) ws = ap (λ is. single v ∷ is) (singles_both vs ws)
-
-pub lengths_both : {A B : Type 0} (vs ws : List A) (ds es : List B) → length vs ≡ length ds → length ws ≡ length es → length (vs ++ ws) ≡ length (ds ++ es)
-lengths_both [] ws [] es many more = more
-lengths_both (v ∷ vs) ws (d ∷ ds) es many more = ap suc (lengths_both vs ws ds es (omega (arith, many)) more)
-lengths_both [] ws (d ∷ ds) es many more = absurd (cc)
-lengths_both (v ∷ vs) ws [] es many more = absurd (cc)
-
--- places lie in their dimensions, whether dimensions without a place stand behind them or not
-inside_short : (ds es : List tree.Dimension) (vs : List Value) → length vs ≡ length (ds ++ []) → tree.all_inside (ds ++ es) (singles vs) ≡ tree.all_inside (ds ++ []) (singles vs)
-inside_short [] [] [] many = refl
-inside_short [] (e ∷ es) [] many = refl
-inside_short [] es (v ∷ vs) many = absurd (cc)
-inside_short (d ∷ ds) es [] many = absurd (cc)
-inside_short (d ∷ ds) es (v ∷ vs) many = ap (λ b. is_inside d.size (integer_of v) && b) (inside_short ds es vs (omega (arith, many)))
-
-before_short : (ds es : List tree.Dimension) (vs : List Value) → length vs ≡ length (ds ++ []) → elements_before (ds ++ es) (singles vs) ≡ elements_before (ds ++ []) (singles vs)
-before_short [] [] [] many = refl
-before_short [] (e ∷ es) [] many = refl
-before_short [] es (v ∷ vs) many = absurd (cc)
-before_short (d ∷ ds) es [] many = absurd (cc)
-before_short (d ∷ ds) es (v ∷ vs) many = ap (λ n. before_nearest d.size (integer_of v) * d.stride + n) (before_short ds es vs (omega (arith, many)))
-
 -- the data that places choose, by whether they lie in their dimensions, and how many elements lie before them
-abbrev located_by : Here → Spot → Kind → State → Bool → ℕ → Evaluated Located
+abbrev pub located_by : Here → Spot → Kind → State → Bool → ℕ → Evaluated Located
 located_by h at k st inside before =
     if inside then Gives (record { at = further before at; kind = k }) st else bind (raise h (error 1 3) st) (λ ignored after. Gives (record { at = further before at; kind = k }) after)
-
--- dimensions of an array of which its subscripts don't speak choose nothing
-pub located_same : (h : Here) (at : Spot) (k : Kind) (unmarked : Bool) (components : Subscripts) (ds es : List tree.Dimension) (vs : List Value) (st : State) → length vs ≡ length (ds ++ array_spoken unmarked components es)
-    → located h at k (ds ++ es) (singles vs) st ≡ located h at k (ds ++ array_spoken unmarked components es) (singles vs) st
-located_same h at k false components ds es vs st many = refl
-located_same h at k true (MoreSubscripts first others) ds es vs st many = refl
-located_same h at k true NoSubscripts ds es vs st many =
-    ap (λ b. located_by h at k st b (elements_before (ds ++ es) (singles vs))) (inside_short ds es vs many) ∙ ap (λ m. located_by h at k st (tree.all_inside (ds ++ []) (singles vs)) m) (before_short ds es vs many)
 
 module _ (code : Code) (begin : ℕ) (h : Here) (n : Nest) where
   -- the address of an element is left, unless a place is outside its dimension, which is an error

@@ -5,6 +5,7 @@ pub mod Handling
 pub mod Raising
 pub mod Viewing
 pub mod Indexing
+pub mod Choosing
 pub mod Copying
 pub mod Knowing
 pub mod Calling

@@ -1,5 +1,5 @@
 -- Where the code of expressions stands: from an instruction to the one behind it.
-use Rattle.std.specs.Prelude.{◌≡◌, ℕ, suc, Bool, true, false, ◌&&◌, ◌||◌, List, [], ◌∷◌, ◌++◌, map, pos, Option, Some, slice_get}
+use Rattle.std.specs.Prelude.{◌≡◌, ℕ, suc, ◌+◌, ◌*◌, Bool, true, false, ◌&&◌, ◌||◌, List, [], ◌∷◌, ◌++◌, map, ℤ, pos, ◌+ℤ◌, ◌-ℤ◌, Option, Some, slice_get}
 use Rattle.hal_grammar.specs.Leaves.{Naming, Sign, Minus}
 use Rattle.hal_grammar.specs.Expressions.{Expression, Or, And, Compare, Cat, Sum, Product, Power, Not, Literal, Decimal, Referred, Called, Convert, Parenthesis, Expressions, NoExpressions, MoreExpressions, Terms, NoTerms, MoreTerms, Reference, Refers, Subscript, Unsubscripted, ByName, ByInteger, ByParts, Subscripts, NoSubscripts, MoreSubscripts, Sub, Every, Range, Portion, One as OnePlace, Position, FromBeginning, FromEnd}
 use Rattle.hal_scope.specs.declared.builtin.Builtin.{Builtin}
@@ -14,15 +14,19 @@ use Rattle.hal_constants.specs.Constants.{is_none}
 use Rattle.hal_values.specs.declared.value.Kind.{Kind}
 use Rattle.hal_values.specs.declared.value.Value.{Value}
 use Rattle.hal_values.specs.declared.value.Value.TheVariants as value
+use Rattle.hal_states.specs.Numbers.{is_inside, before_nearest}
 use Rattle.hal_states.specs.Spots.{Spot, Own, Held, further}
+use Rattle.hal_meaning.specs.Access.{Here}
 use Rattle.hal_meaning.specs.Bodies.{Body}
 use Rattle.hal_meaning.specs.Calls.{Parameter, parameter_named, inputs_of, outputs_of, is_function}
 use Rattle.hal_meaning.specs.ReportNames.{first_place}
 use Rattle.hal_meaning.specs.Sets.{body_at}
+use Rattle.hal_meaning.specs.States.{State, Gives}
+use Rattle.hal_meaning.specs.Tasks.{Meaning}
 use Rattle.hal_meaning.specs.Elements.{Shape, chosen, offset, kinds_of}
 use Rattle.hal_meaning.specs.Variables as tree
 use Rattle.hal_meaning.specs.Variables.{dimensions_of, is_arrayed, Meant, MeantData, MeantConstant, MeantEvent, MeantBlock, MeantBuiltin, MeantNothing, name_meant, spot_named, kind_of_first, is_whole}
-use Rattle.hal_meaning.specs.Expressions.{literal_value, is_condition, are_conditions, becomes_condition, exponent_of, operation_of_relation, operation_of_sign, operation_of_conversion, is_size, size_argument, inputs_at, sizes_named, copies_of, spoken}
+use Rattle.hal_meaning.specs.Expressions.{literal_value, is_condition, are_conditions, becomes_condition, exponent_of, operation_of_relation, operation_of_sign, operation_of_conversion, is_size, size_argument, inputs_at, sizes_named, copies_of, spoken, summed}
 use Rattle.hal_code.specs.declared.choice.Choice.TheVariants as choice
 use Rattle.hal_code.specs.declared.instr.Instr.{Instr}
 use Rattle.hal_code.specs.declared.instr.Instr.TheVariants as instr
@@ -36,7 +40,8 @@ use Rattle.hal_code.specs.declared.row.View.{View}
 use Rattle.hal_code.specs.Addressing.{spot_of}
 use Rattle.hal_code.specs.Images as machine
 use Rattle.hal_agreement.specs.Codes.{Code}
-use Rattle.hal_agreement.specs.Sites.{Site, here_at}
+use Rattle.hal_agreement.specs.Constants.{IsConstant}
+use Rattle.hal_agreement.specs.Sites.{Site, site_of, here_at}
 
 -- the instruction with this number
 abbrev pub Has : Code → ℕ → Instr → Type 0
@@ -156,15 +161,46 @@ abbrev pub PlaceAt : Code → (ℕ → ℕ → Type 0) → Target → (List Held
 PlaceAt code place given at [] from to = ElementAt code [] given at from × (suc from ≡ to)
 PlaceAt code place given at (n ∷ ns) from to = (middle : ℕ) × place from middle × (ns ≡ []) × ElementAt code (dimensions_of (n ∷ ns)) given at middle × (suc middle ≡ to)
 
--- subscripts without a mark, of which the code is given, are those of an array of these sizes where there is one
-abbrev pub ArrayAt : (ℕ → ℕ → Type 0) → List ℕ → ℕ → ℕ → Type 0
-ArrayAt places [] from to = from ≡ to
-ArrayAt places (n ∷ ns) from to = places from to
+-- subscripts without a mark, of which the code is given, are those of an array of these sizes where there is one; so many elements lie before what they choose as several
+abbrev pub ArrayAt : (ℕ → ℕ → Type 0) → List ℕ → ℕ → ℕ → ℕ → Type 0
+ArrayAt places [] before from to = (before ≡ 0) × (from ≡ to)
+ArrayAt places (n ∷ ns) before from to = places from to
 
 -- the dimensions of an array that its subscripts speak of: those without a mark may be none
 abbrev pub array_spoken : Bool → Subscripts → List tree.Dimension → List tree.Dimension
 array_spoken true components ds = spoken components ds
 array_spoken false components ds = ds
+
+-- the dimensions in which subscripts choose one place
+abbrev pub single_dimensions : List tree.Dimension → Subscripts → List tree.Dimension
+single_dimensions (d ∷ ds) (MoreSubscripts (OnePlace one) others) = d ∷ single_dimensions ds others
+single_dimensions (d ∷ ds) (MoreSubscripts other others) = single_dimensions ds others
+single_dimensions ds list = []
+
+-- those of an array: its subscripts are those without a mark, or those with one
+abbrev pub single_places : Bool → Subscripts → Subscripts → List tree.Dimension → List tree.Dimension
+single_places true components arrays ds = single_dimensions (spoken components ds) components
+single_places false components arrays ds = single_dimensions ds arrays
+
+-- a place of a dimension of this size is this one wherever it stands at the site, whatever was done before
+abbrev pub IsPosition : Site → ℕ → Position → ℤ → Type 0
+IsPosition site size (FromBeginning one) k = IsConstant site one (value.Int k)
+IsPosition site size (FromEnd place terms) k = (rec : Meaning) (h : Here) (st : State) → site_of h ≡ site → summed rec h (value.Int (pos size)) terms st ≡ Gives (value.Int k) st
+
+-- a subscript chooses the places of a dimension of this size from one to another, which are constant
+abbrev pub IsSpan : Site → ℕ → Sub → ℤ → ℤ → Type 0
+IsSpan site size (Every place) first last = (first ≡ pos 1) × (last ≡ pos size)
+IsSpan site size (OnePlace one) first last = ⊥
+IsSpan site size (Range one other) first last = IsPosition site size one first × IsPosition site size other last
+IsSpan site size (Portion count one) first last = (n : ℤ) × IsConstant site count (value.Int n) × IsPosition site size one first × (last ≡ (first +ℤ n) -ℤ pos 1)
+
+-- several places of a dimension, which lie inside it; so many elements lie before the first one
+pub record SpanAt (site : Site) (d : tree.Dimension) (sub : Sub) (before : ℕ) : Type 0 where
+  pub first : ℤ
+  pub last : ℤ
+  pub span : IsSpan site d.size sub first last
+  pub inside : (is_inside d.size first && is_inside d.size last) ≡ true
+  pub behind : before ≡ before_nearest d.size first * d.stride
 
 -- data that a name means, of whose address the code is given
 abbrev pub DataAt : (Shape → ℕ → ℕ → Type 0) → Meant → ℕ → ℕ → Type 0
@@ -303,18 +339,20 @@ abbrev mutual
   ChosenAt code site given path (ByInteger place mark number) at shape from to =
       PlaceAt code (λ begin end. One code begin (instr.Int (pos number)) end) given (λ held. further (offset path shape.components) (at held)) (sizes_named path shape) from to
   ChosenAt code site given path (ByParts place copies arrays components) at shape from to =
-      (middle : ℕ) × (last : ℕ) × IndexesAt code site (spoken copies (copies_of shape)) copies from middle
-      × EitherAt (is_none arrays) (λ begin end. ArrayAt (λ first behind. IndexesAt code site (spoken components (dimensions_of (sizes_named path shape))) components first behind) (sizes_named path shape) begin end)
-      (λ begin end. IndexesAt code site (dimensions_of (sizes_named path shape)) arrays begin end) middle last
-      × ElementAt code (spoken copies (copies_of shape) ++ array_spoken (is_none arrays) components (dimensions_of (sizes_named path shape))) given (λ held. further (offset path shape.components) (at held)) last
+      (middle : ℕ) × (last : ℕ) × (skipped : ℕ) × (passed : ℕ) × IndexesAt code site (spoken copies (copies_of shape)) copies skipped from middle
+      × EitherAt (is_none arrays) (λ begin end. ArrayAt (λ first behind. IndexesAt code site (spoken components (dimensions_of (sizes_named path shape))) components passed first behind) (sizes_named path shape) passed begin end)
+      (λ begin end. IndexesAt code site (dimensions_of (sizes_named path shape)) arrays passed begin end) middle last
+      × ElementAt code (single_dimensions (spoken copies (copies_of shape)) copies ++ single_places (is_none arrays) components arrays (dimensions_of (sizes_named path shape))) given (λ held. further (skipped + passed) (further (offset path shape.components) (at held))) last
       × (suc last ≡ to)
 
-  -- subscripts of dimensions, one place for each; those that choose several have no code
-  pub IndexesAt : Code → Site → List tree.Dimension → Subscripts → ℕ → ℕ → Type 0
-  IndexesAt code site [] NoSubscripts from to = from ≡ to
-  IndexesAt code site (d ∷ ds) (MoreSubscripts (OnePlace one) others) from to =
-      (middle : ℕ) × PositionAt code site (instr.Int (pos d.size)) one from middle × IndexesAt code site ds others middle to
-  IndexesAt code site all other from to = ⊥
+  -- subscripts of dimensions: one place for each, or several, which have no code; so many elements lie before those
+  pub IndexesAt : Code → Site → List tree.Dimension → Subscripts → ℕ → ℕ → ℕ → Type 0
+  IndexesAt code site [] NoSubscripts before from to = (before ≡ 0) × (from ≡ to)
+  IndexesAt code site (d ∷ ds) (MoreSubscripts (OnePlace one) others) before from to =
+      (middle : ℕ) × PositionAt code site (instr.Int (pos d.size)) one from middle × IndexesAt code site ds others before middle to
+  IndexesAt code site (d ∷ ds) (MoreSubscripts other others) before from to =
+      (here : ℕ) × (behind : ℕ) × SpanAt site d other here × (before ≡ here + behind) × IndexesAt code site ds others behind from to
+  IndexesAt code site all other before from to = ⊥
 
   -- a place of data, the number of whose places this instruction leaves
   pub PositionAt : Code → Site → Instr → Position → ℕ → ℕ → Type 0

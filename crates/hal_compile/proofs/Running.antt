@@ -9,15 +9,14 @@ use Rattle.hal_constants.specs.Known.{Known, known}
 use Rattle.hal_meaning.specs.Bodies.{Body, bodies_of}
 use Rattle.hal_grammar.specs.Units.{File}
 use Rattle.hal_code.specs.declared.image.ImageParts.{ImageParts}
-use Rattle.hal_code.specs.Right.{IsRight}
 use Rattle.hal_layout.specs.Layouts.{Layout, IsNarrow, layout_of, tables_of}
 use Rattle.hal_link.specs.Linking.{image_of}
 use Rattle.hal_link.specs.CalledViews.{views_of}
 use Rattle.hal_meaning.specs.Sets.{Set, beginning, set_of}
 use Rattle.hal_values.specs.Loads.{turn_limit}
 use Rattle.hal_compile.specs.Compiling.{CanRun, Fits, IsImageOf, linked_in, set_in}
-use Rattle.hal_compile.specs.Fitness.{have_cells, is_narrow}
-use Rattle.hal_compile.proofs.Fitting.{celled, narrow}
+use Rattle.hal_compile.specs.Fitness.{is_narrow}
+use Rattle.hal_compile.proofs.Fitting.{narrow}
 
 abbrev found : ImageParts → Result ImageParts (Option Place)
 found image = Ok image
@@ -30,17 +29,6 @@ missing at = Err (Some at)
 
 clash : (b : Bool) → b ≡ true → b ≡ false → ⊥
 clash b is not = cc
-
--- an image can run where it is right and has cells
-pub runs_with : (image : ImageParts) (right cells : Bool) → IsTrue right ↔ IsRight image → right ≡ true → cells ≡ have_cells image → IsTrue cells ↔ CanRun image
-runs_with image right cells told is same = (
-  λ all. record { right = told.0 is; cells = (celled image).0 (sym same ∙ all) },
-  λ runs. same ∙ (celled image).1 runs.cells,
-)
-
--- and only there
-pub runs_not : (image : ImageParts) (right : Bool) → IsTrue right ↔ IsRight image → right ≡ false → IsTrue false ↔ CanRun image
-runs_not image right told is = (λ one. absurd (clash false one refl), λ runs. sym is ∙ told.1 runs.right)
 
 pub fits : (image : ImageParts) (told : Bool) → IsTrue told ↔ CanRun image → told ≡ true → Fits (Ok image) (Ok image)
 fits image told by is = (refl, by.0 is)

@@ -1,5 +1,5 @@
 -- When a set of files has an image, and which rules it breaks otherwise.
-use Rattle.std.specs.Prelude.{◌≡◌, ◌⊎◌, true, List, Option, Some, Result, Ok, Err, ⊤}
+use Rattle.std.specs.Prelude.{◌≡◌, ◌⊎◌, ℕ, true, List, Option, Some, None, Result, Ok, Err, length, if◌then◌else◌, ⊤}
 use Rattle.hal_base.specs.declared.refusal.Place.{Place}
 use Rattle.hal_base.specs.declared.refusal.Refusal.{Refusal}
 use Rattle.hal_base.specs.declared.refusal.Fault.{Fault}
@@ -22,8 +22,11 @@ use Rattle.hal_meaning.specs.Sets.{Set, beginning, set_of}
 use Rattle.hal_code.specs.declared.image.ImageParts.{ImageParts}
 use Rattle.hal_code.specs.Right.{IsRight}
 use Rattle.hal_right_values.specs.Finding.{HaveCells}
+use Rattle.hal_object.specs.Images.{IsSpelled}
+use Rattle.hal_verify.specs.Limits.{first_fault}
 use Rattle.hal_link.specs.Linking as linking
 use Rattle.hal_link.specs.CalledViews.{views_of}
+use Rattle.hal_compile.specs.Fitness.{have_cells}
 
 -- the set of these files, whose UPDATE blocks have as many turns as they may have
 unfoldable pub set_in : List File → Set
@@ -47,10 +50,15 @@ pub record IsChecked (ps : List Phrase) : Type 0 where
   pub within : IsWithin ps (known ps)
   pub called : IsSound call_rows ps
 
--- the image can run: it is right, and each of its views has a cell
+-- the first instruction at fault of an image, or the number of instructions where tables alone are: rows that aren't right, limits that aren't kept, or a view without a cell
+abbrev pub image_fault : ImageParts → Option ℕ
+image_fault image = elim (first_fault image) [ None ↦ if have_cells image then None else Some (length image.code) | Some n ↦ Some n ]
+
+-- the image can run, and be written: it is right, each of its views has a cell, and it has bytes
 pub record CanRun (image : ImageParts) : Type 0 where
   pub right : IsRight image
   pub cells : HaveCells image
+  pub spelled : IsSpelled image
 
 -- what linking the files comes to
 unfoldable pub linked_in : List File → Result ImageParts (Option Place)

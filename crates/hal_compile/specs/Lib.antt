@@ -1,4 +1,4 @@
-pub mod Compiling
 pub mod Fitness
+pub mod Compiling
 pub mod Reading
 pub mod Texts

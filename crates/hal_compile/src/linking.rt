@@ -1,6 +1,6 @@
 //! The image of a set that is known to keep the rules.
 
-ghost use Rattle.std.specs.Prelude.{◌≡◌, ◌≤◌, ◌+◌, ◌↔◌, ◌∷◌, [], IfOk, IsTrue, Ok, length, map};
+ghost use Rattle.std.specs.Prelude.{◌≡◌, ◌≤◌, ◌+◌, ◌∷◌, [], IfOk, Ok, length, map};
 ghost use Rattle.hal_tree.specs.SeenUnits.{seen_file};
 ghost use Rattle.hal_phrases.specs.GatheredUnits.{phrases_of};
 ghost use Rattle.hal_names.specs.Laws.{IsCounted};
@@ -15,9 +15,10 @@ ghost use Rattle.hal_meaning.specs.Events as events;
 ghost use Rattle.hal_limits.specs.Limits.{IsWithin};
 ghost use Rattle.hal_link.specs.Linking as links;
 ghost use Rattle.hal_link.specs.CalledViews as views;
-ghost use Rattle.hal_compile.specs.Compiling.{CanRun, Fits, IsImageOf, linked_in};
+ghost use Rattle.hal_compile.specs.Compiling.{Fits, IsImageOf, linked_in};
 
-use crate::fitness::{have_cells, is_narrow};
+use crate::faults::can_run;
+use crate::fitness::is_narrow;
 use hal_base::Place;
 use hal_code::ImageParts;
 use hal_constants::Known;
@@ -26,7 +27,6 @@ use hal_link::{Unlinked, link};
 use hal_names::Names;
 use hal_set::{Set, bodies_of};
 use hal_tree::File;
-use hal_verify::is_right;
 use std::alloc::{AllocError, Global};
 
 /// How many turns an UPDATE block has at most.
@@ -38,19 +38,6 @@ pub(crate) const BEGINNING: Place = Place {
     line: 1,
     column: 1,
 };
-
-/// Whether an image can run.
-#[tactic(auto, using(crate::proofs::Running::runs_with, crate::proofs::Running::runs_not))]
-fn can_run(alloc: Global, image: &ImageParts) -> Result<bool, AllocError>
-    ensures { IfOk result (λ told. IsTrue told ↔ CanRun image.now) }
-{
-    let right = is_right(alloc, image)?;
-    if right {
-        Ok(have_cells(image))
-    } else {
-        Ok(false)
-    }
-}
 
 /// This image, where it can run.
 #[tactic(auto, using(crate::proofs::Running::fits, crate::proofs::Running::cannot_run))]

@@ -1,6 +1,6 @@
 pub mod Measured
 pub mod Keeping
-mod Constancy
+mod ChannelNumbers
 pub mod Received
 pub mod Simple
 pub mod Timed

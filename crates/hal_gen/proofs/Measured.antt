@@ -37,7 +37,7 @@ use Rattle.hal_referents.specs.Referents.{Referent, DataOf, ConstantOf, EventOf,
 use Rattle.hal_gen_expr.specs.Referents.{referent}
 use Rattle.hal_gen_expr.proofs.Appending.{behind, emit_behind, onwards_behind, if_behind, grows_by, chosen_behind, part_behind, expression_grows, call_grows}
 use Rattle.hal_gen.specs.BlockExits.{of_body}
-use Rattle.hal_gen.specs.Constants.{channel_of}
+use Rattle.hal_gen.specs.ChannelNumbers.{channel_of}
 use Rattle.hal_gen.specs.Leaves.{kind_of_receiver, return_of, as_result, result_of, event_change_of, event_pause_of, first_event, last_event, named_process, and_asked, each_of, named_or_own_of, numbers_of, side_numbers, response_entry, response_code, handler_entry, handler_code, off_of, raise_of}
 use Rattle.hal_gen.specs.Receiving.{patch_code, patched_code, stored_code, received_code, addressed_code, receiver_code, receiver_size}
 use Rattle.hal_gen.specs.Timing.{time_operand, time_code, time_size, pause_code, start_code, start_size, start_operand, priority_code, priority_size, round_code, round_size, until_code, until_size, limit_code, limit_size, limit_operand, schedule_by, schedule_of, schedule_code, schedule_size, named_or_self, update_priority_code}

@@ -51,11 +51,13 @@ use Rattle.hal_gen_expr.proofs.Numbered.{given_is}
 use Rattle.hal_gen_expr.proofs.Named.{two_placed, call_placed}
 use Rattle.hal_gen_expr.proofs.Numbered.{below_is, mapped_is, then_is}
 use Rattle.hal_gen_expr.proofs.Referring.{meaning_of, name_means}
-use Rattle.hal_gen.specs.Constants.{integer_of, channel_of}
+use Rattle.hal_gen_expr.specs.Constants.{integer_of}
+use Rattle.hal_gen_expr.proofs.Constancy.{constant_at}
+use Rattle.hal_gen.specs.ChannelNumbers.{channel_of}
 use Rattle.hal_gen.specs.Leaves.{kind_referred, kind_of_receiver, return_of, gives_text, text_result, as_result, result_of, stated_number, first_event, event_pause_of, named_process, and_asked, each_of, named_or_own_of, event_change_of, from_one, numbers_of, change_of, side_numbers, response_code, handler_entry, handler_code, off_of, raise_of}
 use Rattle.hal_gen.specs.Receiving.{receiver_code, receiver_size}
 use Rattle.hal_gen.specs.StatementCode.{items_code, reads_code, condition_code, first_test_code, test_code, procedure_code, returning_code}
-use Rattle.hal_gen.proofs.Constancy.{number_given, constant_at}
+use Rattle.hal_gen.proofs.ChannelNumbers.{number_given}
 use Rattle.hal_gen.proofs.Measured.{later, receiver_longer}
 use Rattle.hal_gen.proofs.Received.{receiver_at}
 

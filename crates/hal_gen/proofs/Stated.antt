@@ -27,7 +27,7 @@ use Rattle.hal_gen_expr.proofs.Expressed.{ok_is, expression_at}
 use Rattle.hal_gen_expr.proofs.Growing.{length_of_one_more, weaker, one_placed, none_placed, first_placed, both_there, both_placed}
 use Rattle.hal_gen_expr.proofs.Numbered.{below_is}
 use Rattle.hal_gen.specs.BlockExits.{of_body, with_handlers}
-use Rattle.hal_gen.specs.Constants.{channel_of}
+use Rattle.hal_gen.specs.ChannelNumbers.{channel_of}
 use Rattle.hal_gen.specs.Leaves.{handler_code}
 use Rattle.hal_gen.specs.declared.kept.Cells.{Cells}
 use Rattle.hal_gen.specs.KeptCode.{cell_of, keeping, case_code, cells_of}

@@ -1,4 +1,4 @@
-pub mod Constants
+pub mod ChannelNumbers
 pub mod Leaves
 pub mod Timing
 pub mod Receiving

@@ -20,7 +20,7 @@ use Rattle.hal_gen_expr.specs.ExpressionCode.{emit_one, expression_code}
 use Rattle.hal_gen_expr.specs.Numbering.{Numbering, below}
 use Rattle.hal_referents.specs.Referents.{Referent, BlockOf}
 use Rattle.hal_gen_expr.specs.Referents.{referent}
-use Rattle.hal_gen.specs.Constants.{channel_of}
+use Rattle.hal_gen.specs.ChannelNumbers.{channel_of}
 use Rattle.hal_gen.specs.Leaves.{kind_of_receiver, return_of, result_of, event_change_of, event_pause_of, named_or_own_of, response_code, handler_code, off_of, raise_of}
 use Rattle.hal_gen.specs.KeptCode.{cell_of, keeping, case_code, cells_of}
 use Rattle.hal_gen.specs.Receiving.{receiver_code, receiver_size}

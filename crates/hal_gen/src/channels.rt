@@ -8,21 +8,20 @@ ghost use Rattle.hal_gen_expr.specs.Emits.{Emits};
 ghost use Rattle.hal_gen_expr.specs.Emitting.{onwards};
 ghost use Rattle.hal_gen_expr.specs.ExpressionCode as expressing;
 ghost use Rattle.hal_gen_expr.specs.SeenSites.{seen_site, seen_numbering, IsSite};
+ghost use Rattle.hal_gen.specs.ChannelNumbers as numbers;
 ghost use Rattle.hal_gen.specs.Channels as channels;
-ghost use Rattle.hal_gen.specs.Constants as constants;
 ghost use Rattle.hal_gen.specs.StatementCode as codes;
 
-use crate::constants::integer_of;
 use crate::receivers::{emit_receiver, kind_of_receiver, receiver_size};
 use crate::sizes::sum;
 use hal_base::Place;
 use hal_code::Instr;
-use hal_gen_expr::{Site, Uncoded, emit_expression, emit_one, push};
+use hal_gen_expr::{Site, Uncoded, emit_expression, emit_one, integer_of, push};
 use hal_tree::{Expr, Reference};
 
 /// The channel that an integer is: one below 256.
 fn channel_in(number: i32) -> Option<u8>
-    ensures { result ≡ constants.channel_in number }
+    ensures { result ≡ numbers.channel_in number }
 {
     u8::try_from(number).ok()
 }
@@ -30,7 +29,7 @@ fn channel_in(number: i32) -> Option<u8>
 /// The channel that a constant expression is (language document, Statements).
 fn channel_of(tree: &Expr, site: &Site<'_>) -> Option<u8>
     requires site { IsSite site.now }
-    ensures { result ≡ constants.channel_of (seen_site site.now) (seen_expression tree.now) }
+    ensures { result ≡ numbers.channel_of (seen_site site.now) (seen_expression tree.now) }
 {
     let number = integer_of(tree, site)?;
     channel_in(number)
@@ -85,7 +84,7 @@ pub(crate) fn emit_input(
     place: Place,
 ) -> Result<(), Uncoded>
     requires site { IsSite site.now }
-    ensures { Emits (codes.with_number place (constants.channel_of (seen_site site.now) (seen_expression channel.now)) (λ number. codes.reads_code (seen_numbering site.now) (seen_site site.now) code.old.items number (map seen_reference receivers.now))) result code.new.items }
+    ensures { Emits (codes.with_number place (numbers.channel_of (seen_site site.now) (seen_expression channel.now)) (λ number. codes.reads_code (seen_numbering site.now) (seen_site site.now) code.old.items number (map seen_reference receivers.now))) result code.new.items }
 {
     let Some(channel) = channel_of(channel, site) else {
         return Err(Uncoded::At(place));
@@ -115,7 +114,7 @@ pub(crate) fn emit_output(
     place: Place,
 ) -> Result<(), Uncoded>
     requires site { IsSite site.now }
-    ensures { Emits (codes.with_number place (constants.channel_of (seen_site site.now) (seen_expression channel.now)) (λ number. onwards (codes.items_code (seen_numbering site.now) (seen_site site.now) code.old.items (expressions (map seen_expression items.now))) (λ middle. expressing.emit_one middle place (instr.Print number)))) result code.new.items }
+    ensures { Emits (codes.with_number place (numbers.channel_of (seen_site site.now) (seen_expression channel.now)) (λ number. onwards (codes.items_code (seen_numbering site.now) (seen_site site.now) code.old.items (expressions (map seen_expression items.now))) (λ middle. expressing.emit_one middle place (instr.Print number)))) result code.new.items }
 {
     let Some(channel) = channel_of(channel, site) else {
         return Err(Uncoded::At(place));

@@ -3,7 +3,6 @@
 
 mod calls;
 mod channels;
-mod constants;
 mod errors;
 mod events;
 mod exits;

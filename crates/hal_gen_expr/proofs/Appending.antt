@@ -1,6 +1,6 @@
 -- Code goes by what stands before it in nothing but its place: so its length is its own.
 use Rattle.std.specs.Prelude.{◌≡◌, ℕ, ◌+◌, Bool, true, false, not, pos, ◌&&◌, ◌||◌, List, [], ◌∷◌, ◌++◌, length, Option, Some, None, Ok, Err, if◌then◌else◌}
-use Rattle.std.specs.Option.{option_map}
+use Rattle.std.specs.Option.{option_map, is_some}
 use Rattle.std.proofs.Common.{refl, sym, ap, ◌∙◌, append-nil, arith}
 use Rattle.hal_base.specs.declared.refusal.Place.{Place}
 use Rattle.hal_grammar.specs.Leaves.{Naming, Sign, Plus, Minus}
@@ -32,6 +32,7 @@ use Rattle.hal_gen_expr.specs.Leaves.{is_nil, value_of, call_of}
 use Rattle.hal_gen_expr.specs.Numbering.{Numbering, shape_number}
 use Rattle.hal_gen_expr.specs.Shapes.{runs_of}
 use Rattle.hal_gen_expr.specs.Sizes.{size_of_arguments}
+use Rattle.hal_gen_expr.specs.Spans.{places_skipped}
 use Rattle.hal_referents.specs.Referents.{Referent, DataOf, ConstantOf, EventOf, BlockOf, BuiltinOf, Unmeant}
 use Rattle.hal_gen_expr.specs.Referents.{referent}
 use Rattle.hal_gen_expr.proofs.Growing.{append_append}
@@ -82,14 +83,14 @@ module _ (n : Numbering) (site : Site) (front : List Instr) where
   name_behind : (name : Naming) (before : List Instr) → name_code n site (front ++ before) name ≡ behind front (name_code n site before name)
   name_behind name before = emit_behind front before name.place (value_of n site [] (referent site name.name))
 
-  address_behind : (spoken indexed : Bool) (aim : Aim) (l : Led) (before : List Instr) (place : Place) → address_code n site (front ++ before) place aim spoken indexed l ≡ behind front (address_code n site before place aim spoken indexed l)
-  address_behind spoken indexed aim l before place = any_behind before place (aimed n site aim spoken indexed l)
+  address_behind : (subscript : Subscript) (aim : Aim) (l : Led) (before : List Instr) (place : Place) → address_code n site (front ++ before) place aim subscript l ≡ behind front (address_code n site before place aim subscript l)
+  address_behind subscript aim l before place = any_behind before place (aimed n site aim subscript l)
 
-  place_behind : (sizes : List ℕ) (aim : Aim) (l : Led) (before : List Instr) (place : Place) (r there : Emitted) → there ≡ behind front r
-      → place_code n site (front ++ before) place aim there l sizes ≡ behind front (place_code n site before place aim r l sizes)
-  place_behind [] aim l before place r there is = address_behind false true aim l before place
-  place_behind (size ∷ sizes) aim l before place r there is =
-      if_behind (is_nil sizes) front (onwards r (λ middle. address_code n site middle place aim false true l)) _ place (onwards_behind front r there _ _ is (λ code. address_behind false true aim l code place))
+  place_behind : (sizes : List ℕ) (aim : Aim) (subscript : Subscript) (l : Led) (before : List Instr) (place : Place) (r there : Emitted) → there ≡ behind front r
+      → place_code n site (front ++ before) place aim there subscript l sizes ≡ behind front (place_code n site before place aim r subscript l sizes)
+  place_behind [] aim subscript l before place r there is = address_behind subscript aim l before place
+  place_behind (size ∷ sizes) aim subscript l before place r there is =
+      if_behind (is_nil sizes) front (onwards r (λ middle. address_code n site middle place aim subscript l)) _ place (onwards_behind front r there _ _ is (λ code. address_behind subscript aim l code place))
 
   array_behind : (b c : Bool) (unmarked marked none unmarked_there marked_there none_there : Emitted) → unmarked_there ≡ behind front unmarked → marked_there ≡ behind front marked → none_there ≡ behind front none
       → array_code b c unmarked_there marked_there none_there ≡ behind front (array_code b c unmarked marked none)
@@ -262,16 +263,16 @@ module _ (n : Numbering) (site : Site) (front : List Instr) where
 
     pub chosen_behind : (subscript : Subscript) (aim : Aim) (l : Led) (place : Place) (before : List Instr) → chosen_code n site (front ++ before) place aim subscript l ≡ behind front (chosen_code n site before place aim subscript l)
     chosen_behind Unsubscripted aim l place before = any_behind before place (plainly_aimed n site aim l)
-    chosen_behind (ByName there name) aim l place before = place_behind (sizes_led l) aim l before place (name_code n site before name) (name_code n site (front ++ before) name) (name_behind name before)
+    chosen_behind (ByName there name) aim l place before = place_behind (sizes_led l) aim (ByName there name) l before place (name_code n site before name) (name_code n site (front ++ before) name) (name_behind name before)
     chosen_behind (ByInteger there mark number) aim l place before =
-        place_behind (sizes_led l) aim l before place (integer_code before place number) (integer_code (front ++ before) place number) (any_behind before place (integer_instr number))
+        place_behind (sizes_led l) aim (ByInteger there mark number) l before place (integer_code before place number) (integer_code (front ++ before) place number) (any_behind before place (integer_instr number))
     chosen_behind (ByParts there copies arrays components) aim l place before =
         onwards_behind front (copies_code n site before place l.shape.copies copies) _ _ _ (copies_behind copies l.shape.copies place before)
         (λ code. onwards_behind front
         (array_code (is_none arrays) (is_arrayed (sizes_led l) && not (leaves_array aim components)) (indexes_code n site code place (sizes_led l) components) (indexes_code n site code place (sizes_led l) arrays) (Ok code)) _
-        (λ last. address_code n site last place aim (not (is_none copies)) (not (is_none arrays && is_none components)) l) (λ last. address_code n site last place aim (not (is_none copies)) (not (is_none arrays && is_none components)) l)
+        (λ last. address_code n site last place aim (ByParts there copies arrays components) l) (λ last. address_code n site last place aim (ByParts there copies arrays components) l)
         (array_behind (is_none arrays) (is_arrayed (sizes_led l) && not (leaves_array aim components)) _ _ _ _ _ _ (indexes_behind components (sizes_led l) place code) (indexes_behind arrays (sizes_led l) place code) refl)
-        (λ last. address_behind (not (is_none copies)) (not (is_none arrays && is_none components)) aim l last place))
+        (λ last. address_behind (ByParts there copies arrays components) aim l last place))
 
     copies_behind : (list : Subscripts) (count : Option ℕ) (place : Place) (before : List Instr) → copies_code n site (front ++ before) place count list ≡ behind front (copies_code n site before place count list)
     copies_behind NoSubscripts count place before = refl
@@ -288,9 +289,9 @@ module _ (n : Numbering) (site : Site) (front : List Instr) where
 
     index_behind : (first : Sub) (size : ℕ) (place : Place) (before : List Instr) → index_code n site (front ++ before) place size first ≡ behind front (index_code n site before place size first)
     index_behind (OnePlace one) size place before = position_behind one (instr.Int (pos size)) place before
-    index_behind (Every there) size place before = refl
-    index_behind (Range first last) size place before = refl
-    index_behind (Portion count first) size place before = refl
+    index_behind (Every there) size place before = if_behind (is_some (places_skipped site size (Every there))) front (Ok before) (Ok (front ++ before)) place refl
+    index_behind (Range first last) size place before = if_behind (is_some (places_skipped site size (Range first last))) front (Ok before) (Ok (front ++ before)) place refl
+    index_behind (Portion count first) size place before = if_behind (is_some (places_skipped site size (Portion count first))) front (Ok before) (Ok (front ++ before)) place refl
 
     position_behind : (one : Position) (ends : Instr) (place : Place) (before : List Instr) → position_code n site (front ++ before) place ends one ≡ behind front (position_code n site before place ends one)
     position_behind (FromBeginning tree) ends place before = expression_behind tree before

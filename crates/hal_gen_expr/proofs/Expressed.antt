@@ -1,7 +1,7 @@
 -- The code of an expression stands where it was put.
-use Rattle.std.specs.Prelude.{◌≡◌, ℕ, suc, pos, nat_le, length, Bool, true, false, not, ◌&&◌, ◌||◌, List, [], ◌∷◌, ◌++◌, Option, Some, None, Ok, Err, if◌then◌else◌}
-use Rattle.std.specs.Option.{option_map}
-use Rattle.std.proofs.Common.{refl, sym, ap, ◌∙◌, subst}
+use Rattle.std.specs.Prelude.{◌≡◌, ℕ, suc, ◌+◌, pos, nat_le, length, Bool, true, false, not, ◌&&◌, ◌||◌, List, [], ◌∷◌, ◌++◌, Option, Some, None, Ok, Err, if◌then◌else◌}
+use Rattle.std.specs.Option.{option_map, is_some}
+use Rattle.std.proofs.Common.{refl, sym, ap, ◌∙◌, subst, arith}
 use Rattle.hal_base.specs.declared.refusal.Place.{Place}
 use Rattle.hal_grammar.specs.Leaves.{Naming, Sign, Plus, Minus, LiteralValue, Integer, Text, Bits, True, False, On, Off}
 use Rattle.hal_grammar.specs.Expressions.{Expression, Or, And, Compare, Cat, Sum, Product, Power, Not, Literal, Decimal, Referred, Called, Convert, Parenthesis, Expressions, NoExpressions, MoreExpressions, Terms, NoTerms, MoreTerms, Reference, Refers, Subscript, Unsubscripted, ByName, ByInteger, ByParts, Subscripts, NoSubscripts, MoreSubscripts, Sub, Every, Range, Portion, One as OnePlace, Position, FromBeginning, FromEnd}
@@ -27,17 +27,19 @@ use Rattle.hal_code.specs.declared.operand.Places.TheVariants as places
 use Rattle.hal_code.specs.declared.row.Target.{Target}
 use Rattle.hal_code.specs.declared.row.Target.TheVariants as target
 use Rattle.hal_agreement.specs.Codes.{Code}
-use Rattle.hal_agreement.specs.PlacedExpressions.{One, ElementAt, PlaceAt, DataAt, WholeArgumentAt, WholeAt, array_spoken, ArrayAt, EitherAt, SubscriptedAt, picks, places_of, ChosenAt, IndexesAt, PositionAt, ComponentAt, PartsAt, PartAt, pushes, two, ValueAt, NameAt, SignAt, ReferenceAt, CalledAt, ExpressionAt, FoldedAt, TermsAt, BuiltAt, ArgumentsAt, OperandAt, JoinedAt}
+use Rattle.hal_agreement.specs.PlacedExpressions.{One, IsViewed, ElementAt, PlaceAt, DataAt, WholeArgumentAt, WholeAt, single_dimensions, single_places, ArrayAt, EitherAt, SubscriptedAt, picks, places_of, ChosenAt, IndexesAt, PositionAt, ComponentAt, PartsAt, PartAt, pushes, two, ValueAt, NameAt, SignAt, ReferenceAt, CalledAt, ExpressionAt, FoldedAt, TermsAt, BuiltAt, ArgumentsAt, OperandAt, JoinedAt}
 use Rattle.hal_agreement.specs.Sites.{Site, here_at}
+use Rattle.hal_agreement.proofs.Choosing.{further_twice}
 use Rattle.hal_gen_expr.specs.Emitting.{Emitted, onwards, emit}
 use Rattle.hal_gen_expr.specs.ExpressionCode.{emit_one, emit_any, integer_instr, name_code, integer_code, address_code, place_code, leaves_array, where_led, with_shape, passed_code, whole_code, area_code, array_code, subscripted_code, chosen_code, copies_code, indexes_code, index_code, position_code, component_code, parts_code, part_code, one, literal_instr, raised_to, exponent_instr, power_of, behind_arguments, sign_code, reference_code, called_code, expression_code, folded_code, terms_code, built_code, arguments_code, operand_code, size_code, joined_code}
 use Rattle.hal_gen_expr.specs.declared.aims.Aim.{Aim}
 use Rattle.hal_gen_expr.specs.declared.aims.Aim.TheVariants as aims
-use Rattle.hal_gen_expr.specs.Led.{Led, led_to, led_by, sizes_led, copies_led, arrays_led, dimensions_led, aimed, plainly_aimed}
+use Rattle.hal_gen_expr.specs.Led.{Led, led_to, led_by, sizes_led, array_list, rows_left, skips_led, aimed, plainly_aimed}
 use Rattle.hal_gen_expr.specs.Leaves.{is_nil, value_of, call_of}
 use Rattle.hal_gen_expr.specs.Numbering.{Numbering, shape_number}
 use Rattle.hal_gen_expr.specs.Shapes.{runs_of}
 use Rattle.hal_gen_expr.specs.Sizes.{size_of_arguments}
+use Rattle.hal_gen_expr.specs.Spans.{places_skipped, elements_skipped, skips}
 use Rattle.hal_referents.specs.Referents.{Referent, DataOf, ConstantOf, EventOf, BlockOf, BuiltinOf, Unmeant}
 use Rattle.hal_gen_expr.specs.Referents.{referent}
 use Rattle.hal_gen_expr.specs.Standing.{Begins, IsNumbered, Placed}
@@ -46,6 +48,7 @@ use Rattle.hal_gen_expr.proofs.Numbered.{mapped_is, given_by, begins_at, LedAt, 
 use Rattle.hal_gen_expr.proofs.Named.{nil_is, two_placed, call_placed, value_placed}
 use Rattle.hal_gen_expr.proofs.Referring.{meaning_of, name_means, always_means}
 use Rattle.hal_gen_expr.proofs.Sized.{size_known}
+use Rattle.hal_gen_expr.proofs.Spanning.{span_at}
 
 pub ok_is : (before after : List Instr) → onwards (Ok before) Ok ≡ Ok after → before ≡ after
 ok_is before after is = cc
@@ -116,31 +119,40 @@ unfolding is_none
 none_is NoSubscripts is = refl
 none_is (MoreSubscripts first others) is = absurd (cc)
 
-spoken_is : (list : Subscripts) (shape : Shape) → copies_led (not (is_none list)) shape ≡ spoken list (copies_of shape)
-unfolding is_none
-spoken_is NoSubscripts shape = refl
-spoken_is (MoreSubscripts first others) shape = refl
+-- subscripts that are none skip none, and leave no dimension
+spoken_single : (list : Subscripts) (ds : List Dimension) → single_dimensions ds list ≡ single_dimensions (spoken list ds) list
+spoken_single NoSubscripts [] = refl
+spoken_single NoSubscripts (d ∷ ds) = refl
+spoken_single (MoreSubscripts first others) ds = refl
 
-arrays_are : (arrays components : Subscripts) (sizes : List ℕ) → arrays_led (not (is_none arrays && is_none components)) sizes ≡ array_spoken (is_none arrays) components (dimensions_of sizes)
-unfolding is_none
-arrays_are NoSubscripts NoSubscripts sizes = refl
-arrays_are NoSubscripts (MoreSubscripts first others) sizes = refl
-arrays_are (MoreSubscripts first others) components sizes = refl
+places_single : (b : Bool) (components arrays : Subscripts) (ds : List Dimension) → single_dimensions ds (if b then components else arrays) ≡ single_places b components arrays ds
+places_single true components arrays ds = spoken_single components ds
+places_single false components arrays ds = refl
 
-dimensions_are : (copies arrays components : Subscripts) (l : Led)
-    → dimensions_led (not (is_none copies)) (not (is_none arrays && is_none components)) l ≡ spoken copies (copies_of l.shape) ++ array_spoken (is_none arrays) components (dimensions_of (sizes_led l))
-dimensions_are copies arrays components l =
-    ap (λ ds. ds ++ arrays_led (not (is_none arrays && is_none components)) (sizes_led l)) (spoken_is copies l.shape)
-    ∙ ap (λ ds. spoken copies (copies_of l.shape) ++ ds) (arrays_are arrays components (sizes_led l))
+rows_are : (there : Place) (copies arrays components : Subscripts) (l : Led)
+    → rows_left (ByParts there copies arrays components) l ≡ single_dimensions (spoken copies (copies_of l.shape)) copies ++ single_places (is_none arrays) components arrays (dimensions_of (sizes_led l))
+rows_are there copies arrays components l =
+    ap (λ ds. ds ++ single_dimensions (dimensions_of (sizes_led l)) (array_list arrays components)) (spoken_single copies (copies_of l.shape))
+    ∙ ap (λ ds. single_dimensions (spoken copies (copies_of l.shape)) copies ++ ds) (places_single (is_none arrays) components arrays (dimensions_of (sizes_led l)))
+
+nothing_skipped : (site : Site) (list : Subscripts) → skips site list [] ≡ 0
+nothing_skipped site NoSubscripts = refl
+nothing_skipped site (MoreSubscripts first others) = refl
+
+none_more : (m : ℕ) → m ≡ 0 + m
+none_more m = omega arith
+
+either_first : (m n : ℕ) → m + n ≡ n + m
+either_first m n = omega arith
 
 -- the dimension of copies, where there are any
 abbrev copies_in : ℕ → Option ℕ → List Dimension
 copies_in stride count = elim count [ None ↦ [] | Some m ↦ dimension m stride ∷ [] ]
 
--- a subscript that chooses one place of so many
+-- a subscript that chooses one place of so many, or several, which has no code
 abbrev IndexAt : Code → Site → ℕ → Sub → ℕ → ℕ → Type 0
 IndexAt code site size (OnePlace one) from to = PositionAt code site (instr.Int (pos size)) one from to
-IndexAt code site size other from to = ⊥
+IndexAt code site size other from to = (is_some (places_skipped site size other) ≡ true) × (from ≡ to)
 
 module _ (code : Code) (n : Numbering) (site : Site) (numbered : IsNumbered code n) where
   sign_at : (opening : Option Sign) (place : Place) (before after : List Instr) → sign_code before place opening ≡ Ok after → Begins after code.image.code
@@ -173,15 +185,38 @@ module _ (code : Code) (n : Numbering) (site : Site) (numbered : IsNumbered code
       one_placed code before after (instr.Int (pos number)) (ap (λ i. before ++ (i ∷ [])) (sym (in_room (nat_le number 2147483647) (instr.Int (pos number)) given.0 given.1)) ∙ given.2) begins
 
   -- the address behind the code of subscripts
-  abbrev AddressThere : Bool → Bool → Aim → Led → ℕ → ℕ → Type 0
-  AddressThere mentioned indexed aim l from to = LedAt code n site numbered (dimensions_led mentioned indexed l) aim l from × (suc from ≡ to)
+  abbrev AddressThere : Subscript → Aim → Led → ℕ → ℕ → Type 0
+  AddressThere subscript aim l from to = LedAt code n site numbered (rows_left subscript l) (skips_led site subscript l + offset l.path l.shape.components) aim l from × (suc from ≡ to)
 
-  address_at : (mentioned indexed : Bool) (aim : Aim) (l : Led) (place : Place) (before after : List Instr) → address_code n site before place aim mentioned indexed l ≡ Ok after → Begins after code.image.code
-      → Placed code before after (λ from to. AddressThere mentioned indexed aim l from to)
-  address_at mentioned indexed aim l place before after is begins =
-      let given = any_given before place (aimed n site aim mentioned indexed l) after is in
+  address_at : (subscript : Subscript) (aim : Aim) (l : Led) (place : Place) (before after : List Instr) → address_code n site before place aim subscript l ≡ Ok after → Begins after code.image.code
+      → Placed code before after (λ from to. AddressThere subscript aim l from to)
+  address_at subscript aim l place before after is begins =
+      let given = any_given before place (aimed n site aim subscript l) after is in
       let there = one_placed code before after given.0 given.2 begins
-      in record { at = (addressed_at code n site numbered (dimensions_led mentioned indexed l) aim l given.0 (length before) given.1 there.at.0, there.at.1); begins = there.begins }
+      in record { at = (addressed_at code n site numbered (rows_left subscript l) (skips_led site subscript l) aim l given.0 (length before) given.1 there.at.0, there.at.1); begins = there.begins }
+
+  -- an address in the same dimensions, of the same data
+  moved : (ds es : List Dimension) (given : Target) (at there : List Held → Spot) (from : ℕ) → ds ≡ es → ((held : List Held) → at held ≡ there held) → ElementAt code ds given at from → ElementAt code es given there from
+  moved ds es given at there from same alike e =
+      record {
+        number = e.number;
+        view = e.view;
+        address = e.address;
+        row = e.row;
+        viewed = λ held. subst (λ spot. IsViewed e.view es held given spot) (alike held) (subst (λ all. IsViewed e.view all held given (at held)) same (e.viewed held));
+      }
+
+  -- behind none that are skipped
+  unskipped_at : (ds : List Dimension) (aim : Aim) (l : Led) (from : ℕ) → LedAt code n site numbered ds (0 + offset l.path l.shape.components) aim l from → LedAt code n site numbered ds (offset l.path l.shape.components) aim l from
+  unskipped_at ds aim l from there = subst (λ m. LedAt code n site numbered ds m aim l from) (sym (none_more (offset l.path l.shape.components))) there
+
+  -- behind the elements that are skipped
+  skipped_at : (ds es : List Dimension) (skipped : ℕ) (aim : Aim) (l : Led) (from : ℕ) → ds ≡ es → LedAt code n site numbered ds (skipped + offset l.path l.shape.components) aim l from
+      → ElementAt code es (given_by aim (kind_of_first (chosen l.path l.shape.components))) (λ held. further skipped (further (offset l.path l.shape.components) (spot_of (here_at site) held l.declared l.stored))) from
+  skipped_at ds es skipped aim l from same there =
+      moved ds es (given_by aim (kind_of_first (chosen l.path l.shape.components))) (begins_at code n site numbered l.declared l.stored (skipped + offset l.path l.shape.components)) _ from same
+      (λ held. ap (λ m. further m (spot_of (here_at site) held l.declared l.stored)) (either_first skipped (offset l.path l.shape.components))
+      ∙ further_twice (offset l.path l.shape.components) skipped (spot_of (here_at site) held l.declared l.stored)) there
 
   -- the one code or the other
   either_at : {A B : ℕ → ℕ → Type 0} (b : Bool) (r other : Emitted) (before after : List Instr) → (if b then r else other) ≡ Ok after → (r ≡ Ok after → Placed code before after A) → (other ≡ Ok after → Placed code before after B)
@@ -190,49 +225,70 @@ module _ (code : Code) (n : Numbering) (site : Site) (numbered : IsNumbered code
   either_at false r other before after is first second = second is
 
   -- a subscript without a mark
-  place_at : {A : ℕ → ℕ → Type 0} (sizes : List ℕ) (r : Emitted) (aim : Aim) (l : Led) (place : Place) (given : Target) (spots : List Held → Spot) (before after : List Instr) → place_code n site before place aim r l sizes ≡ Ok after
+  place_at : {A : ℕ → ℕ → Type 0} (sizes : List ℕ) (r : Emitted) (aim : Aim) (subscript : Subscript) (l : Led) (place : Place) (given : Target) (spots : List Held → Spot) (before after : List Instr) → place_code n site before place aim r subscript l sizes ≡ Ok after
       → ((middle : List Instr) → r ≡ Ok middle → Begins middle code.image.code → Placed code before middle A)
-      → ((middle : List Instr) → address_code n site middle place aim false true l ≡ Ok after → Placed code middle after (λ from to. ElementAt code (dimensions_of sizes) given spots from × (suc from ≡ to)))
+      → ((middle : List Instr) → address_code n site middle place aim subscript l ≡ Ok after → Placed code middle after (λ from to. ElementAt code (dimensions_of sizes) given spots from × (suc from ≡ to)))
       → Placed code before after (λ from to. PlaceAt code A given spots sizes from to)
-  place_at [] r aim l place given spots before after is first cell = cell before is
-  place_at (size ∷ sizes) r aim l place given spots before after is first cell =
-      let alone = if_emitted (is_nil sizes) (onwards r (λ middle. address_code n site middle place aim false true l)) place after is in
-      weaker code before after (λ from to at. (at.0, at.1, nil_is sizes alone.0, at.2.0, at.2.1)) (both_placed code r (λ middle. address_code n site middle place aim false true l) before after alone.1 first cell)
+  place_at [] r aim subscript l place given spots before after is first cell = cell before is
+  place_at (size ∷ sizes) r aim subscript l place given spots before after is first cell =
+      let alone = if_emitted (is_nil sizes) (onwards r (λ middle. address_code n site middle place aim subscript l)) place after is in
+      weaker code before after (λ from to at. (at.0, at.1, nil_is sizes alone.0, at.2.0, at.2.1)) (both_placed code r (λ middle. address_code n site middle place aim subscript l) before after alone.1 first cell)
 
   -- the subscripts of an array: those without a mark may be none where a shape is aimed at
-  spoken_at : (components : Subscripts) (d : Dimension) (ds : List Dimension) (from to : ℕ) → IndexesAt code site (d ∷ ds) components from to → IndexesAt code site (spoken components (d ∷ ds)) components from to
-  spoken_at NoSubscripts d ds from to at = absurd at
-  spoken_at (MoreSubscripts first others) d ds from to at = at
+  spoken_at : (components : Subscripts) (d : Dimension) (ds : List Dimension) (before from to : ℕ) → IndexesAt code site (d ∷ ds) components before from to → IndexesAt code site (spoken components (d ∷ ds)) components before from to
+  spoken_at NoSubscripts d ds before from to at = absurd at
+  spoken_at (MoreSubscripts first others) d ds before from to at = at
+
+  -- subscripts in dimensions, and the elements that they skip
+  abbrev IndexesThere : List Dimension → Subscripts → ℕ → ℕ → Type 0
+  IndexesThere ds list from to = IndexesAt code site ds list (skips site list ds) from to
 
   unmarked_at : (components : Subscripts) (d : Dimension) (ds : List Dimension) (left : Bool) (unmarked : Emitted) (before after : List Instr) → array_code true (not left) unmarked unmarked (Ok before) ≡ Ok after → Begins after code.image.code
-      → (left ≡ true → components ≡ NoSubscripts) → (unmarked ≡ Ok after → Placed code before after (λ from to. IndexesAt code site (d ∷ ds) components from to))
-      → Placed code before after (λ from to. IndexesAt code site (spoken components (d ∷ ds)) components from to)
+      → (left ≡ true → components ≡ NoSubscripts) → (unmarked ≡ Ok after → Placed code before after (λ from to. IndexesThere (d ∷ ds) components from to))
+      → Placed code before after (λ from to. IndexesAt code site (spoken components (d ∷ ds)) components (skips site components (d ∷ ds)) from to)
   unmarked_at components d ds true unmarked before after is begins none first =
-      subst (λ list. Placed code before after (λ from to. IndexesAt code site (spoken list (d ∷ ds)) list from to)) (sym (none refl)) (none_placed code before after (ok_is before after is) begins)
-  unmarked_at components d ds false unmarked before after is begins none first = weaker code before after (λ from to at. spoken_at components d ds from to at) (first is)
+      subst (λ list. Placed code before after (λ from to. IndexesAt code site (spoken list (d ∷ ds)) list (skips site list (d ∷ ds)) from to)) (sym (none refl))
+      (weaker code before after (λ from to at. (refl, at)) (none_placed code before after (ok_is before after is) begins))
+  unmarked_at components d ds false unmarked before after is begins none first = weaker code before after (λ from to at. spoken_at components d ds (skips site components (d ∷ ds)) from to at) (first is)
 
   left_none : (aim : Aim) (components : Subscripts) → leaves_array aim components ≡ true → components ≡ NoSubscripts
   left_none aims.Cell components is = absurd (cc)
   left_none (aims.Shape shape) components is = none_is components is
 
-  array_at : {B : ℕ → ℕ → Type 0} (b : Bool) (aim : Aim) (components : Subscripts) (sizes : List ℕ) (unmarked marked : Emitted) (before after : List Instr)
+  -- the subscripts of an array: those without a mark where no others are
+  abbrev ArrayThere : Bool → Subscripts → Subscripts → List ℕ → ℕ → ℕ → ℕ → Type 0
+  ArrayThere b arrays components sizes passed from to =
+      EitherAt b (λ begin end. ArrayAt (λ first behind. IndexesAt code site (spoken components (dimensions_of sizes)) components passed first behind) sizes passed begin end)
+      (λ begin end. IndexesAt code site (dimensions_of sizes) arrays passed begin end) from to
+
+  array_at : (b : Bool) (aim : Aim) (arrays components : Subscripts) (sizes : List ℕ) (unmarked marked : Emitted) (before after : List Instr)
       → array_code b (is_arrayed sizes && not (leaves_array aim components)) unmarked marked (Ok before) ≡ Ok after → Begins after code.image.code
-      → (unmarked ≡ Ok after → Placed code before after (λ from to. IndexesAt code site (dimensions_of sizes) components from to)) → (marked ≡ Ok after → Placed code before after B)
-      → Placed code before after (λ from to. EitherAt b (λ begin end. ArrayAt (λ first behind. IndexesAt code site (spoken components (dimensions_of sizes)) components first behind) sizes begin end) B from to)
-  array_at true aim components [] unmarked marked before after is begins first second = none_placed code before after (ok_is before after is) begins
-  array_at true aim components (size ∷ sizes) unmarked marked before after is begins first second =
+      → (unmarked ≡ Ok after → Placed code before after (λ from to. IndexesThere (dimensions_of sizes) components from to)) → (marked ≡ Ok after → Placed code before after (λ from to. IndexesThere (dimensions_of sizes) arrays from to))
+      → Placed code before after (λ from to. ArrayThere b arrays components sizes (skips site (if b then components else arrays) (dimensions_of sizes)) from to)
+  array_at true aim arrays components [] unmarked marked before after is begins first second =
+      weaker code before after (λ from to at. (nothing_skipped site components, at)) (none_placed code before after (ok_is before after is) begins)
+  array_at true aim arrays components (size ∷ sizes) unmarked marked before after is begins first second =
       unmarked_at components (dimension size (product sizes)) (dimensions_of sizes) (leaves_array aim components) unmarked before after (same_code (leaves_array aim components) is) begins (left_none aim components) first where
         same_code : (left : Bool) → array_code true (true && not left) unmarked marked (Ok before) ≡ Ok after → array_code true (not left) unmarked unmarked (Ok before) ≡ Ok after
         same_code true there = there
         same_code false there = there
-  array_at false aim components sizes unmarked marked before after is begins first second = second is
+  array_at false aim arrays components sizes unmarked marked before after is begins first second = second is
 
-  one_more : (d : Dimension) (ds : List Dimension) (first : Sub) (others : Subscripts) (from middle to : ℕ) → IndexAt code site d.size first from middle → IndexesAt code site ds others middle to
-      → IndexesAt code site (d ∷ ds) (MoreSubscripts first others) from to
-  one_more d ds (OnePlace one) others from middle to here rest = (middle, here, rest)
-  one_more d ds (Every there) others from middle to here rest = absurd here
-  one_more d ds (Range first last) others from middle to here rest = absurd here
-  one_more d ds (Portion count first) others from middle to here rest = absurd here
+  -- several places, which have no code
+  from_there : (ds : List Dimension) (others : Subscripts) (from middle to : ℕ) → from ≡ middle → IndexesThere ds others middle to → IndexesThere ds others from to
+  from_there ds others from middle to same rest = subst (λ k. IndexesThere ds others k to) (sym same) rest
+
+  one_more : (d : Dimension) (ds : List Dimension) (first : Sub) (others : Subscripts) (from middle to : ℕ) → IndexAt code site d.size first from middle → IndexesThere ds others middle to
+      → IndexesThere (d ∷ ds) (MoreSubscripts first others) from to
+  one_more d ds (OnePlace one) others from middle to here rest = (middle, here, subst (λ m. IndexesAt code site ds others m middle to) (none_more (skips site others ds)) rest)
+  one_more d ds (Every there) others from middle to here rest = (elements_skipped site d (Every there), skips site others ds, span_at site d (Every there) here.0, refl, from_there ds others from middle to here.1 rest)
+  one_more d ds (Range first last) others from middle to here rest = (elements_skipped site d (Range first last), skips site others ds, span_at site d (Range first last) here.0, refl, from_there ds others from middle to here.1 rest)
+  one_more d ds (Portion count first) others from middle to here rest =
+      (elements_skipped site d (Portion count first), skips site others ds, span_at site d (Portion count first) here.0, refl, from_there ds others from middle to here.1 rest)
+
+  several_at : (b : Bool) (place : Place) (before after : List Instr) → (if b then Ok before else Err place) ≡ Ok after → Begins after code.image.code → Placed code before after (λ from to. (b ≡ true) × (from ≡ to))
+  several_at b place before after is begins =
+      let alone = if_emitted b (Ok before) place after is in weaker code before after (λ from to at. (alone.0, at)) (none_placed code before after (ok_is before after alone.1) begins)
 
   -- the address that a subscript chooses
   abbrev pub ChosenThere : Aim → Subscript → Led → ℕ → ℕ → Type 0
@@ -521,35 +577,43 @@ module _ (code : Code) (n : Numbering) (site : Site) (numbered : IsNumbered code
         let there = one_placed code before after given.0 given.2 begins
         in record { at = (plainly_at code n site numbered aim l given.0 (length before) given.1 there.at.0, there.at.1); begins = there.begins }
     chosen_at (ByName there name) aim l place before after is begins =
-        place_at (sizes_led l) (name_code n site before name) aim l place (given_by aim (kind_of_first (chosen l.path l.shape.components))) (begins_at code n site numbered l.declared l.stored (offset l.path l.shape.components)) before after is
-        (λ middle got begun. name_at [] name.name name.place before middle got begun) (λ middle got. address_at false true aim l place middle after got begins)
+        place_at (sizes_led l) (name_code n site before name) aim (ByName there name) l place (given_by aim (kind_of_first (chosen l.path l.shape.components))) (begins_at code n site numbered l.declared l.stored (offset l.path l.shape.components)) before after is
+        (λ middle got begun. name_at [] name.name name.place before middle got begun) (λ middle got. weaker code middle after (λ from to at. (unskipped_at (dimensions_of (sizes_led l)) aim l from at.0, at.1)) (address_at (ByName there name) aim l place middle after got begins))
     chosen_at (ByInteger there mark number) aim l place before after is begins =
-        place_at (sizes_led l) (integer_code before place number) aim l place (given_by aim (kind_of_first (chosen l.path l.shape.components))) (begins_at code n site numbered l.declared l.stored (offset l.path l.shape.components)) before after is
-        (λ middle got begun. integer_at number place before middle got begun) (λ middle got. address_at false true aim l place middle after got begins)
+        place_at (sizes_led l) (integer_code before place number) aim (ByInteger there mark number) l place (given_by aim (kind_of_first (chosen l.path l.shape.components))) (begins_at code n site numbered l.declared l.stored (offset l.path l.shape.components)) before after is
+        (λ middle got begun. integer_at number place before middle got begun) (λ middle got. weaker code middle after (λ from to at. (unskipped_at (dimensions_of (sizes_led l)) aim l from at.0, at.1)) (address_at (ByInteger there mark number) aim l place middle after got begins))
     chosen_at (ByParts there copies arrays components) aim l place before after is begins =
         weaker code before after
-        (λ from to at.
-        (at.0, at.2.0, at.1, at.2.1, subst (λ ds. LedAt code n site numbered ds aim l at.2.0) (dimensions_are copies arrays components l) at.2.2.0, at.2.2.1))
+        (λ from to at. (
+          at.0,
+          at.2.0,
+          skips site copies (copies_of l.shape),
+          skips site (array_list arrays components) (dimensions_of (sizes_led l)),
+          at.1,
+          at.2.1,
+          skipped_at (rows_left (ByParts there copies arrays components) l) _ (skips_led site (ByParts there copies arrays components) l) aim l at.2.0 (rows_are there copies arrays components l) at.2.2.0,
+          at.2.2.1,
+        ))
         (both_placed code (copies_code n site before place l.shape.copies copies) _ before after is (λ middle got begun. copies_at copies l.shape.copies (copy_size l.shape.components) place before middle got begun)
         (λ middle got. both_placed code
         (array_code (is_none arrays) (is_arrayed (sizes_led l) && not (leaves_array aim components)) (indexes_code n site middle place (sizes_led l) components) (indexes_code n site middle place (sizes_led l) arrays) (Ok middle))
-        (λ last. address_code n site last place aim (not (is_none copies)) (not (is_none arrays && is_none components)) l) middle after got
-        (λ last late begun. array_at (is_none arrays) aim components (sizes_led l) (indexes_code n site middle place (sizes_led l) components) (indexes_code n site middle place (sizes_led l) arrays) middle last late begun
+        (λ last. address_code n site last place aim (ByParts there copies arrays components) l) middle after got
+        (λ last late begun. array_at (is_none arrays) aim arrays components (sizes_led l) (indexes_code n site middle place (sizes_led l) components) (indexes_code n site middle place (sizes_led l) arrays) middle last late begun
         (λ chosen_there. indexes_at components (sizes_led l) place middle last chosen_there begun) (λ chosen_there. indexes_at arrays (sizes_led l) place middle last chosen_there begun))
-        (λ last late. address_at (not (is_none copies)) (not (is_none arrays && is_none components)) aim l place last after late begins)))
+        (λ last late. address_at (ByParts there copies arrays components) aim l place last after late begins)))
 
     copies_at : (list : Subscripts) (count : Option ℕ) (stride : ℕ) (place : Place) (before after : List Instr) → copies_code n site before place count list ≡ Ok after → Begins after code.image.code
-        → Placed code before after (λ from to. IndexesAt code site (spoken list (copies_in stride count)) list from to)
-    copies_at NoSubscripts count stride place before after is begins = none_placed code before after (ok_is before after is) begins
+        → Placed code before after (λ from to. IndexesAt code site (spoken list (copies_in stride count)) list (skips site list (copies_in stride count)) from to)
+    copies_at NoSubscripts count stride place before after is begins = weaker code before after (λ from to at. (refl, at)) (none_placed code before after (ok_is before after is) begins)
     copies_at (MoreSubscripts first others) (Some count) stride place before after is begins =
         let alone = if_emitted (is_none others) (index_code n site before place count first) place after is in
-        subst (λ rest. Placed code before after (λ from to. IndexesAt code site (dimension count stride ∷ []) (MoreSubscripts first rest) from to)) (sym (none_is others alone.0))
-        (weaker code before after (λ from to at. one_more (dimension count stride) [] first NoSubscripts from to to at refl) (index_at first count place before after alone.1 begins))
+        subst (λ rest. Placed code before after (λ from to. IndexesThere (dimension count stride ∷ []) (MoreSubscripts first rest) from to)) (sym (none_is others alone.0))
+        (weaker code before after (λ from to at. one_more (dimension count stride) [] first NoSubscripts from to to at (refl, refl)) (index_at first count place before after alone.1 begins))
     copies_at (MoreSubscripts first others) None stride place before after is begins = absurd (cc)
 
     indexes_at : (list : Subscripts) (sizes : List ℕ) (place : Place) (before after : List Instr) → indexes_code n site before place sizes list ≡ Ok after → Begins after code.image.code
-        → Placed code before after (λ from to. IndexesAt code site (dimensions_of sizes) list from to)
-    indexes_at NoSubscripts [] place before after is begins = none_placed code before after (ok_is before after is) begins
+        → Placed code before after (λ from to. IndexesThere (dimensions_of sizes) list from to)
+    indexes_at NoSubscripts [] place before after is begins = weaker code before after (λ from to at. (refl, at)) (none_placed code before after (ok_is before after is) begins)
     indexes_at (MoreSubscripts first others) (size ∷ sizes) place before after is begins =
         weaker code before after (λ from to at. one_more (dimension size (product sizes)) (dimensions_of sizes) first others from at.0 to at.1 at.2)
         (both_placed code (index_code n site before place size first) (λ middle. indexes_code n site middle place sizes others) before after is (λ middle got begun. index_at first size place before middle got begun)
@@ -560,9 +624,9 @@ module _ (code : Code) (n : Numbering) (site : Site) (numbered : IsNumbered code
     index_at : (first : Sub) (size : ℕ) (place : Place) (before after : List Instr) → index_code n site before place size first ≡ Ok after → Begins after code.image.code
         → Placed code before after (λ from to. IndexAt code site size first from to)
     index_at (OnePlace one) size place before after is begins = position_at one (instr.Int (pos size)) place before after is begins
-    index_at (Every there) size place before after is begins = absurd (cc)
-    index_at (Range first last) size place before after is begins = absurd (cc)
-    index_at (Portion count first) size place before after is begins = absurd (cc)
+    index_at (Every there) size place before after is begins = several_at (is_some (places_skipped site size (Every there))) place before after is begins
+    index_at (Range first last) size place before after is begins = several_at (is_some (places_skipped site size (Range first last))) place before after is begins
+    index_at (Portion count first) size place before after is begins = several_at (is_some (places_skipped site size (Portion count first))) place before after is begins
 
     position_at : (one : Position) (ends : Instr) (place : Place) (before after : List Instr) → position_code n site before place ends one ≡ Ok after → Begins after code.image.code
         → Placed code before after (λ from to. PositionAt code site ends one from to)

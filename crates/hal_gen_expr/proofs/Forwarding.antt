@@ -27,7 +27,7 @@ use Rattle.hal_code.specs.declared.row.Target.{Target}
 use Rattle.hal_code.specs.declared.row.Target.TheVariants as target
 use Rattle.hal_meaning.specs.ReportNames.{first_place}
 use Rattle.hal_agreement.specs.Codes.{Code}
-use Rattle.hal_agreement.specs.PlacedExpressions.{Has, One, pushes, addresses, AddressAt, ElementAt, AloneAt, BoundAt, ParameterAt, ParametersAt, CallAt, ValueAt, NameAt, EitherAt, DataAt, WholeArgumentAt, WholeAt, array_spoken, PlaceAt, ArrayAt, SubscriptedAt, SignAt, OperandAt, CalledAt, ExpressionAt, JoinedAt, FoldedAt, TermsAt, BuiltAt, ArgumentsAt, ReferenceAt, ChosenAt, IndexesAt, PositionAt, ComponentAt, PartsAt, PartAt}
+use Rattle.hal_agreement.specs.PlacedExpressions.{Has, One, pushes, addresses, AddressAt, ElementAt, AloneAt, BoundAt, ParameterAt, ParametersAt, CallAt, ValueAt, NameAt, EitherAt, DataAt, WholeArgumentAt, WholeAt, PlaceAt, ArrayAt, SubscriptedAt, SignAt, OperandAt, CalledAt, ExpressionAt, JoinedAt, FoldedAt, TermsAt, BuiltAt, ArgumentsAt, ReferenceAt, ChosenAt, IndexesAt, PositionAt, ComponentAt, PartsAt, PartAt}
 use Rattle.hal_agreement.specs.Sites.{Site, here_at}
 
 module _ (code : Code) where
@@ -119,9 +119,9 @@ module _ (code : Code) where
     place_goes placed given spots [] from to there p = element_goes [] given spots from to there.0 there.1
     place_goes placed given spots (n ∷ ns) from to there p = joined_goes from there.0 to (p there.0 there.1) (element_goes (dimensions_of (n ∷ ns)) given spots there.0 to there.3 there.4)
 
-    array_goes : (places : ℕ → ℕ → Type 0) (sizes : List ℕ) (from to : ℕ) → ArrayAt places sizes from to → (places from to → Goes from to) → Goes from to
-    array_goes places [] from to at p = none_goes from to at
-    array_goes places (n ∷ ns) from to at p = p at
+    array_goes : (places : ℕ → ℕ → Type 0) (sizes : List ℕ) (before from to : ℕ) → ArrayAt places sizes before from to → (places from to → Goes from to) → Goes from to
+    array_goes places [] before from to at p = none_goes from to at.1
+    array_goes places (n ∷ ns) before from to at p = p at
 
     subscripted_goes : (path : List Naming) (m : Meant) (address : Shape → ℕ → ℕ → Type 0) (component : Bool → ℕ → ℕ → Type 0) (from to : ℕ) → SubscriptedAt code site path [] address component m from to
         → ((shape : Shape) (middle : ℕ) → address shape from middle → Goes from middle) → ((arrayed : Bool) (middle : ℕ) → component arrayed middle to → Goes middle to) → Goes from to
@@ -263,22 +263,23 @@ module _ (code : Code) where
       chosen_goes (ByInteger there mark number) given path spots shape from to at =
           place_goes (λ a e. One code a (instr.Int (pos number)) e) given (λ held. further (offset path shape.components) (spots held)) (sizes_named path shape) from to at (λ middle here. one_goes from middle _ here tt)
       chosen_goes (ByParts there copies arrays components) given path spots shape from to at =
-          joined_goes from at.0 to (indexes_goes copies (spoken copies (copies_of shape)) from at.0 at.2) (joined_goes at.0 at.1 to
-          (either_goes (is_none arrays) (λ a e. ArrayAt (λ b f. IndexesAt code site (spoken components (dimensions_of (sizes_named path shape))) components b f) (sizes_named path shape) a e)
-          (λ a e. IndexesAt code site (dimensions_of (sizes_named path shape)) arrays a e) at.0 at.1 at.3
-          (λ here. array_goes (λ b f. IndexesAt code site (spoken components (dimensions_of (sizes_named path shape))) components b f) (sizes_named path shape) at.0 at.1 here
-          (λ places. indexes_goes components (spoken components (dimensions_of (sizes_named path shape))) at.0 at.1 places))
-          (λ here. indexes_goes arrays (dimensions_of (sizes_named path shape)) at.0 at.1 here))
-          (element_goes (spoken copies (copies_of shape) ++ array_spoken (is_none arrays) components (dimensions_of (sizes_named path shape))) given _ at.1 to at.4 at.5))
+          joined_goes from at.0 to (indexes_goes copies (spoken copies (copies_of shape)) at.2 from at.0 at.4) (joined_goes at.0 at.1 to
+          (either_goes (is_none arrays) (λ a e. ArrayAt (λ b f. IndexesAt code site (spoken components (dimensions_of (sizes_named path shape))) components at.3 b f) (sizes_named path shape) at.3 a e)
+          (λ a e. IndexesAt code site (dimensions_of (sizes_named path shape)) arrays at.3 a e) at.0 at.1 at.5
+          (λ here. array_goes (λ b f. IndexesAt code site (spoken components (dimensions_of (sizes_named path shape))) components at.3 b f) (sizes_named path shape) at.3 at.0 at.1 here
+          (λ places. indexes_goes components (spoken components (dimensions_of (sizes_named path shape))) at.3 at.0 at.1 places))
+          (λ here. indexes_goes arrays (dimensions_of (sizes_named path shape)) at.3 at.0 at.1 here))
+          (element_goes _ given _ at.1 to at.6 at.7))
 
-      indexes_goes : (list : Subscripts) (ds : List Dimension) (from to : ℕ) → IndexesAt code site ds list from to → Goes from to
-      indexes_goes NoSubscripts [] from to at = none_goes from to at
-      indexes_goes (MoreSubscripts (OnePlace one) others) (d ∷ ds) from to at = joined_goes from at.0 to (position_goes one (instr.Int (pos d.size)) from at.0 (λ k. tt) at.1) (indexes_goes others ds at.0 to at.2)
-      indexes_goes NoSubscripts (d ∷ ds) from to at = absurd at
-      indexes_goes (MoreSubscripts first others) [] from to at = absurd at
-      indexes_goes (MoreSubscripts (Every there) others) (d ∷ ds) from to at = absurd at
-      indexes_goes (MoreSubscripts (Range first last) others) (d ∷ ds) from to at = absurd at
-      indexes_goes (MoreSubscripts (Portion count first) others) (d ∷ ds) from to at = absurd at
+      indexes_goes : (list : Subscripts) (ds : List Dimension) (before from to : ℕ) → IndexesAt code site ds list before from to → Goes from to
+      indexes_goes NoSubscripts [] before from to at = none_goes from to at.1
+      indexes_goes (MoreSubscripts (OnePlace one) others) (d ∷ ds) before from to at =
+          joined_goes from at.0 to (position_goes one (instr.Int (pos d.size)) from at.0 (λ k. tt) at.1) (indexes_goes others ds before at.0 to at.2)
+      indexes_goes NoSubscripts (d ∷ ds) before from to at = absurd at
+      indexes_goes (MoreSubscripts first others) [] before from to at = absurd at
+      indexes_goes (MoreSubscripts (Every there) others) (d ∷ ds) before from to at = indexes_goes others ds at.1 from to at.4
+      indexes_goes (MoreSubscripts (Range first last) others) (d ∷ ds) before from to at = indexes_goes others ds at.1 from to at.4
+      indexes_goes (MoreSubscripts (Portion count first) others) (d ∷ ds) before from to at = indexes_goes others ds at.1 from to at.4
 
       position_goes : (one : Position) (ends : Instr) (from to : ℕ) → ((k : ℕ) → GoesOn code.image.code k ends) → PositionAt code site ends one from to → Goes from to
       position_goes (FromBeginning tree) ends from to goes at = expression_goes tree from to at

@@ -1,10 +1,13 @@
 pub mod Growing
 pub mod Referring
-pub mod SameKinds
 pub mod Shaped
 pub mod Numbered
 pub mod Named
 mod Sized
+pub mod Constancy
+mod Spanning
+mod Skipped
+mod Singled
 pub mod Expressed
 pub mod Appending
 pub mod Forwarding

@@ -28,6 +28,7 @@ use Rattle.hal_meaning.specs.Variables.{kind_of_first}
 use Rattle.hal_agreement.specs.Codes.{Code}
 use Rattle.hal_agreement.specs.PlacedExpressions.{Has, dimension_of, IsViewed, AddressAt, ElementAt}
 use Rattle.hal_agreement.specs.Sites.{Site, here_at}
+use Rattle.hal_runs.proofs.Same.{kind_same}
 use Rattle.hal_gen_expr.specs.Standing.{IsNumbered}
 use Rattle.hal_gen_expr.specs.Numbering.{Numbering, below, most, base_of, same_base, row_of, same_row, same_rows, gives_cell, is_cell_view, view_number, same_runs, shape_number, gives_area, is_area_view, area_number}
 use Rattle.hal_gen_expr.specs.declared.aims.Aim.{Aim}
@@ -35,7 +36,6 @@ use Rattle.hal_gen_expr.specs.declared.aims.Aim.TheVariants as aims
 use Rattle.hal_gen_expr.specs.Leaves.{is_one, place_view, address_of, area_of}
 use Rattle.hal_gen_expr.specs.Led.{Led, addressed, plainly_aimed}
 use Rattle.hal_gen_expr.specs.Shapes.{runs_of}
-use Rattle.hal_gen_expr.proofs.SameKinds.{kind_same}
 use Rattle.hal_gen_expr.proofs.Shaped.{kinds_found}
 
 pub below_is : (limit n m : ℕ) → below limit n ≡ Some m → n ≡ m
@@ -237,16 +237,16 @@ module _ (code : Code) (n : Numbering) (site : Site) (numbered : IsNumbered code
         viewed = λ now. area_viewed there.0 ds shape row.1 now (begins_at k stored at now) row.4 (base_leads k at stored there.0 now there.1);
       }
 
-  -- the one or the other
-  abbrev pub LedAt : List tree.Dimension → Aim → Led → ℕ → Type 0
-  LedAt ds aim l from = ElementAt code ds (given_by aim (kind_of_first (chosen l.path l.shape.components))) (begins_at l.declared l.stored (offset l.path l.shape.components)) from
+  -- the one or the other, of the element so many elements behind the first one of the data
+  abbrev pub LedAt : List tree.Dimension → ℕ → Aim → Led → ℕ → Type 0
+  LedAt ds at aim l from = ElementAt code ds (given_by aim (kind_of_first (chosen l.path l.shape.components))) (begins_at l.declared l.stored at) from
 
-  pub addressed_at : (ds : List tree.Dimension) (aim : Aim) (l : Led) (i : Instr) (from : ℕ) → addressed n site aim (map row_of ds) l ≡ Some i → Has code from i → LedAt ds aim l from
-  addressed_at ds aims.Cell l i from is has = behind_at ds l.declared l.stored (offset l.path l.shape.components) (kind_of_first (chosen l.path l.shape.components)) i from is has
-  addressed_at ds (aims.Shape shape) l i from is has = area_at ds l.declared l.stored (offset l.path l.shape.components) shape i from is has
+  pub addressed_at : (ds : List tree.Dimension) (skipped : ℕ) (aim : Aim) (l : Led) (i : Instr) (from : ℕ) → addressed n site aim (map row_of ds) skipped l ≡ Some i → Has code from i → LedAt ds (skipped + offset l.path l.shape.components) aim l from
+  addressed_at ds skipped aims.Cell l i from is has = behind_at ds l.declared l.stored (skipped + offset l.path l.shape.components) (kind_of_first (chosen l.path l.shape.components)) i from is has
+  addressed_at ds skipped (aims.Shape shape) l i from is has = area_at ds l.declared l.stored (skipped + offset l.path l.shape.components) shape i from is has
 
   -- without subscripts
-  pub plainly_at : (aim : Aim) (l : Led) (i : Instr) (from : ℕ) → plainly_aimed n site aim l ≡ Some i → Has code from i → LedAt [] aim l from
+  pub plainly_at : (aim : Aim) (l : Led) (i : Instr) (from : ℕ) → plainly_aimed n site aim l ≡ Some i → Has code from i → LedAt [] (offset l.path l.shape.components) aim l from
   plainly_at aims.Cell l i from is has =
       behind_at [] l.declared l.stored (offset l.path l.shape.components) (kind_of_first (chosen l.path l.shape.components)) i from
       (given_is (not (is_some l.shape.copies) && is_one (chosen l.path l.shape.components))

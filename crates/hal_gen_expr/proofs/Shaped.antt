@@ -1,5 +1,5 @@
 -- A shape that is found has the kinds of the cells of its data.
-use Rattle.std.specs.Prelude.{◌≡◌, ◌<◌, ℕ, zero, suc, ◌==◌, min, map, nat_lt, Bool, true, false, ◌&&◌, List, [], ◌∷◌, ◌++◌, replicate, flat_map, unwrap_or}
+use Rattle.std.specs.Prelude.{◌≡◌, ◌<◌, ℕ, zero, suc, ◌==◌, min, map, nat_lt, Bool, true, false, ◌&&◌, List, [], ◌∷◌, ◌++◌, replicate, flat_map, unwrap_or, if◌then◌else◌}
 use Rattle.std.proofs.Common.{refl, sym, ap, ◌∙◌, arith}
 use Rattle.std.proofs.lemmas.Bool.{eqb-true, ltb-true, and_parts}
 use Rattle.hal_values.specs.declared.value.Kind.{Kind}
@@ -8,11 +8,13 @@ use Rattle.hal_code.specs.declared.row.Run.{Run}
 use Rattle.hal_code.specs.Images.{expanded}
 use Rattle.hal_code.specs.Sorts.{same_kind}
 use Rattle.hal_meaning.specs.Elements.{Component, Shape, count, times, kinds_of_component, kinds_of}
+use Rattle.hal_runs.specs.Joined.{joins, longer, with_some, with_run, with_runs}
+use Rattle.hal_runs.proofs.Expanded.{joined_expanded}
+use Rattle.hal_runs.proofs.Same.{kind_same}
 use Rattle.hal_gen_expr.specs.Elements.{counted}
 use Rattle.hal_gen_expr.specs.Numbering.{most, same_run, same_runs}
 use Rattle.hal_gen_expr.specs.Shapes.{run_of, runs_of}
 use Rattle.hal_gen_expr.proofs.Growing.{append_append}
-use Rattle.hal_gen_expr.proofs.SameKinds.{kind_same}
 
 -- no count of these runs is at the limit
 abbrev Counted : List (Run Kind) → Type 0
@@ -62,7 +64,31 @@ copies_expanded (suc n) components are =
     ∙ (ap (λ ks. ks ++ expanded (times n (map run_of components))) (copy_expanded components parts.0)
     ∙ ap (λ ks. flat_map kinds_of_component components ++ ks) (copies_expanded n components parts.1))
 
+some_by : (one run : Run Kind) (b : Bool) → Counted (if b then longer one run.repeat ∷ [] else one ∷ run ∷ []) → Counted (one ∷ []) × (run.repeat < most)
+some_by one run true are = ((omega (arith, are.0), tt), omega (arith, are.0))
+some_by one run false are = ((are.0, tt), are.1.0)
+
+some_counted : (runs : List (Run Kind)) (run : Run Kind) → Counted (with_some same_kind runs run) → Counted runs × (run.repeat < most)
+unfolding with_some
+some_counted [] run are = (tt, are.0)
+some_counted (one ∷ []) run are = some_by one run (joins same_kind one run) are
+some_counted (one ∷ next ∷ runs) run are = let late = some_counted (next ∷ runs) run are.1 in ((are.0, late.0), late.1)
+
+run_by : (runs : List (Run Kind)) (run : Run Kind) (b : Bool) → (run.repeat == 0) ≡ b → Counted (if b then runs else with_some same_kind runs run) → Counted runs × (run.repeat < most)
+run_by runs run true is are = (are, omega (arith, eqb-true run.repeat 0 is))
+run_by runs run false is are = some_counted runs run are
+
+-- where no count of joined runs is at the limit, none was
+joined_counted : (runs more : List (Run Kind)) → Counted (with_runs same_kind runs more) → Counted runs × Counted more
+unfolding with_runs
+joined_counted runs [] are = (are, tt)
+joined_counted runs (run ∷ more) are =
+    let late = joined_counted (with_run same_kind runs run) more are in
+    let first = run_by runs run (run.repeat == 0) refl late.0 in
+    (first.0, (first.1, late.1))
+
 pub kinds_found : (found : List (Run Kind)) (shape : Shape) → same_runs found (runs_of shape) ≡ true → expanded found ≡ kinds_of shape
 kinds_found found shape is =
     let are = runs_are found (runs_of shape) is in
-    ap expanded are.0 ∙ copies_expanded (unwrap_or shape.copies 1) shape.components are.1
+    let list = times (unwrap_or shape.copies 1) (map run_of shape.components) in
+    ap expanded are.0 ∙ joined_expanded same_kind kind_same list ∙ copies_expanded (unwrap_or shape.copies 1) shape.components (joined_counted [] list are.1).1

@@ -1,6 +1,6 @@
 -- The code of expressions, behind the code so far: each leaves its value on the stack.
 use Rattle.std.specs.Prelude.{ℕ, pos, nat_le, Bool, true, false, not, ◌&&◌, ◌||◌, List, [], ◌∷◌, ◌++◌, length, Option, Some, None, Ok, Err, if◌then◌else◌}
-use Rattle.std.specs.Option.{option_map}
+use Rattle.std.specs.Option.{option_map, is_some}
 use Rattle.hal_base.specs.declared.refusal.Place.{Place}
 use Rattle.hal_grammar.specs.Leaves.{Naming, Sign, Minus, LiteralValue, Integer, Text}
 use Rattle.hal_grammar.specs.Expressions.{Expression, Or, And, Compare, Cat, Sum, Product, Power, Not, Literal, Decimal, Referred, Called, Convert, Parenthesis, Expressions, NoExpressions, MoreExpressions, Terms, NoTerms, MoreTerms, Reference, Refers, Subscript, Unsubscripted, ByName, ByInteger, ByParts, Subscripts, NoSubscripts, MoreSubscripts, Sub, Every, Range, Portion, One as OnePlace, Position, FromBeginning, FromEnd}
@@ -31,6 +31,7 @@ use Rattle.hal_gen_expr.specs.Leaves.{is_nil, value_of, call_of}
 use Rattle.hal_gen_expr.specs.Numbering.{Numbering, shape_number}
 use Rattle.hal_gen_expr.specs.Shapes.{runs_of}
 use Rattle.hal_gen_expr.specs.Sizes.{size_of_arguments}
+use Rattle.hal_gen_expr.specs.Spans.{places_skipped}
 use Rattle.hal_referents.specs.Referents.{Referent, DataOf, ConstantOf, BlockOf, BuiltinOf}
 use Rattle.hal_gen_expr.specs.Referents.{referent}
 
@@ -96,13 +97,13 @@ abbrev pub integer_code : List Instr → Place → ℕ → Emitted
 integer_code before place number = emit_any before place (integer_instr number)
 
 -- the address of what subscripts choose, whose code stands before it
-abbrev pub address_code : Numbering → Site → List Instr → Place → Aim → Bool → Bool → Led → Emitted
-address_code n site before place aim spoken indexed l = emit_any before place (aimed n site aim spoken indexed l)
+abbrev pub address_code : Numbering → Site → List Instr → Place → Aim → Subscript → Led → Emitted
+address_code n site before place aim subscript l = emit_any before place (aimed n site aim subscript l)
 
 -- the address that a subscript without a mark chooses, of which the code is given: it is a place of the array of these sizes where there is one
-abbrev pub place_code : Numbering → Site → List Instr → Place → Aim → Emitted → Led → List ℕ → Emitted
-place_code n site before place aim one l [] = address_code n site before place aim false true l
-place_code n site before place aim one l (size ∷ sizes) = if is_nil sizes then onwards one (λ middle. address_code n site middle place aim false true l) else Err place
+abbrev pub place_code : Numbering → Site → List Instr → Place → Aim → Emitted → Subscript → Led → List ℕ → Emitted
+place_code n site before place aim one subscript l [] = address_code n site before place aim subscript l
+place_code n site before place aim one subscript l (size ∷ sizes) = if is_nil sizes then onwards one (λ middle. address_code n site middle place aim subscript l) else Err place
 
 -- the subscripts of an array, of which the code is given: those without a mark are its where no others are, and where there is none, none has code
 abbrev pub unmarked_code : Bool → Emitted → Emitted → Emitted
@@ -245,12 +246,12 @@ abbrev mutual
   -- the address of what copy and array subscripts choose, in a reference at this place
   pub chosen_code : Numbering → Site → List Instr → Place → Aim → Subscript → Led → Emitted
   chosen_code n site before place aim Unsubscripted l = emit_any before place (plainly_aimed n site aim l)
-  chosen_code n site before place aim (ByName there name) l = place_code n site before place aim (name_code n site before name) l (sizes_led l)
-  chosen_code n site before place aim (ByInteger there mark number) l = place_code n site before place aim (integer_code before place number) l (sizes_led l)
+  chosen_code n site before place aim (ByName there name) l = place_code n site before place aim (name_code n site before name) (ByName there name) l (sizes_led l)
+  chosen_code n site before place aim (ByInteger there mark number) l = place_code n site before place aim (integer_code before place number) (ByInteger there mark number) l (sizes_led l)
   chosen_code n site before place aim (ByParts there copies arrays components) l =
       onwards (copies_code n site before place l.shape.copies copies)
       (λ middle. onwards (array_code (is_none arrays) (is_arrayed (sizes_led l) && not (leaves_array aim components)) (indexes_code n site middle place (sizes_led l) components) (indexes_code n site middle place (sizes_led l) arrays) (Ok middle))
-      (λ last. address_code n site last place aim (not (is_none copies)) (not (is_none arrays && is_none components)) l))
+      (λ last. address_code n site last place aim (ByParts there copies arrays components) l))
 
   -- a subscript of the copies, where there are copies
   pub copies_code : Numbering → Site → List Instr → Place → Option ℕ → Subscripts → Emitted
@@ -258,16 +259,16 @@ abbrev mutual
   copies_code n site before place (Some count) (MoreSubscripts first others) = if is_none others then index_code n site before place count first else Err place
   copies_code n site before place None (MoreSubscripts first others) = Err place
 
-  -- subscripts of an array of these sizes, one place for each
+  -- subscripts of an array of these sizes, one for each
   pub indexes_code : Numbering → Site → List Instr → Place → List ℕ → Subscripts → Emitted
   indexes_code n site before place [] NoSubscripts = Ok before
   indexes_code n site before place (size ∷ sizes) (MoreSubscripts first others) = onwards (index_code n site before place size first) (λ middle. indexes_code n site middle place sizes others)
   indexes_code n site before place sizes other = Err place
 
-  -- one place of so many; subscripts that choose several have no code
+  -- one place of so many, or several, which are constant and have no code
   pub index_code : Numbering → Site → List Instr → Place → ℕ → Sub → Emitted
   index_code n site before place size (OnePlace one) = position_code n site before place (instr.Int (pos size)) one
-  index_code n site before place size other = Err place
+  index_code n site before place size other = if is_some (places_skipped site size other) then Ok before else Err place
 
   -- a place of data, the number of whose places this instruction leaves
   pub position_code : Numbering → Site → List Instr → Place → Instr → Position → Emitted

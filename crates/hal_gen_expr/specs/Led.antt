@@ -1,7 +1,7 @@
 -- Data, and names that lead to some of their elements, among which subscripts choose.
-use Rattle.std.specs.Prelude.{ℕ, Bool, true, false, not, ◌&&◌, List, [], ◌++◌, map, Option, Some, None}
+use Rattle.std.specs.Prelude.{ℕ, ◌+◌, Bool, true, false, List, [], ◌++◌, map, min, Option, Some, None, if◌then◌else◌}
 use Rattle.hal_grammar.specs.Leaves.{Naming}
-use Rattle.hal_grammar.specs.Expressions.{Subscript, Unsubscripted, ByParts}
+use Rattle.hal_grammar.specs.Expressions.{Subscript, Unsubscripted, ByParts, Subscripts, Sub, One as OnePlace}
 use Rattle.hal_constants.specs.Constants.{is_none}
 use Rattle.hal_code.specs.declared.instr.Instr.{Instr}
 use Rattle.hal_code.specs.declared.row.Dimension.{Dimension as Row}
@@ -9,14 +9,16 @@ use Rattle.hal_meaning.specs.Elements.{Shape, chosen, offset}
 use Rattle.hal_meaning.specs.Expressions.{sizes_named, copies_of}
 use Rattle.hal_meaning.specs.Places.{Storing}
 use Rattle.hal_meaning.specs.Variables.{Dimension, dimensions_of, kind_of_first}
+use Rattle.hal_agreement.specs.PlacedExpressions.{single_dimensions}
 use Rattle.hal_agreement.specs.Sites.{Site}
 use Rattle.hal_referents.specs.Referents.{Referent, DataOf}
 use Rattle.hal_gen_expr.specs.declared.elements.Element.{Element}
-use Rattle.hal_gen_expr.specs.Elements.{first_in}
+use Rattle.hal_gen_expr.specs.Elements.{counted, an_element, first_in}
 use Rattle.hal_gen_expr.specs.declared.aims.Aim.{Aim}
 use Rattle.hal_gen_expr.specs.declared.aims.Aim.TheVariants as aims
 use Rattle.hal_gen_expr.specs.Leaves.{address_of, area_of, element_of}
 use Rattle.hal_gen_expr.specs.Numbering.{Numbering, row_of}
+use Rattle.hal_gen_expr.specs.Spans.{skips}
 
 pub record Led : Type 0 where
   pub path : List Naming
@@ -36,41 +38,51 @@ led_by path other = None
 abbrev pub sizes_led : Led → List ℕ
 sizes_led l = sizes_named l.path l.shape
 
--- the dimensions in which subscripts choose: that of the copies, and those of the array, where they speak of them
-abbrev pub copies_led : Bool → Shape → List Dimension
-copies_led true shape = copies_of shape
-copies_led false shape = []
+-- whether a subscript chooses one place
+abbrev pub is_single : Sub → Bool
+is_single (OnePlace one) = true
+is_single other = false
 
-abbrev pub arrays_led : Bool → List ℕ → List Dimension
-arrays_led true sizes = dimensions_of sizes
-arrays_led false sizes = []
+-- the subscripts of an array: those without a mark are its where no others are
+abbrev pub array_list : Subscripts → Subscripts → Subscripts
+array_list arrays components = if is_none arrays then components else arrays
 
-abbrev pub dimensions_led : Bool → Bool → Led → List Dimension
-dimensions_led spoken indexed l = copies_led spoken l.shape ++ arrays_led indexed (sizes_led l)
+-- the dimensions in which a subscript chooses one place, whose number its code leaves
+abbrev pub rows_left : Subscript → Led → List Dimension
+rows_left Unsubscripted l = []
+rows_left (ByParts there copies arrays components) l = single_dimensions (copies_of l.shape) copies ++ single_dimensions (dimensions_of (sizes_led l)) (array_list arrays components)
+rows_left other l = dimensions_of (sizes_led l)
+
+-- the elements before those that it chooses as several
+abbrev pub skips_led : Site → Subscript → Led → ℕ
+skips_led site (ByParts there copies arrays components) l = skips site copies (copies_of l.shape) + skips site (array_list arrays components) (dimensions_of (sizes_led l))
+skips_led site other l = 0
 
 -- the first one of the elements to which they lead
 abbrev pub first_led : Led → Element
 first_led l = first_in l.path l.shape.components
 
--- whether a subscript speaks of copies
-abbrev pub speaks : Subscript → Bool
-speaks (ByParts there copies arrays components) = not (is_none copies)
-speaks other = false
+-- the element so many elements further on, as far as elements are counted
+abbrev pub moved : ℕ → Element → Element
+moved skipped one = an_element (min (skipped + one.before) counted) one.kind
 
--- whether it speaks of the array: subscripts without a mark are its where it has any
-abbrev pub indexes : Subscript → Bool
-indexes Unsubscripted = false
-indexes (ByParts there copies arrays components) = not (is_none arrays && is_none components)
-indexes other = true
+-- the first one of the elements that a subscript chooses
+abbrev pub first_chosen : Site → Subscript → Led → Element
+first_chosen site subscript l = moved (min (skips_led site subscript l) counted) (first_led l)
 
--- the address of what they lead to in these dimensions, by its aim
-abbrev pub addressed : Numbering → Site → Aim → List Row → Led → Option Instr
-addressed n site aims.Cell rows l = address_of n site rows l.declared l.stored (offset l.path l.shape.components) (kind_of_first (chosen l.path l.shape.components))
-addressed n site (aims.Shape shape) rows l = area_of n site rows shape l.declared l.stored (offset l.path l.shape.components)
+-- the address of an element of these data in these dimensions, by its aim
+abbrev pub addressed_from : Numbering → Site → Aim → List Row → Element → Led → Option Instr
+addressed_from n site aims.Cell rows one l = address_of n site rows l.declared l.stored one.before one.kind
+addressed_from n site (aims.Shape shape) rows one l = area_of n site rows shape l.declared l.stored one.before
 
--- of what subscripts choose
-abbrev pub aimed : Numbering → Site → Aim → Bool → Bool → Led → Option Instr
-aimed n site aim spoken indexed l = addressed n site aim (map row_of (dimensions_led spoken indexed l)) l
+-- the address of what they lead to in these dimensions, so many elements further on, by its aim
+abbrev pub addressed : Numbering → Site → Aim → List Row → ℕ → Led → Option Instr
+addressed n site aims.Cell rows skipped l = address_of n site rows l.declared l.stored (skipped + offset l.path l.shape.components) (kind_of_first (chosen l.path l.shape.components))
+addressed n site (aims.Shape shape) rows skipped l = area_of n site rows shape l.declared l.stored (skipped + offset l.path l.shape.components)
+
+-- of what a subscript chooses
+abbrev pub aimed : Numbering → Site → Aim → Subscript → Led → Option Instr
+aimed n site aim subscript l = addressed n site aim (map row_of (rows_left subscript l)) (skips_led site subscript l) l
 
 -- the same without subscripts: a cell is the one element
 abbrev pub plainly_aimed : Numbering → Site → Aim → Led → Option Instr

@@ -1,6 +1,8 @@
 pub mod Referents
 pub mod Numbering
 pub mod Leaves
+pub mod Constants
+pub mod Spans
 pub mod Shapes
 pub mod Elements
 pub mod Led

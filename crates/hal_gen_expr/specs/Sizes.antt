@@ -2,14 +2,14 @@
 use Rattle.std.specs.Prelude.{ℕ, List}
 use Rattle.hal_grammar.specs.Leaves.{Naming}
 use Rattle.hal_grammar.specs.Expressions.{Expression, Referred, Expressions, MoreExpressions, Reference, Refers}
-use Rattle.hal_meaning.specs.Expressions.{size_of, sizes_named}
+use Rattle.hal_meaning.specs.Expressions.{size_of, sizes_reached}
 use Rattle.hal_agreement.specs.Sites.{Site}
 use Rattle.hal_referents.specs.Referents.{Referent, DataOf}
 use Rattle.hal_gen_expr.specs.Referents.{referent}
 
 -- SIZE of the data to which names lead; of all else it is 0, as no set has it
 abbrev pub size_referred : List Naming → Referent → ℕ
-size_referred path (DataOf k kept shape) = size_of shape (sizes_named path shape)
+size_referred path (DataOf k kept shape) = size_of shape (sizes_reached path shape.components)
 size_referred path other = 0
 
 abbrev pub size_of_reference : Site → Reference → ℕ

@@ -4,6 +4,7 @@ ghost use Rattle.std.specs.Prelude.{◌≡◌, map};
 ghost use Rattle.hal_tree.specs.SeenLeaves.{seen_name};
 ghost use Rattle.hal_elements.specs.SeenComponents.{seen_component};
 ghost use Rattle.hal_meaning.specs.Elements as elements;
+ghost use Rattle.hal_meaning.specs.Expressions as meaning;
 ghost use Rattle.hal_meaning.specs.Variables as variables;
 ghost use Rattle.hal_gen_expr.specs.Elements as found;
 
@@ -37,6 +38,26 @@ pub fn leads(path: &[Identifier], names: &[Name]) -> bool
         }
     }
     true
+}
+
+/// Whether these names are all of those (language document, Structures).
+fn are_all(path: &[Identifier], names: &[Name]) -> bool
+    ensures { result ≡ elements.are_all (map seen_name path.now) names.now }
+{
+    let mut left = path;
+    let mut rest = names;
+    while let Some((wanted, others)) = left.split_first() {
+        let Some((name, more)) = rest.split_first() else {
+            return false;
+        };
+        if wanted.name.bytes() == name.bytes() {
+            left = others;
+            rest = more;
+        } else {
+            return false;
+        }
+    }
+    rest.is_empty()
 }
 
 /// Whether these names lead to none of the components.
@@ -133,6 +154,18 @@ pub(crate) fn sizes_named<'a>(path: &[Identifier], components: &'a [Component]) 
 {
     for component in components {
         if leads(path, &component.path) {
+            return &component.sizes;
+        }
+    }
+    &[]
+}
+
+/// The sizes of the array that names name in full; none of a structure and of a part that has parts.
+pub(crate) fn sizes_reached<'a>(path: &[Identifier], components: &'a [Component]) -> &'a [u16]
+    ensures { result.now ≡ meaning.sizes_reached (map seen_name path.now) (map seen_component components.now) }
+{
+    for component in components {
+        if are_all(path, &component.path) {
             return &component.sizes;
         }
     }

@@ -1,11 +1,15 @@
 //! Data, and names that lead to some of their elements, among which subscripts choose.
 
-ghost use Rattle.std.specs.Prelude.{◌≡◌, ◌++◌, IfOk, OnOk, map, min};
+ghost use Rattle.std.specs.Prelude.{◌≡◌, ◌++◌, ◌∷◌, [], IfOk, OnOk, map, min, if◌then◌else◌};
 ghost use Rattle.std.specs.Option.{option_map};
+ghost use Rattle.hal_tree.specs.Rows.{subscripts};
+ghost use Rattle.hal_tree.specs.SeenExpressions.{seen_sub, seen_subscript};
 ghost use Rattle.hal_tree.specs.SeenLeaves.{seen_name};
 ghost use Rattle.hal_elements.specs.SeenComponents.{seen_shape};
 ghost use Rattle.hal_meaning.specs.Elements as elements;
+ghost use Rattle.hal_meaning.specs.Expressions.{copies_of};
 ghost use Rattle.hal_meaning.specs.Variables as variables;
+ghost use Rattle.hal_agreement.specs.PlacedExpressions.{single_dimensions};
 ghost use Rattle.hal_referents.specs.SeenReferents.{seen_meant, seen_referent};
 ghost use Rattle.hal_gen_expr.specs.Emits.{Emits};
 ghost use Rattle.hal_gen_expr.specs.ExpressionCode as codes;
@@ -18,6 +22,8 @@ use crate::aims::Aim;
 use crate::elements::{Element, first_element, sizes_named};
 use crate::leaves::emit_one;
 use crate::site::Site;
+use crate::spans::{copies_skipped, places_of_array_skipped};
+use crate::subscripts::are_none;
 use crate::uncoded::Uncoded;
 use crate::views::{address_of, area_of, element_of};
 use hal_base::Place;
@@ -25,7 +31,7 @@ use hal_cells::Storing;
 use hal_code::{Dimension, Instr};
 use hal_elements::{Shape, copy_size};
 use hal_referents::{Meant, Referent};
-use hal_tree::Identifier;
+use hal_tree::{Identifier, Sub, Subscript};
 use std::alloc::{AllocError, Global};
 
 /// Data, and the names that lead to some of their elements.
@@ -82,7 +88,7 @@ pub fn sizes_led<'a>(led: Led<'a>) -> &'a [u16]
 
 /// How many elements an array with these sizes has, 4,294,967,295 where it has more: so far is the next place of a dimension before them.
 #[tactic(auto, using(hal_elements::proofs::Capped::capped))]
-fn stride(sizes: &[u16]) -> u32
+pub(crate) fn stride(sizes: &[u16]) -> u32
     ensures { result ≡ min (elements.product sizes.now) 4294967295 }
 {
     match sizes.split_first() {
@@ -108,48 +114,135 @@ fn push_sizes(into: &mut Vec<Dimension>, sizes: &[u16]) -> Result<(), AllocError
     }
 }
 
-/// The dimension of the copies, where there are some and subscripts speak of them.
-fn copies_led(alloc: Global, spoken: bool, shape: &Shape) -> Result<Vec<Dimension>, AllocError>
-    ensures { IfOk result (λ rows. rows.items ≡ map row_of (leading.copies_led spoken (seen_shape shape.now))) }
+/// Whether a subscript chooses one place.
+#[tactic(auto, using(hal_tree::proofs::MadeExpressions::made_every, hal_tree::proofs::MadeExpressions::made_one, hal_tree::proofs::MadeExpressions::made_range, hal_tree::proofs::MadeExpressions::made_portion))]
+fn is_single(sub: &Sub) -> bool
+    ensures { result ≡ leading.is_single (seen_sub sub.now) }
+{
+    match sub {
+        Sub::Every { .. } => false,
+        Sub::One { .. } => true,
+        Sub::Range { .. } => false,
+        Sub::Portion { .. } => false,
+    }
+}
+
+/// The dimension of the copies, where there are some and subscripts choose one of them.
+#[tactic(auto, using(crate::proofs::Singled::none_single, crate::proofs::Singled::next_single), unfolding(hal_tree::specs::Rows::subscripts))]
+fn copies_left(alloc: Global, subs: &[Sub], shape: &Shape) -> Result<Vec<Dimension>, AllocError>
+    ensures { IfOk result (λ rows. rows.items ≡ map row_of (single_dimensions (copies_of (seen_shape shape.now)) (subscripts (map seen_sub subs.now)))) }
 {
     let mut rows = Vec::new(alloc);
-    if !spoken {
+    let Some((first, _)) = subs.split_first() else {
         return Ok(rows);
-    }
+    };
     let Some(count) = shape.copies else {
         return Ok(rows);
     };
-    rows.push(Dimension {
-        size: u32::from(count),
-        stride: copy_size(&shape.components),
-    })?;
+    if is_single(first) {
+        rows.push(Dimension {
+            size: u32::from(count),
+            stride: copy_size(&shape.components),
+        })?;
+    }
     Ok(rows)
 }
 
-/// Adds those of an array with these sizes, where subscripts speak of it.
-fn push_arrays(into: &mut Vec<Dimension>, indexed: bool, sizes: &[u16]) -> Result<(), AllocError>
-    ensures { OnOk result (into.new.items ≡ into.old.items ++ map row_of (leading.arrays_led indexed sizes.now)) }
+/// Adds a dimension in which a subscript chooses one place.
+fn push_single(into: &mut Vec<Dimension>, sub: &Sub, row: Dimension) -> Result<(), AllocError>
+    ensures { OnOk result (into.new.items ≡ (if leading.is_single (seen_sub sub.now) then into.old.items ++ (row ∷ []) else into.old.items)) }
 {
-    if indexed {
-        push_sizes(into, sizes)
-    } else {
-        Ok(())
+    if is_single(sub) {
+        into.push(row)?;
+    }
+    Ok(())
+}
+
+/// Adds those of an array with these sizes in which subscripts choose one place.
+#[tactic(auto, using(hal_elements::proofs::Repeated::behind, hal_elements::proofs::Repeated::none_behind, crate::proofs::Singled::none_left, crate::proofs::Singled::next_single), unfolding(hal_tree::specs::Rows::subscripts))]
+fn push_singles(into: &mut Vec<Dimension>, subs: &[Sub], sizes: &[u16]) -> Result<(), AllocError>
+    ensures { OnOk result (into.new.items ≡ into.old.items ++ map row_of (single_dimensions (variables.dimensions_of sizes.now) (subscripts (map seen_sub subs.now)))) }
+{
+    match sizes.split_first() {
+        None => Ok(()),
+        Some((size, others)) => match subs.split_first() {
+            None => Ok(()),
+            Some((first, more)) => {
+                let row = Dimension {
+                    size: u32::from(*size),
+                    stride: stride(others),
+                };
+                push_single(into, first, row)?;
+                push_singles(into, more, others)
+            }
+        },
     }
 }
 
-/// The dimensions in which subscripts choose: that of the copies, and those of the array, where they speak of them (image document, Views).
-#[tactic(auto, using(crate::proofs::Listed::both_mapped), unfolding(crate::specs::SeenLed::seen_led))]
-pub fn dimensions_led(
+/// The subscripts of an array: those without a mark are its where no others are (language document, Subscripts).
+fn array_list<'a>(arrays: &'a [Sub], components: &'a [Sub]) -> &'a [Sub]
+    ensures { subscripts (map seen_sub result.now) ≡ leading.array_list (subscripts (map seen_sub arrays.now)) (subscripts (map seen_sub components.now)) }
+{
+    if are_none(arrays) { components } else { arrays }
+}
+
+/// The dimensions of an array with these sizes, behind none.
+#[tactic(auto, using(crate::proofs::Listed::nothing_before))]
+fn array_left(alloc: Global, sizes: &[u16]) -> Result<Vec<Dimension>, AllocError>
+    ensures { IfOk result (λ rows. rows.items ≡ map row_of (variables.dimensions_of sizes.now)) }
+{
+    let mut rows = Vec::new(alloc);
+    push_sizes(&mut rows, sizes)?;
+    Ok(rows)
+}
+
+/// The dimensions in which a subscript chooses one place, whose number its code leaves (image document, Views).
+#[tactic(auto, using(crate::proofs::Listed::both_mapped, hal_tree::proofs::MadeExpressions::made_unsubscripted, hal_tree::proofs::MadeExpressions::made_by_name, hal_tree::proofs::MadeExpressions::made_by_integer, hal_tree::proofs::MadeExpressions::made_by_parts), unfolding(crate::specs::SeenLed::seen_led))]
+pub fn rows_left(
     alloc: Global,
-    spoken: bool,
-    indexed: bool,
+    subscript: &Subscript,
     led: Led<'_>,
 ) -> Result<Vec<Dimension>, AllocError>
-    ensures { IfOk result (λ rows. rows.items ≡ map row_of (leading.dimensions_led spoken indexed (seen_led led.entry))) }
+    ensures { IfOk result (λ rows. rows.items ≡ map row_of (leading.rows_left (seen_subscript subscript.now) (seen_led led.entry))) }
 {
-    let mut rows = copies_led(alloc, spoken, led.shape)?;
-    push_arrays(&mut rows, indexed, sizes_led(led))?;
-    Ok(rows)
+    match subscript {
+        Subscript::None => Ok(Vec::new(alloc)),
+        Subscript::Name { .. } => array_left(alloc, sizes_led(led)),
+        Subscript::Integer { .. } => array_left(alloc, sizes_led(led)),
+        Subscript::Parts {
+            place: _,
+            copies,
+            arrays,
+            components,
+        } => {
+            let mut rows = copies_left(alloc, copies, led.shape)?;
+            push_singles(&mut rows, array_list(arrays, components), sizes_led(led))?;
+            Ok(rows)
+        }
+    }
+}
+
+/// How many elements lie before those that a subscript chooses as several, 4,294,967,295 where there are more: the address lies so much further on.
+#[tactic(auto, using(crate::proofs::Skipped::more_capped, hal_tree::proofs::MadeExpressions::made_unsubscripted, hal_tree::proofs::MadeExpressions::made_by_name, hal_tree::proofs::MadeExpressions::made_by_integer, hal_tree::proofs::MadeExpressions::made_by_parts), unfolding(crate::specs::SeenLed::seen_led))]
+fn skips_led(subscript: &Subscript, led: Led<'_>, site: &Site<'_>) -> u32
+    requires site { IsSite site.now }
+    ensures { result ≡ min (leading.skips_led (seen_site site.now) (seen_subscript subscript.now) (seen_led led.entry)) 4294967295 }
+{
+    match subscript {
+        Subscript::None => 0,
+        Subscript::Name { .. } => 0,
+        Subscript::Integer { .. } => 0,
+        Subscript::Parts {
+            place: _,
+            copies,
+            arrays,
+            components,
+        } => {
+            let skipped = copies_skipped(copies, led.shape, site);
+            let places = array_list(arrays, components);
+            skipped.saturating_add(places_of_array_skipped(places, sizes_led(led), site))
+        }
+    }
 }
 
 /// The first one of the elements to which they lead.
@@ -160,32 +253,56 @@ pub fn first_led(led: Led<'_>) -> Element
     first_element(led.path, &led.shape.components)
 }
 
-/// The address of what they lead to in these dimensions, where a view leads to it.
-#[tactic(auto, using(crate::proofs::Capped::address_capped, crate::proofs::Capped::area_capped), unfolding(crate::specs::SeenLed::seen_led))]
-fn addressed(site: &Site<'_>, aim: Aim, rows: &[Dimension], led: Led<'_>) -> Option<Instr>
-    requires site { IsSite site.now }
-    ensures { result ≡ leading.addressed (seen_numbering site.now) (seen_site site.now) aim rows.now (seen_led led.entry) }
+/// The element so many elements further on.
+fn moved(one: Element, skipped: u32) -> Element
+    ensures { result ≡ leading.moved skipped one }
 {
-    let one = first_led(led);
+    Element {
+        before: skipped.saturating_add(one.before),
+        kind: one.kind,
+    }
+}
+
+/// The address of what they lead to in these dimensions, so many elements further on, where a view leads to it.
+#[tactic(auto, using(crate::proofs::Skipped::more_capped, crate::proofs::Capped::address_capped, crate::proofs::Capped::area_capped), unfolding(crate::specs::SeenLed::seen_led))]
+fn addressed(
+    site: &Site<'_>,
+    aim: Aim,
+    rows: &[Dimension],
+    one: Element,
+    led: Led<'_>,
+) -> Option<Instr>
+    requires site { IsSite site.now }
+    ensures { result ≡ leading.addressed_from (seen_numbering site.now) (seen_site site.now) aim rows.now one (seen_led led.entry) }
+{
     match aim {
         Aim::Cell => address_of(site, rows, led.declared, led.stored, one),
         Aim::Shape(shape) => area_of(site, rows, shape, led.declared, led.stored, one.before),
     }
 }
 
-/// The address of what subscripts choose among them.
+/// The first element that a subscript chooses among those to which they lead.
+pub fn first_chosen(subscript: &Subscript, led: Led<'_>, site: &Site<'_>) -> Element
+    requires site { IsSite site.now }
+    ensures { result ≡ leading.first_chosen (seen_site site.now) (seen_subscript subscript.now) (seen_led led.entry) }
+{
+    moved(first_led(led), skips_led(subscript, led, site))
+}
+
+/// The address of what a subscript chooses among them.
+#[tactic(auto, using(crate::proofs::Skipped::address_from))]
 fn aimed(
     site: &Site<'_>,
     aim: Aim,
-    spoken: bool,
-    indexed: bool,
+    subscript: &Subscript,
     led: Led<'_>,
 ) -> Result<Option<Instr>, AllocError>
     requires site { IsSite site.now }
-    ensures { IfOk result (λ address. address ≡ leading.aimed (seen_numbering site.now) (seen_site site.now) aim spoken indexed (seen_led led.entry)) }
+    ensures { IfOk result (λ address. address ≡ leading.aimed (seen_numbering site.now) (seen_site site.now) aim (seen_subscript subscript.now) (seen_led led.entry)) }
 {
-    let rows = dimensions_led(site.alloc, spoken, indexed, led)?;
-    Ok(addressed(site, aim, &rows, led))
+    let rows = rows_left(site.alloc, subscript, led)?;
+    let one = first_chosen(subscript, led, site);
+    Ok(addressed(site, aim, &rows, one, led))
 }
 
 /// The address of what they lead to without subscripts: a cell is the one element.
@@ -209,14 +326,13 @@ pub(crate) fn emit_address(
     site: &Site<'_>,
     place: Place,
     aim: Aim,
-    spoken: bool,
-    indexed: bool,
+    subscript: &Subscript,
     led: Led<'_>,
 ) -> Result<(), Uncoded>
     requires site { IsSite site.now }
-    ensures { Emits (codes.address_code (seen_numbering site.now) (seen_site site.now) code.old.items place aim spoken indexed (seen_led led.entry)) result code.new.items }
+    ensures { Emits (codes.address_code (seen_numbering site.now) (seen_site site.now) code.old.items place aim (seen_subscript subscript.now) (seen_led led.entry)) result code.new.items }
 {
-    match aimed(site, aim, spoken, indexed, led)? {
+    match aimed(site, aim, subscript, led)? {
         None => Err(Uncoded::At(place)),
         Some(address) => emit_one(code, place, address),
     }

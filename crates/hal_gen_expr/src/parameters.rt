@@ -92,6 +92,7 @@ fn parameter_at(alloc: Global, set: &Set<'_>, phrase: &Phrase<'_>) -> Result<Par
 }
 
 /// The kinds of the cells of the parameter that a phrase declares; none where it declares no data.
+#[tactic(auto, unfolding(hal_runs::specs::Joined::with_runs))]
 pub fn runs_at(
     alloc: Global,
     set: &Set<'_>,
@@ -137,7 +138,7 @@ pub fn parameter_named(
 }
 
 /// The kinds of the cells of the parameter of this name of the unit with this number (language document, Units).
-#[tactic(auto, using(crate::proofs::FoundParameters::runs_found))]
+#[tactic(auto, using(crate::proofs::FoundParameters::runs_found), unfolding(hal_runs::specs::Joined::with_runs))]
 pub fn parameter_runs(
     alloc: Global,
     set: &Set<'_>,

@@ -19,7 +19,7 @@ use crate::leaves::{emit_any, emit_one, integer_instr, picks};
 use crate::led::{Led, emit_address, led_by, plainly_aimed, sizes_led};
 use crate::names::{emit_name, emit_value, referent};
 use crate::site::Site;
-use crate::subscripts::{are_none, emit_copies, emit_parts, emit_places, emit_unmarked};
+use crate::subscripts::{are_none, emit_copies, emit_indexes, emit_parts, emit_unmarked};
 use crate::uncoded::Uncoded;
 use crate::views::shape_number;
 use hal_base::Place;
@@ -38,42 +38,6 @@ pub fn is_plain(subscript: &Subscript) -> bool
         Subscript::Name { .. } => false,
         Subscript::Integer { .. } => false,
         Subscript::Parts { .. } => false,
-    }
-}
-
-/// Whether a subscript speaks of copies.
-#[tactic(auto, using(hal_tree::proofs::MadeExpressions::made_unsubscripted, hal_tree::proofs::MadeExpressions::made_by_name, hal_tree::proofs::MadeExpressions::made_by_integer, hal_tree::proofs::MadeExpressions::made_by_parts))]
-pub fn speaks(subscript: &Subscript) -> bool
-    ensures { result ≡ leading.speaks (seen_subscript subscript.now) }
-{
-    match subscript {
-        Subscript::None => false,
-        Subscript::Name { .. } => false,
-        Subscript::Integer { .. } => false,
-        Subscript::Parts {
-            place: _,
-            copies,
-            arrays: _,
-            components: _,
-        } => !are_none(copies),
-    }
-}
-
-/// Whether a subscript speaks of the array: subscripts without a mark are its where it has any.
-#[tactic(auto, using(hal_tree::proofs::MadeExpressions::made_unsubscripted, hal_tree::proofs::MadeExpressions::made_by_name, hal_tree::proofs::MadeExpressions::made_by_integer, hal_tree::proofs::MadeExpressions::made_by_parts))]
-pub fn indexes(subscript: &Subscript) -> bool
-    ensures { result ≡ leading.indexes (seen_subscript subscript.now) }
-{
-    match subscript {
-        Subscript::None => false,
-        Subscript::Name { .. } => true,
-        Subscript::Integer { .. } => true,
-        Subscript::Parts {
-            place: _,
-            copies: _,
-            arrays,
-            components,
-        } => !(are_none(arrays) && are_none(components)),
     }
 }
 
@@ -184,12 +148,14 @@ pub fn emit_chosen(
 {
     match subscript {
         Subscript::None => emit_any(code, place, plainly_aimed(site, aim, led)),
-        Subscript::Name { place: _, name } => emit_by_name(code, site, place, name, aim, led),
+        Subscript::Name { place: _, name } => {
+            emit_by_name(name, code, site, place, aim, subscript, led)
+        }
         Subscript::Integer {
             place: _,
             at: _,
             number,
-        } => emit_by_integer(code, site, place, *number, aim, led),
+        } => emit_by_integer(*number, code, site, place, aim, subscript, led),
         Subscript::Parts {
             place: _,
             copies,
@@ -197,12 +163,12 @@ pub fn emit_chosen(
             components,
         } => {
             emit_copies(copies, code, site, place, led.shape.copies)?;
-            let spoken = !are_none(copies);
             if !are_none(arrays) {
-                emit_places(arrays, code, site, place, aim, spoken, led)
+                emit_indexes(arrays, code, site, place, sizes_led(led))?;
             } else {
-                emit_unmarked(components, code, site, place, aim, spoken, led)
+                emit_unmarked(components, code, site, place, aim, sizes_led(led))?;
             }
+            emit_address(code, site, place, aim, subscript, led)
         }
     }
 }
@@ -252,24 +218,25 @@ pub(crate) fn emit_area(
 
 /// Adds the code of the address that a name without a mark chooses: it is a place of the array, where there is one.
 fn emit_by_name(
+    name: &Identifier,
     code: &mut Vec<Instr>,
     site: &Site<'_>,
     place: Place,
-    name: &Identifier,
     aim: Aim,
+    subscript: &Subscript,
     led: Led<'_>,
 ) -> Result<(), Uncoded>
     requires site { IsSite site.now }
-    ensures { Emits (codes.place_code (seen_numbering site.now) (seen_site site.now) code.old.items place aim (codes.name_code (seen_numbering site.now) (seen_site site.now) code.old.items (seen_name name.now)) (seen_led led.entry) (leading.sizes_led (seen_led led.entry))) result code.new.items }
+    ensures { Emits (codes.place_code (seen_numbering site.now) (seen_site site.now) code.old.items place aim (codes.name_code (seen_numbering site.now) (seen_site site.now) code.old.items (seen_name name.now)) (seen_subscript subscript.now) (seen_led led.entry) (leading.sizes_led (seen_led led.entry))) result code.new.items }
 {
     let Some((_, others)) = sizes_led(led).split_first() else {
-        return emit_address(code, site, place, aim, false, true, led);
+        return emit_address(code, site, place, aim, subscript, led);
     };
     if !others.is_empty() {
         return Err(Uncoded::At(place));
     }
     emit_name(code, site, name)?;
-    emit_address(code, site, place, aim, false, true, led)
+    emit_address(code, site, place, aim, subscript, led)
 }
 
 /// Adds an integer in a subscript, where it has 31 bits.
@@ -281,24 +248,25 @@ pub fn emit_integer(code: &mut Vec<Instr>, place: Place, number: u32) -> Result<
 
 /// Adds the code of the address that an integer without a mark chooses: it is a place of the array, where there is one.
 fn emit_by_integer(
+    number: u32,
     code: &mut Vec<Instr>,
     site: &Site<'_>,
     place: Place,
-    number: u32,
     aim: Aim,
+    subscript: &Subscript,
     led: Led<'_>,
 ) -> Result<(), Uncoded>
     requires site { IsSite site.now }
-    ensures { Emits (codes.place_code (seen_numbering site.now) (seen_site site.now) code.old.items place aim (codes.integer_code code.old.items place number) (seen_led led.entry) (leading.sizes_led (seen_led led.entry))) result code.new.items }
+    ensures { Emits (codes.place_code (seen_numbering site.now) (seen_site site.now) code.old.items place aim (codes.integer_code code.old.items place number) (seen_subscript subscript.now) (seen_led led.entry) (leading.sizes_led (seen_led led.entry))) result code.new.items }
 {
     let Some((_, others)) = sizes_led(led).split_first() else {
-        return emit_address(code, site, place, aim, false, true, led);
+        return emit_address(code, site, place, aim, subscript, led);
     };
     if !others.is_empty() {
         return Err(Uncoded::At(place));
     }
     emit_integer(code, place, number)?;
-    emit_address(code, site, place, aim, false, true, led)
+    emit_address(code, site, place, aim, subscript, led)
 }
 
 /// Adds the code of the component of the value on the stack, of data with an array or without one.

@@ -12,7 +12,7 @@ ghost use Rattle.hal_gen_expr.specs.ExpressionCode as codes;
 ghost use Rattle.hal_gen_expr.specs.SeenSites.{seen_site, IsSite};
 ghost use Rattle.hal_gen_expr.specs.Sizes as sizing;
 
-use crate::elements::sizes_named;
+use crate::elements::sizes_reached;
 use crate::leaves::{emit_one, integer_instr};
 use crate::names::referent;
 use crate::site::Site;
@@ -35,9 +35,9 @@ fn size_of(shape: &Shape, sizes: &[u16]) -> u16
 
 /// SIZE of data of this shape, to which names lead.
 fn size_of_shape(path: &[Identifier], shape: &Shape) -> u16
-    ensures { result ≡ meaning.size_of (seen_shape shape.now) (meaning.sizes_named (map seen_name path.now) (seen_shape shape.now)) }
+    ensures { result ≡ meaning.size_of (seen_shape shape.now) (meaning.sizes_reached (map seen_name path.now) (seen_shape shape.now).components) }
 {
-    size_of(shape, sizes_named(path, &shape.components))
+    size_of(shape, sizes_reached(path, &shape.components))
 }
 
 /// SIZE of what a phrase declares, to which names lead.

@@ -1,6 +1,7 @@
 //! The code of subscripts.
 
-ghost use Rattle.std.specs.Prelude.{◌≡◌, ◌&&◌, not, true, map, pos, Ok};
+ghost use Rattle.std.specs.Prelude.{◌≡◌, ◌&&◌, not, map, pos, Ok, Err, if◌then◌else◌};
+ghost use Rattle.std.specs.Option.{is_some};
 ghost use Rattle.hal_tree.specs.Rows.{subscripts};
 ghost use Rattle.hal_tree.specs.SeenExpressions.{seen_position, seen_sub};
 ghost use Rattle.hal_code.specs.declared.instr.Instr.TheVariants as instr;
@@ -8,18 +9,17 @@ ghost use Rattle.hal_constants.specs.Constants.{is_none};
 ghost use Rattle.hal_meaning.specs.Variables as variables;
 ghost use Rattle.hal_agreement.specs.PlacedExpressions as placed;
 ghost use Rattle.hal_gen_expr.specs.Emits.{Emits};
-ghost use Rattle.hal_gen_expr.specs.Emitting.{onwards};
 ghost use Rattle.hal_gen_expr.specs.ExpressionCode as codes;
-ghost use Rattle.hal_gen_expr.specs.Led as leading;
-ghost use Rattle.hal_gen_expr.specs.SeenLed.{seen_led};
 ghost use Rattle.hal_gen_expr.specs.SeenSites.{seen_site, seen_numbering, IsSite};
+ghost use Rattle.hal_gen_expr.specs.Spans.{places_skipped};
+ghost use Rattle.hal_gen_expr.specs.declared.uncoded.Uncoded.TheVariants as uncoded;
 
 use crate::aims::Aim;
 use crate::expressions::{emit_expression, emit_terms};
 use crate::leaves::{emit_one, emit_two, picks};
-use crate::led::{Led, emit_address, sizes_led};
 use crate::references::is_arrayed;
 use crate::site::Site;
+use crate::spans::places_skipped;
 use crate::uncoded::Uncoded;
 use hal_base::Place;
 use hal_code::{Instr, Places};
@@ -71,24 +71,6 @@ pub(crate) fn emit_copies(
     emit_index(first, code, site, place, count)
 }
 
-/// Adds the code of the address that subscripts of the array choose, behind one of the copies where it was spoken of.
-#[cycle(expressions)]
-pub(crate) fn emit_places(
-    subs: &Vec<Sub>,
-    code: &mut Vec<Instr>,
-    site: &Site<'_>,
-    place: Place,
-    aim: Aim,
-    spoken: bool,
-    led: Led<'_>,
-) -> Result<(), Uncoded>
-    requires site { IsSite site.now }
-    ensures { Emits (onwards (codes.indexes_code (seen_numbering site.now) (seen_site site.now) code.old.items place (leading.sizes_led (seen_led led.entry)) (subscripts (map seen_sub subs.now.items))) (λ last. codes.address_code (seen_numbering site.now) (seen_site site.now) last place aim spoken true (seen_led led.entry))) result code.new.items }
-{
-    emit_indexes(subs, code, site, place, sizes_led(led))?;
-    emit_address(code, site, place, aim, spoken, true, led)
-}
-
 /// Whether an array may be left as a whole: where the cells of a shape are aimed at, and it has no subscripts.
 fn leaves_array(aim: Aim, components: &[Sub]) -> bool
     ensures { result ≡ codes.leaves_array aim (subscripts (map seen_sub components.now)) }
@@ -99,7 +81,7 @@ fn leaves_array(aim: Aim, components: &[Sub]) -> bool
     }
 }
 
-/// Adds the code of the address that subscripts without a mark choose, behind one of the copies where it was spoken of: they are the array's, where there is one.
+/// Adds the code of subscripts without a mark, where they are those of an array of these sizes: an array without any may be left as a whole.
 #[cycle(expressions)]
 pub(crate) fn emit_unmarked(
     components: &Vec<Sub>,
@@ -107,25 +89,22 @@ pub(crate) fn emit_unmarked(
     site: &Site<'_>,
     place: Place,
     aim: Aim,
-    spoken: bool,
-    led: Led<'_>,
+    sizes: &[u16],
 ) -> Result<(), Uncoded>
     requires site { IsSite site.now }
-    ensures { Emits (onwards (codes.unmarked_code (variables.is_arrayed (leading.sizes_led (seen_led led.entry)) && not (codes.leaves_array aim (subscripts (map seen_sub components.now.items)))) (codes.indexes_code (seen_numbering site.now) (seen_site site.now) code.old.items place (leading.sizes_led (seen_led led.entry)) (subscripts (map seen_sub components.now.items))) (Ok code.old.items)) (λ last. codes.address_code (seen_numbering site.now) (seen_site site.now) last place aim spoken (not (is_none (subscripts (map seen_sub components.now.items)))) (seen_led led.entry))) result code.new.items }
+    ensures { Emits (codes.unmarked_code (variables.is_arrayed sizes.now && not (codes.leaves_array aim (subscripts (map seen_sub components.now.items)))) (codes.indexes_code (seen_numbering site.now) (seen_site site.now) code.old.items place sizes.now (subscripts (map seen_sub components.now.items))) (Ok code.old.items)) result code.new.items }
 {
-    let indexed = !are_none(components);
-    if is_arrayed(sizes_led(led)) && !leaves_array(aim, components) {
-        emit_indexes(components, code, site, place, sizes_led(led))?;
-        emit_address(code, site, place, aim, spoken, indexed, led)
+    if is_arrayed(sizes) && !leaves_array(aim, components) {
+        emit_indexes(components, code, site, place, sizes)
     } else {
-        emit_address(code, site, place, aim, spoken, indexed, led)
+        Ok(())
     }
 }
 
-/// Adds the code of subscripts of an array of these sizes, one place for each.
+/// Adds the code of subscripts of an array of these sizes, one for each.
 #[cycle(expressions)]
 #[tactic(auto, unfolding(hal_tree::specs::Rows::subscripts))]
-fn emit_indexes(
+pub(crate) fn emit_indexes(
     subs: &Vec<Sub>,
     code: &mut Vec<Instr>,
     site: &Site<'_>,
@@ -157,7 +136,27 @@ fn size_instr(size: u16) -> Instr
     Instr::Int(i32::from(size))
 }
 
-/// Adds the code of one place of so many; subscripts that choose several have none.
+/// Whether a subscript chooses several of so many places, which are constant and lie inside: it has no code.
+fn skips_places(sub: &Sub, site: &Site<'_>, size: u16) -> bool
+    requires site { IsSite site.now }
+    ensures { result ≡ is_some (places_skipped (seen_site site.now) size (seen_sub sub.now)) }
+{
+    places_skipped(sub, size, site).is_some()
+}
+
+/// Adds no code for a subscript that chooses several places, which are constant.
+fn emit_several(sub: &Sub, site: &Site<'_>, place: Place, size: u16) -> Result<(), Uncoded>
+    requires site { IsSite site.now }
+    ensures { result ≡ (if is_some (places_skipped (seen_site site.now) size (seen_sub sub.now)) then Ok tt else Err (uncoded.At place)) }
+{
+    if skips_places(sub, site, size) {
+        Ok(())
+    } else {
+        Err(Uncoded::At(place))
+    }
+}
+
+/// Adds the code of one place of so many; several, which are constant, have none.
 #[cycle(expressions)]
 #[tactic(auto, using(hal_tree::proofs::MadeExpressions::made_every, hal_tree::proofs::MadeExpressions::made_one, hal_tree::proofs::MadeExpressions::made_range, hal_tree::proofs::MadeExpressions::made_portion))]
 fn emit_index(
@@ -172,9 +171,9 @@ fn emit_index(
 {
     match sub {
         Sub::One { position } => emit_position(position, code, site, place, size_instr(size)),
-        Sub::Every { .. } => Err(Uncoded::At(place)),
-        Sub::Range { .. } => Err(Uncoded::At(place)),
-        Sub::Portion { .. } => Err(Uncoded::At(place)),
+        Sub::Every { place: _ } => emit_several(sub, site, place, size),
+        Sub::Range { first: _, last: _ } => emit_several(sub, site, place, size),
+        Sub::Portion { count: _, first: _ } => emit_several(sub, site, place, size),
     }
 }
 

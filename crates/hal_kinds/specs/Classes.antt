@@ -1,8 +1,8 @@
 -- The classes of expressions. None where an operand is wrong or a name unknown.
-use Rattle.std.specs.Prelude.{ℕ, Bool, true, false, ◌&&◌, List, Option, Some, None, slice_get, if◌then◌else◌}
+use Rattle.std.specs.Prelude.{ℕ, Bool, true, false, ◌&&◌, List, [], Option, Some, None, slice_get, if◌then◌else◌}
 use Rattle.std.specs.Option.{option_and_then}
 use Rattle.hal_grammar.specs.Leaves.{Naming, LiteralValue, Integer, Text, Bits, True, False, On, Off, Conversion, ToInteger, ToBits, ToText}
-use Rattle.hal_grammar.specs.Expressions.{Expression, Or, And, Compare, Cat, Sum, Product, Power, Not, Literal, Decimal, Referred, Called, Convert, Parenthesis, Expressions, NoExpressions, MoreExpressions, Reference, Refers, Subscript}
+use Rattle.hal_grammar.specs.Expressions.{Expression, Or, And, Compare, Cat, Sum, Product, Power, Not, Literal, Decimal, Referred, Called, Convert, Parenthesis, Expressions, NoExpressions, MoreExpressions, Reference, Refers, Subscript, Unsubscripted}
 use Rattle.hal_grammar.specs.Declarations.{Kind, EventKind, StructureKind}
 use Rattle.hal_grammar.specs.Units.{Head, Program, Compool, Task, Procedure, Function, Returns, NoKind, HasKind}
 use Rattle.hal_phrases.specs.Phrases.{Node, Phrase, OfTemplate, OfUnit, OfItem, OfTemporaryGroup}
@@ -56,13 +56,21 @@ class_at ps p path subscript (OfTemplate name head declarations) = class_of_head
 class_at ps p path subscript (OfUnit name head declarations) = class_of_head head
 class_at ps p path subscript other = class_of_data ps p path subscript other
 
--- a reference
-unfoldable pub class_of_reference : List Phrase → ℕ → Reference → Option Class
-class_of_reference ps block (Refers place name path subscript) =
+-- a name, with further names and a subscript
+abbrev pub class_of_path : List Phrase → ℕ → List ℕ → List Naming → Subscript → Option Class
+class_of_path ps block name path subscript =
     elim (means ps block name) [
       | None ↦ if is_nil path then class_of_builtin (builtin_named name) else None
       | Some k ↦ option_and_then (λ (p : Phrase). class_at ps p path subscript p.node) (slice_get ps k)
     ]
+
+-- a name alone
+abbrev pub class_of_name : List Phrase → ℕ → List ℕ → Option Class
+class_of_name ps block name = class_of_path ps block name [] Unsubscripted
+
+-- a reference
+unfoldable pub class_of_reference : List Phrase → ℕ → Reference → Option Class
+class_of_reference ps block (Refers place name path subscript) = class_of_path ps block name path subscript
 
 -- what a built-in function with a list gives
 unfoldable pub class_of_function : Builtin → Option Class

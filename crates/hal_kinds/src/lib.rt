@@ -24,4 +24,4 @@ pub use named::{
     class_of_type, component_of, data_at, data_named, is_event_type, is_parameter,
     is_structure_type, part_data,
 };
-pub use references::{class_of_head, class_of_reference, class_of_returns};
+pub use references::{class_of_head, class_of_name, class_of_reference, class_of_returns};

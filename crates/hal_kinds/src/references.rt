@@ -16,6 +16,7 @@ use hal_names::Names;
 use hal_phrases::{Node, Phrase};
 use hal_scope::{Builtin, Form, builtin_named};
 use hal_tree::{Head, Identifier, Reference, Returns, Subscript, Type};
+use hal_words::Name;
 
 /// A result of this type; a function gives no event and no structure.
 #[tactic(auto, using(hal_tree::proofs::MadeDeclarations::made_integer_type, hal_tree::proofs::MadeDeclarations::made_boolean_type, hal_tree::proofs::MadeDeclarations::made_event_type, hal_tree::proofs::MadeDeclarations::made_bit_type, hal_tree::proofs::MadeDeclarations::made_character_type, hal_tree::proofs::MadeDeclarations::made_structure_type), unfolding(crate::specs::Classes::class_of_result))]
@@ -98,22 +99,51 @@ fn class_at(
     }
 }
 
-/// The class of a reference in this block; None where it has none (language document, Kinds).
-#[tactic(auto, using(hal_tree::proofs::MadeExpressions::made_reference, hal_scope::proofs::Lists::nil_seen), unfolding(crate::specs::Classes::class_of_reference))]
-pub fn class_of_reference(names: &Names<'_>, block: usize, reference: &Reference) -> Option<Class>
-    ensures { result ≡ classes.class_of_reference (seen_names names.now) block (seen_reference reference.now) }
+/// The class of a name with further names and a subscript in this block.
+#[tactic(auto, using(hal_scope::proofs::Lists::nil_seen))]
+fn class_of_path(
+    names: &Names<'_>,
+    block: usize,
+    name: &Name,
+    path: &[Identifier],
+    subscript: &Subscript,
+) -> Option<Class>
+    ensures { result ≡ classes.class_of_path (seen_names names.now) block name.now (map seen_name path.now) (seen_subscript subscript.now) }
 {
-    match names.means(block, &reference.name) {
+    match names.means(block, name) {
         None => {
-            if reference.further.is_empty() {
-                class_of_builtin(builtin_named(&reference.name))
+            if path.is_empty() {
+                class_of_builtin(builtin_named(name))
             } else {
                 None
             }
         }
         Some(number) => {
             let phrase = names.phrase(number)?;
-            class_at(names, &phrase, &reference.further, &reference.subscript)
+            class_at(names, &phrase, path, subscript)
         }
     }
+}
+
+/// The class of a name alone in this block; None where it has none (language document, Kinds).
+#[tactic(auto, using(hal_tree::proofs::MadeExpressions::made_unsubscripted))]
+pub fn class_of_name(names: &Names<'_>, block: usize, name: &Name) -> Option<Class>
+    ensures { result ≡ classes.class_of_name (seen_names names.now) block name.now }
+{
+    let whole = Subscript::None;
+    class_of_path(names, block, name, &[], &whole)
+}
+
+/// The class of a reference in this block; None where it has none (language document, Kinds).
+#[tactic(auto, using(hal_tree::proofs::MadeExpressions::made_reference), unfolding(crate::specs::Classes::class_of_reference))]
+pub fn class_of_reference(names: &Names<'_>, block: usize, reference: &Reference) -> Option<Class>
+    ensures { result ≡ classes.class_of_reference (seen_names names.now) block (seen_reference reference.now) }
+{
+    class_of_path(
+        names,
+        block,
+        &reference.name,
+        &reference.further,
+        &reference.subscript,
+    )
 }

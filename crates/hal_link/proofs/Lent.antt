@@ -6,11 +6,8 @@ use Rattle.std.proofs.Math.Seq.{drop-cons}
 use Rattle.hal_elements.proofs.Repeated.{behind}
 use Rattle.hal_own_places.specs.declared.place.Place as rust-place
 use Rattle.hal_own_places.specs.SeenPlaces.{seen_place}
-use Rattle.hal_code.specs.declared.row.OwnPlace.{OwnPlace}
-use Rattle.hal_code.specs.declared.row.Run.{Run}
 use Rattle.hal_meaning.specs.Places.{Place}
 use Rattle.hal_gen_expr.specs.SeenSites.{lent_place}
-use Rattle.hal_link.specs.Linking.{alone}
 
 -- one, and those behind it
 pub next_one : {X : Type 0} (xs : List X) (i : ℕ) (x : X) → i < length xs → x ≡ get_or xs i x → drop i xs ≡ x ∷ drop (i + 1) xs
@@ -23,14 +20,4 @@ place_more before after all places i x within is more so_far =
     ap (λ list. list ++ map seen_place (drop (i + 1) places)) more
     ∙ behind before (seen_place x ∷ []) (map seen_place (drop (i + 1) places))
     ∙ ap (λ list. before ++ map seen_place list) (sym (next_one places i x within is))
-    ∙ so_far
-
--- a row behind those so far
-pub row_more : (row_of : Place → OwnPlace) (before after all : List (Run OwnPlace)) (places : List (Bor rust-place.Place)) (i : ℕ) (b : Bor rust-place.Place) (row : OwnPlace) → i < length places → b ≡ get_or places i b
-    → row ≡ row_of (lent_place b) → after ≡ before ++ (alone row ∷ []) → before ++ map alone (map row_of (map lent_place (drop i places))) ≡ all
-    → after ++ map alone (map row_of (map lent_place (drop (i + 1) places))) ≡ all
-row_more row_of before after all places i b row within is row_is more so_far =
-    ap (λ list. list ++ map alone (map row_of (map lent_place (drop (i + 1) places)))) (more ∙ ap (λ one. before ++ (alone one ∷ [])) row_is)
-    ∙ behind before (alone (row_of (lent_place b)) ∷ []) (map alone (map row_of (map lent_place (drop (i + 1) places))))
-    ∙ ap (λ list. before ++ map alone (map row_of (map lent_place list))) (sym (next_one places i b within is))
     ∙ so_far

@@ -16,13 +16,13 @@ use Rattle.hal_code.specs.declared.row.Run.{Run}
 use Rattle.hal_code.specs.declared.row.View.{View}
 use Rattle.hal_code.specs.Images as machine
 use Rattle.hal_code.specs.Images.{expanded, start_of, tables_of, places_of}
-use Rattle.hal_link.specs.Linking.{Linked, alone, own_row, processes_from, known_start, image_with}
+use Rattle.hal_runs.specs.Joined.{rows_joined}
+use Rattle.hal_runs.specs.Same.{same_cell, same_place}
+use Rattle.hal_runs.proofs.Expanded.{rows_again}
+use Rattle.hal_runs.proofs.Same.{cell_same, place_same}
+use Rattle.hal_link.specs.Linking.{Linked, own_row, processes_from, known_start, image_with}
 use Rattle.hal_link.specs.Outlines.{Outline, outlines_of, block_of}
 use Rattle.hal_link.specs.Shapes.{shapes_of, reference_shape}
-
-expanded_alone : {T : Type 0} (rows : List T) → expanded (map alone rows) ≡ rows
-expanded_alone [] = refl
-expanded_alone (row ∷ rows) = ap (λ l. row ∷ l) (expanded_alone rows)
 
 starts_same : (starts : List EventStart) → map start_of (map known_start starts) ≡ starts
 starts_same [] = refl
@@ -35,13 +35,13 @@ names_same s os p (name ∷ names) = ap (λ l. name ∷ l) (names_same s os (suc
 pub tables_same : (s : Set) (views : List View) (one : Linked) → tables_of (image_with s views one) ≡ s.tables
 tables_same s views one =
     subst (λ cells. tables_of (image_with s views one) ≡ (record { cells = cells; processes = s.tables.processes; first = s.tables.first; events = s.tables.events; expressions = s.tables.expressions; names = s.tables.names }))
-    (expanded_alone s.tables.cells)
+    (rows_again same_cell cell_same s.tables.cells)
     (subst (λ names. tables_of (image_with s views one) ≡
-    (record { cells = expanded (map alone s.tables.cells); processes = names; first = s.tables.first; events = s.tables.events; expressions = s.tables.expressions; names = s.tables.names }))
+    (record { cells = expanded (rows_joined same_cell s.tables.cells); processes = names; first = s.tables.first; events = s.tables.events; expressions = s.tables.expressions; names = s.tables.names }))
     (names_same s (outlines_of s) 0 s.tables.processes)
     (subst (λ events. tables_of (image_with s views one) ≡
     (record {
-      cells = expanded (map alone s.tables.cells);
+      cells = expanded (rows_joined same_cell s.tables.cells);
       processes = map (λ (p : Process). p.name) (processes_from s (outlines_of s) 0 s.tables.processes);
       first = s.tables.first;
       events = events;
@@ -52,7 +52,7 @@ tables_same s views one =
 
 -- the row of the process with this number
 abbrev pub row_of : Set → List Outline → List ℕ → ℕ → Process
-row_of s os name p = record { name = name; block = block_of os p; places = map alone (map (own_row s (shapes_of s)) (places_of_process s p)) }
+row_of s os name p = record { name = name; block = block_of os p; places = rows_joined same_place (map (own_row s (shapes_of s)) (places_of_process s p)) }
 
 pub process_there : (s : Set) (os : List Outline) (q p : ℕ) (names : List (List ℕ)) (name : List ℕ) → slice_get names q ≡ Some name → slice_get (processes_from s os p names) q ≡ Some (row_of s os name (p + q))
 process_there s os q p [] name is = absurd (cc)
@@ -83,4 +83,4 @@ places_begin s views one p name is =
     let there = process_there s (outlines_of s) p 0 s.tables.processes name is in
     let number : 0 + p ≡ p = omega arith in
     ap (λ (o : Option Process). map machine.held_first (elim o [ None ↦ [] | Some process ↦ expanded no_common ++ expanded process.places ])) there
-    ∙ (ap (map machine.held_first) (expanded_alone (map (own_row s (shapes_of s)) (places_of_process s (0 + p)))) ∙ (held_same s (places_of_process s (0 + p)) ∙ ap (λ k. map tree.held_first (places_of_process s k)) number))
+    ∙ (ap (map machine.held_first) (rows_again same_place place_same (map (own_row s (shapes_of s)) (places_of_process s (0 + p)))) ∙ (held_same s (places_of_process s (0 + p)) ∙ ap (λ k. map tree.held_first (places_of_process s k)) number))

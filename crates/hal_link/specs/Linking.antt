@@ -16,9 +16,10 @@ use Rattle.hal_code.specs.declared.row.OwnPlace.{OwnPlace}
 use Rattle.hal_code.specs.declared.row.OwnPlace.TheVariants as place
 use Rattle.hal_code.specs.declared.row.Process.{Process}
 use Rattle.hal_code.specs.declared.row.ResultKind.TheVariants as result
-use Rattle.hal_code.specs.declared.row.Run.{Run}
 use Rattle.hal_code.specs.declared.row.View.{View}
 use Rattle.hal_agreement.specs.Sites.{Site, site_of}
+use Rattle.hal_runs.specs.Joined.{rows_joined}
+use Rattle.hal_runs.specs.Same.{same_cell, same_place}
 use Rattle.hal_gen_expr.specs.Emitting.{Emitted}
 use Rattle.hal_gen_expr.specs.Numbering.{Numbering}
 use Rattle.hal_link.specs.Outlines.{Outline, outlines_of, block_of, numbering_of}
@@ -87,10 +88,6 @@ unfoldable pub with_outlines : Set → Shapes → List View → List Outline →
 with_outlines s shapes views [] so_far = Ok so_far
 with_outlines s shapes views (o ∷ os) so_far = and_then (with_outline s shapes views o so_far) (with_outlines s shapes views os)
 
--- a run of one row
-abbrev pub alone : {T : Type 0} → T → Run T
-alone row = record { repeat = 1; row = row }
-
 -- the row of an own place; a reference is to data of the shape of its parameter
 abbrev pub own_row : Set → Shapes → Place → OwnPlace
 own_row s shapes one = elim one.kind [ None ↦ place.Reference (reference_shape s shapes one.owner) | Some k ↦ place.Data k one.initial ]
@@ -98,14 +95,14 @@ own_row s shapes one = elim one.kind [ None ↦ place.Reference (reference_shape
 -- the rows of processes from this one on
 abbrev pub processes_from : Set → List Outline → ℕ → List (List ℕ) → List Process
 processes_from s os p [] = []
-processes_from s os p (name ∷ names) = record { name = name; block = block_of os p; places = map alone (map (own_row s (shapes_of s)) (places_of_process s p)) } ∷ processes_from s os (suc p) names
+processes_from s os p (name ∷ names) = record { name = name; block = block_of os p; places = rows_joined same_place (map (own_row s (shapes_of s)) (places_of_process s p)) } ∷ processes_from s os (suc p) names
 
 abbrev pub known_start : EventStart → Choice EventStart
 known_start start = choice.Known start
 
 abbrev pub image_with : Set → List View → Linked → ImageParts
 image_with s views one = record {
-  cells = map alone s.tables.cells;
+  cells = rows_joined same_cell s.tables.cells;
   events = map known_start s.tables.events;
   common = [];
   processes = processes_from s (outlines_of s) 0 s.tables.processes;

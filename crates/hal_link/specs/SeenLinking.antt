@@ -9,7 +9,9 @@ use Rattle.hal_set.specs.SeenSets.{seen_set}
 use Rattle.hal_code.specs.declared.row.Process.{Process}
 use Rattle.hal_meaning.specs.Sets.{Set}
 use Rattle.hal_meaning.specs.Runs.{places_of_process}
-use Rattle.hal_link.specs.Linking.{alone, own_row}
+use Rattle.hal_runs.specs.Joined.{rows_joined}
+use Rattle.hal_runs.specs.Same.{same_place}
+use Rattle.hal_link.specs.Linking.{own_row}
 use Rattle.hal_link.specs.Outlines.{Outline, block_of}
 use Rattle.hal_link.specs.Shapes.{shapes_of}
 
@@ -19,7 +21,7 @@ IsLaid s = seen_own s.layout.now.own ≡ own_places (seen_set s).phrases (seen_s
 
 -- the row of a process
 abbrev pub process_row : Set → List Outline → ℕ → List ℕ → Process
-process_row s os p name = record { name = name; block = block_of os p; places = map alone (map (own_row s (shapes_of s)) (places_of_process s p)) }
+process_row s os p name = record { name = name; block = block_of os p; places = rows_joined same_place (map (own_row s (shapes_of s)) (places_of_process s p)) }
 
 -- the rows of processes from this one on
 unfoldable pub rows_from : Set → List Outline → ℕ → List (List ℕ) → List Process

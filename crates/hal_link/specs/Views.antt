@@ -1,7 +1,7 @@
 -- The views that the code of a set names: one for each cell and place to which names in the units of its processes lead, for each own place of a DO FOR, for the first
 -- one of a DO CASE, for the elements among which subscripts choose, and for the cells of whole arguments and of ASSIGN arguments, each once, in the order of these
 -- names.
-use Rattle.std.specs.Prelude.{ℕ, ◌+◌, ◌==◌, map, Bool, true, List, [], ◌∷◌, ◌++◌, Option, Some, None, if◌then◌else◌}
+use Rattle.std.specs.Prelude.{ℕ, ◌+◌, ◌==◌, map, List, [], ◌∷◌, ◌++◌, Option, Some, None, if◌then◌else◌}
 use Rattle.std.specs.List.{list_any}
 use Rattle.std.specs.Option.{is_some}
 use Rattle.hal_values.specs.declared.value.Kind.{Kind}
@@ -26,7 +26,7 @@ use Rattle.hal_referents.specs.Referents.{Referent, DataOf, BlockOf}
 use Rattle.hal_gen_expr.specs.declared.elements.Element.{Element}
 use Rattle.hal_gen_expr.specs.Elements.{element_in}
 use Rattle.hal_gen_expr.specs.ExpressionCode.{is_plain}
-use Rattle.hal_gen_expr.specs.Led.{Led, led_by, first_led, dimensions_led, speaks, indexes}
+use Rattle.hal_gen_expr.specs.Led.{Led, led_by, rows_left, first_chosen}
 use Rattle.hal_gen_expr.specs.Numbering.{base_of, row_of, cell_view, is_cell_view, area_view, is_area_view, shape_in}
 use Rattle.hal_gen_expr.specs.Referents.{referent}
 use Rattle.hal_gen_expr.specs.Shapes.{runs_of}
@@ -49,13 +49,14 @@ with_referent site views path (DataOf k way shape) = if is_some shape.copies the
 with_referent site views path other = views
 
 -- that of elements among which a subscript chooses, where it is data
-abbrev pub with_led : Site → List View → Bool → Option Led → List View
-with_led site views spoken None = views
-with_led site views spoken (Some l) = with_cell (map row_of (dimensions_led spoken true l)) (first_led l).kind views (base_of site l.declared (first_led l).before l.stored)
+abbrev pub with_led : Site → List View → Subscript → Option Led → List View
+with_led site views subscript None = views
+with_led site views subscript (Some l) =
+    with_cell (map row_of (rows_left subscript l)) (first_chosen site subscript l).kind views (base_of site l.declared (first_chosen site subscript l).before l.stored)
 
 abbrev pub with_reference : Site → List View → Reference → List View
 with_reference site views (Refers place name path subscript) =
-    if is_plain subscript then with_referent site views path (referent site name) else with_led site views (speaks subscript) (led_by path (referent site name))
+    if is_plain subscript then with_referent site views path (referent site name) else with_led site views subscript (led_by path (referent site name))
 
 -- the view of the cells of the shape with this number in these dimensions, which begins there, unless it is among them
 abbrev pub with_shape : List Dimension → List View → Option Base → Option ℕ → List View
@@ -67,7 +68,7 @@ with_shape rows views (Some from) (Some shape) = if list_any (is_area_view from 
 abbrev pub with_area : Shapes → Site → List (Run Kind) → List View → Subscript → Option Led → List View
 with_area shapes site runs views subscript None = views
 with_area shapes site runs views subscript (Some l) =
-    with_shape (map row_of (dimensions_led (speaks subscript) (indexes subscript) l)) views (base_of site l.declared (first_led l).before l.stored) (shape_in shapes runs)
+    with_shape (map row_of (rows_left subscript l)) views (base_of site l.declared (first_chosen site subscript l).before l.stored) (shape_in shapes runs)
 
 -- that of a reference, and of an argument for a parameter
 abbrev pub with_referred : Shapes → Site → List (Run Kind) → List View → Reference → List View

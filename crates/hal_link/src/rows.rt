@@ -4,11 +4,14 @@ ghost use Rattle.std.specs.Prelude.{◌≡◌, ◌∷◌, ◌++◌, [], IfOk, On
 ghost use Rattle.hal_own_places.specs.SeenPlaces.{seen_place};
 ghost use Rattle.hal_set.specs.SeenSets.{seen_set};
 ghost use Rattle.hal_gen_expr.specs.SeenSites.{lent_place};
+ghost use Rattle.hal_runs.specs.Joined.{rows_joined};
+ghost use Rattle.hal_runs.specs.Same.{same_cell, same_place};
 ghost use Rattle.hal_link.specs.Linking as linking;
 
 use crate::shapes::reference_shape;
 use hal_code::{Choice, OwnPlace, Run};
 use hal_own_places::Place;
+use hal_runs::push_run;
 use hal_set::Set;
 use hal_values::{Cell, EventStart, Kind, Listing};
 use std::alloc::{AllocError, Global};
@@ -24,17 +27,15 @@ fn copied(cell: &Cell) -> Cell
     }
 }
 
-/// The rows of shared cells, a run for each.
-#[tactic(auto, using(hal_elements::proofs::Repeated::behind, hal_elements::proofs::Repeated::none_behind))]
+/// The rows of shared cells.
+#[tactic(auto, unfolding(hal_runs::specs::Joined::with_rows))]
 pub(crate) fn cell_rows(alloc: Global, cells: &[Cell]) -> Result<Listing<Run<Cell>>, AllocError>
-    ensures { IfOk result (λ rows. rows ≡ map linking.alone cells.now) }
+    ensures { IfOk result (λ rows. rows ≡ rows_joined same_cell cells.now) }
 {
     let mut rows = Vec::new(alloc);
     for cell in cells {
-        rows.push(Run {
-            repeat: 1,
-            row: copied(cell),
-        })?;
+        let row = copied(cell);
+        push_run(&mut rows, Run { repeat: 1, row })?;
     }
     Ok(Listing::new(rows))
 }
@@ -72,20 +73,20 @@ fn own_row(
     }
 }
 
-/// The rows of own places, a run for each.
-#[tactic(auto, using(hal_elements::proofs::Repeated::behind, hal_elements::proofs::Repeated::none_behind))]
+/// The rows of own places.
+#[tactic(auto, unfolding(hal_runs::specs::Joined::with_rows))]
 pub(crate) fn place_rows(
     alloc: Global,
     set: &Set<'_>,
     shapes: &[Listing<Run<Kind>>],
     places: &[&Place],
 ) -> Result<Listing<Run<OwnPlace>>, AllocError>
-    ensures { IfOk result (λ rows. rows ≡ map linking.alone (map (linking.own_row (seen_set set.now) shapes.now) (map lent_place places.now))) }
+    ensures { IfOk result (λ rows. rows ≡ rows_joined same_place (map (linking.own_row (seen_set set.now) shapes.now) (map lent_place places.now))) }
 {
     let mut rows = Vec::new(alloc);
     for place in places {
         let row = own_row(alloc, set, shapes, place)?;
-        rows.push(Run { repeat: 1, row })?;
+        push_run(&mut rows, Run { repeat: 1, row })?;
     }
     Ok(Listing::new(rows))
 }

@@ -19,9 +19,9 @@ use hal_cells::Storing;
 use hal_code::{Base, Dimension, Run, Target, View};
 use hal_gen::within_block;
 use hal_gen_expr::{
-    Element, Led, Site, base_of, dimensions_led, element_named, first_led, indexes, inputs_at,
-    is_area_view, is_cell_view, is_plain, led_by, outputs_at, parameter_named, parameter_runs,
-    referent, shape_in, speaks,
+    Element, Led, Site, base_of, element_named, first_chosen, inputs_at, is_area_view,
+    is_cell_view, is_plain, led_by, outputs_at, parameter_named, parameter_runs, referent,
+    rows_left, shape_in,
 };
 use hal_phrases::{Node, Phrase, Role};
 use hal_referents::{Meant, Referent};
@@ -131,14 +131,14 @@ fn push_meant(
 fn push_led(
     into: &mut Vec<View>,
     site: &Site<'_>,
-    spoken: bool,
+    subscript: &Subscript,
     led: Led<'_>,
 ) -> Result<(), AllocError>
     requires site { IsSite site.now }
-    ensures { OnOk result (into.new.items ≡ views.with_led (seen_site site.now) into.old.items spoken (Some (seen_led led.entry))) }
+    ensures { OnOk result (into.new.items ≡ views.with_led (seen_site site.now) into.old.items (seen_subscript subscript.now) (Some (seen_led led.entry))) }
 {
-    let rows = dimensions_led(site.alloc, spoken, true, led)?;
-    let one = first_led(led);
+    let rows = rows_left(site.alloc, subscript, led)?;
+    let one = first_chosen(subscript, led, site);
     let from = base_of(site, led.declared, led.stored, one.before);
     push_cell(into, rows, one.kind, from)
 }
@@ -159,7 +159,7 @@ fn push_reference(
     }
     match led_by(&reference.further, meant) {
         None => Ok(()),
-        Some(led) => push_led(into, site, speaks(&reference.subscript), led),
+        Some(led) => push_led(into, site, &reference.subscript, led),
     }
 }
 
@@ -210,8 +210,8 @@ fn push_area(
     requires site { IsSite site.now }
     ensures { OnOk result (into.new.items ≡ views.with_area site.now.shapes.now (seen_site site.now) runs.now into.old.items (seen_subscript subscript.now) (Some (seen_led led.entry))) }
 {
-    let rows = dimensions_led(site.alloc, speaks(subscript), indexes(subscript), led)?;
-    let one = first_led(led);
+    let rows = rows_left(site.alloc, subscript, led)?;
+    let one = first_chosen(subscript, led, site);
     let from = base_of(site, led.declared, led.stored, one.before);
     push_shape(into, rows, from, shape_in(site.shapes, runs))
 }

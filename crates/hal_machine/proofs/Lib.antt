@@ -1,6 +1,7 @@
-mod Finding
+mod InStep
 mod Mapping
 mod Stuck
+mod Returning
 mod Depths
 mod TakenTops
 mod Texts

@@ -1,3 +1,5 @@
+pub mod Stacks
+pub mod Blocks
 pub mod Seen
 pub mod Fitting
 pub mod Tops

@@ -1,23 +1,22 @@
 //! Instructions that say where control goes on, calls, and entries for errors.
 
-ghost use Rattle.std.specs.Prelude.{◌≡◌, ◌<◌, ◌-◌, ◌^◌, suc, [], ◌∷◌, Some, OnOk, if◌then◌else◌};
-ghost use Rattle.hal_values.specs.declared.value.Value.{Value};
+ghost use Rattle.std.specs.Prelude.{◌≡◌, ◌<◌, ◌-◌, ◌^◌, suc, [], ◌∷◌, true, false, Some, OnOk, if◌then◌else◌};
 ghost use Rattle.hal_values.specs.Answers.{error};
 ghost use Rattle.hal_values.specs.Searching.{with_entry, without};
-ghost use Rattle.hal_code.specs.declared.choice.Choice.TheVariants as choice;
-ghost use Rattle.hal_code.specs.Controlling.{zero_of, with_result, calling, returned, act_jump_not, act_turn, called, act_return, selector_of, side_of, act_of, act_on, act_off};
+ghost use Rattle.hal_code.specs.Controlling.{zero_of, with_result, calling, act_jump_not, act_turn, called, act_return, selector_of, side_of, act_of, act_on, act_off};
 ghost use Rattle.hal_code.specs.Asking.{act_open, act_close};
 ghost use Rattle.hal_code.specs.Cores as cores;
-ghost use Rattle.hal_code.specs.Cores.{going, with_entries, Moves};
+ghost use Rattle.hal_code.specs.Cores.{going, with_entries, Val, Moves};
 ghost use Rattle.hal_code.specs.Raising.{raised};
-ghost use Rattle.hal_machine.specs.Seen.{core_seen, stack_seen, setting_seen, return_seen, step_seen, with_frame, Does};
+ghost use Rattle.hal_machine.specs.Blocks.{Wants};
+ghost use Rattle.hal_machine.specs.Seen.{core_seen, stack_seen, setting_seen, step_seen, Does};
 
-use crate::found::are_same;
-use crate::machine::{Frame, Machine, Return, Setting};
+use crate::back::Return;
+use crate::machine::{Machine, Setting};
 use crate::operands::{Operands, Slot};
 use crate::step::{Rest, Stepped, Wait};
-use hal_code::{Block, Choice, EventChange, Response, ResultKind};
-use hal_values::{Act, Entry, ErrNo, Request, Selector, Side, Text};
+use hal_code::{Block, EventChange, Response};
+use hal_values::{Act, Entry, ErrNo, Request, Selector, Side, Value};
 use std::alloc::AllocError;
 
 /// The turns of an UPDATE block are used up.
@@ -143,23 +142,6 @@ impl Machine {
         self.raised(setting, ErrNo { group, number })
     }
 
-    /// The entry with this selector goes.
-    fn without_entry(&mut self, selector: Selector)
-        ensures { core_seen self.new ≡ with_entries (without selector self.old.entries.items) (core_seen self.old) }
-    {
-        self.entries
-            .retain(|entry: &Entry| !are_same(selector, entry.selector));
-    }
-
-    /// The entry is the latest one.
-    fn set_entry(&mut self, entry: Entry) -> Result<(), AllocError>
-        ensures { OnOk result (core_seen self.new ≡ with_entries (with_entry entry self.old.entries.items) (core_seen self.old)) }
-    {
-        self.without_entry(entry.selector);
-        self.entries.insert(0, entry)?;
-        Ok(())
-    }
-
     /// ON, of an entry.
     pub fn on(
         &mut self,
@@ -168,9 +150,9 @@ impl Machine {
         act: Act,
     ) -> Result<Stepped, AllocError>
         requires { self.old.at < 2 ^ 64 - 1 }
-        ensures { Does setting.now.image.now result self.new (Moves (with_entries (with_entry (record { selector = selector; act = act }) self.old.entries.items) (going (suc self.old.at) (stack_seen self.old.operands) (core_seen self.old)))) }
+        ensures { Does setting.now.image.now result self.new (Moves (with_entries (with_entry (record { selector = selector; act = act }) (core_seen self.old).entries) (going (suc self.old.at) (stack_seen self.old.operands) (core_seen self.old)))) }
     {
-        self.set_entry(Entry { selector, act })?;
+        self.blocks.set(Entry { selector, act })?;
         self.at += 1;
         Ok(Stepped::Moves)
     }
@@ -180,24 +162,20 @@ impl Machine {
         requires { self.old.at < 2 ^ 64 - 1 }
         ensures { step_seen setting.now.image.now result self.new ≡ act_off group number (core_seen self.old) }
     {
-        self.without_entry(selector_of(group, number));
+        self.blocks.off(selector_of(group, number));
         self.at += 1;
         Stepped::Moves
     }
 
     /// The UPDATE block ends.
+    #[tactic(auto, using(crate::proofs::Returning::not_updating))]
     pub fn close(&mut self, setting: &Setting<'_>) -> Result<Stepped, AllocError>
         requires { self.old.at < 2 ^ 64 - 1 }
         ensures { Does setting.now.image.now result self.new (act_close (core_seen self.old).frames (core_seen self.old)) }
     {
-        let Some(frame) = self.frames.pop() else {
-            return Ok(self.stuck(setting));
-        };
-        if frame.back.is_some() {
-            self.frames.push(frame)?;
+        if !self.blocks.close() {
             return Ok(self.stuck(setting));
         }
-        self.entries = frame.entries;
         self.groups = None;
         self.at += 1;
         Ok(Stepped::Moves)
@@ -208,11 +186,7 @@ impl Machine {
         requires { self.old.at < 2 ^ 64 - 1 }
         ensures { Does setting.now.image.now result self.new (act_open groups (core_seen self.old)) }
     {
-        let entries = std::mem::replace(&mut self.entries, Vec::new(setting.alloc));
-        self.frames.push(Frame {
-            entries,
-            back: None,
-        })?;
+        self.blocks.enter(None)?;
         self.at += 1;
         Ok(Stepped::Waits(Request::Update(groups), Wait::Opens(groups)))
     }
@@ -228,11 +202,7 @@ impl Machine {
             line: std::mem::replace(&mut self.line, Vec::new(setting.alloc)),
             result: block.result,
         };
-        let entries = std::mem::replace(&mut self.entries, Vec::new(setting.alloc));
-        self.frames.push(Frame {
-            entries,
-            back: Some(back),
-        })?;
+        self.blocks.enter(Some(back))?;
         self.at = block.first as usize;
         Ok(())
     }
@@ -266,100 +236,67 @@ impl Machine {
         }
     }
 
-    /// Control goes back to the block below, which has these entries.
-    fn go_back(&mut self, entries: Vec<Entry>, back: Return)
-        ensures { core_seen self.new ≡ cores.core back.at (stack_seen back.operands) back.line.items entries.items (core_seen self.old).frames (core_seen self.old).kept (core_seen self.old).mode }
+    /// Control goes on there, behind a call.
+    fn go_back(&mut self, back: Return)
+        ensures { core_seen self.new ≡ cores.core back.at (stack_seen back.operands) back.line.items (core_seen self.old).entries (core_seen self.old).frames (core_seen self.old).kept (core_seen self.old).mode }
     {
         self.at = back.at;
         self.operands = back.operands;
         self.line = back.line;
-        self.entries = entries;
     }
 
-    /// Control goes back with this result, where one is wanted.
-    #[tactic(auto, using(crate::proofs::Stuck::no_result))]
-    fn return_value(
-        &mut self,
-        setting: &Setting<'_>,
-        entries: Vec<Entry>,
-        back: Return,
-    ) -> Result<Stepped, AllocError>
-        ensures { (wanted : Value) → Does setting.now.image.now result self.new (returned (Some wanted) (stack_seen self.old.operands) (return_seen back) entries.items (core_seen self.old).frames (with_frame (record { entries = entries.items; back = Some (return_seen back) }) (core_seen self.old))) }
+    /// Control goes back to the block that called, with this value on its stack.
+    #[tactic(auto, using(crate::proofs::Returning::one_returned, crate::proofs::Returning::none_below, crate::proofs::Returning::update_below))]
+    fn return_one(&mut self, setting: &Setting<'_>, one: Value) -> Result<Stepped, AllocError>
+        ensures { Wants (Some true) (core_seen self.old).frames → Does setting.now.image.now result self.new (act_return (core_seen self.old).frames (going self.old.at (Val one ∷ stack_seen self.old.operands) (core_seen self.old))) }
     {
-        let mut back = back;
-        match self.operands.take()? {
-            None => {
-                self.frames.push(Frame {
-                    entries,
-                    back: Some(back),
-                })?;
-                Ok(self.stuck(setting))
-            }
-            Some(one) => {
+        match self.blocks.leave() {
+            Some(Some(back)) => {
+                let mut back = back;
                 back.operands.push(one)?;
-                self.go_back(entries, back);
+                self.go_back(back);
                 Ok(Stepped::Moves)
             }
+            Some(None) => Ok(self.stuck(setting)),
+            None => Ok(self.stuck(setting)),
         }
     }
 
-    /// Control goes back, where a result of this kind is wanted.
-    fn return_kind(
-        &mut self,
-        setting: &Setting<'_>,
-        kind: ResultKind,
-        entries: Vec<Entry>,
-        back: Return,
-    ) -> Result<Stepped, AllocError>
-        ensures { Does setting.now.image.now result self.new (returned (zero_of (choice.Known kind)) (stack_seen self.old.operands) (return_seen back) entries.items (core_seen self.old).frames (with_frame (record { entries = entries.items; back = Some (return_seen back) }) (core_seen self.old))) }
+    /// Control goes back to the block that called, which wants a value.
+    #[tactic(auto, using(crate::proofs::Returning::no_value_to_return))]
+    fn return_value(&mut self, setting: &Setting<'_>) -> Result<Stepped, AllocError>
+        ensures { Wants (Some true) (core_seen self.old).frames → Does setting.now.image.now result self.new (act_return (core_seen self.old).frames (core_seen self.old)) }
     {
-        match kind {
-            ResultKind::Nothing => {
-                self.go_back(entries, back);
-                Ok(Stepped::Moves)
-            }
-            ResultKind::Integer => self.return_value(setting, entries, back),
-            ResultKind::Bits => self.return_value(setting, entries, back),
-            ResultKind::Text => self.return_value(setting, entries, back),
+        match self.operands.take()? {
+            None => Ok(self.stuck(setting)),
+            Some(one) => self.return_one(setting, one),
         }
     }
 
-    /// Control goes back, where this result is wanted.
-    fn return_to(
-        &mut self,
-        setting: &Setting<'_>,
-        wanted: Choice<ResultKind>,
-        entries: Vec<Entry>,
-        back: Return,
-    ) -> Result<Stepped, AllocError>
-        ensures { Does setting.now.image.now result self.new (returned (zero_of wanted) (stack_seen self.old.operands) (return_seen back) entries.items (core_seen self.old).frames (with_frame (record { entries = entries.items; back = Some (return_seen back) }) (core_seen self.old))) }
+    /// Control goes back to the block that called, which wants no value.
+    #[tactic(auto, using(crate::proofs::Returning::none_returned, crate::proofs::Returning::none_below, crate::proofs::Returning::update_below))]
+    fn return_plain(&mut self, setting: &Setting<'_>) -> Stepped
+        ensures { Wants (Some false) (core_seen self.old).frames → step_seen setting.now.image.now result self.new ≡ act_return (core_seen self.old).frames (core_seen self.old) }
     {
-        match wanted {
-            Choice::Known(kind) => self.return_kind(setting, kind, entries, back),
-            Choice::Other(_) => {
-                self.go_back(entries, back);
-                Ok(Stepped::Moves)
+        match self.blocks.leave() {
+            Some(Some(back)) => {
+                self.go_back(back);
+                Stepped::Moves
             }
+            Some(None) => self.stuck(setting),
+            None => self.stuck(setting),
         }
     }
 
     /// RETURN.
+    #[tactic(auto, using(crate::proofs::Returning::not_called))]
     pub fn return_back(&mut self, setting: &Setting<'_>) -> Result<Stepped, AllocError>
         ensures { Does setting.now.image.now result self.new (act_return (core_seen self.old).frames (core_seen self.old)) }
     {
-        let Some(frame) = self.frames.pop() else {
-            return Ok(self.stuck(setting));
-        };
-        let Frame { entries, back } = frame;
-        match back {
-            None => {
-                self.frames.push(Frame {
-                    entries,
-                    back: None,
-                })?;
-                Ok(self.stuck(setting))
-            }
-            Some(back) => self.return_to(setting, back.result, entries, back),
+        match self.blocks.wants_value() {
+            None => Ok(self.stuck(setting)),
+            Some(true) => self.return_value(setting),
+            Some(false) => Ok(self.return_plain(setting)),
         }
     }
 }

@@ -8,11 +8,12 @@ ghost use Rattle.hal_values.specs.Answers as answers;
 ghost use Rattle.hal_code.specs.Cores as cores;
 ghost use Rattle.hal_code.specs.Cores.{all_entered};
 ghost use Rattle.hal_code.specs.Raising as raising;
-ghost use Rattle.hal_machine.specs.Seen.{core_seen, setting_seen, found_seen, step_seen, asks_or, Does};
+ghost use Rattle.hal_errors.specs.Found.{found_seen};
+ghost use Rattle.hal_machine.specs.Seen.{core_seen, setting_seen, step_seen, asks_or, Does};
 
-use crate::found::{Found, found_from};
 use crate::machine::{Machine, Setting};
 use crate::step::{Rest, Stepped, Wait};
+use hal_errors::Found;
 use hal_values::{ErrNo, Request, Side};
 use std::alloc::AllocError;
 
@@ -55,13 +56,7 @@ impl Machine {
     pub(crate) fn search(&self, error: ErrNo) -> Found
         ensures { found_seen result ≡ searching.search (are_spent self.now.groups self.now.turns) (all_entered (core_seen self.now).entries (core_seen self.now).frames) error }
     {
-        found_from(
-            self.is_spent(),
-            0,
-            self.entries.as_slice(),
-            self.frames.as_slice(),
-            error,
-        )
+        self.blocks.find(self.is_spent(), error)
     }
 
     /// So many later blocks are left, and control goes on at the target.
@@ -74,13 +69,12 @@ impl Machine {
         if level == 0 {
             return;
         }
-        let Some(frame) = self.frames.pop() else {
+        let Some(back) = self.blocks.leave() else {
             return;
         };
-        if frame.back.is_none() {
+        if back.is_none() {
             self.groups = None;
         }
-        self.entries = frame.entries;
         self.cut(level - 1, target);
     }
 

@@ -4,10 +4,11 @@
 
 mod addressing;
 mod asking;
+mod back;
+mod blocks;
 mod computing;
 mod controlling;
 mod errors;
-mod found;
 mod machine;
 mod operands;
 mod printing;
@@ -20,8 +21,10 @@ mod times;
 mod values;
 mod viewing;
 
+pub use back::Return;
+pub use blocks::Blocks;
 pub use controlling::{act_of, selector_of, side_of};
-pub use machine::{Frame, Held, Machine, Return, Setting};
+pub use machine::{Held, Machine, Setting};
 pub use operands::{Operands, Place, Slot};
 pub use scheduling::Written;
 pub use step::{Again, Rest, Stepped, Wait};

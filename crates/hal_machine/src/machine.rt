@@ -2,9 +2,10 @@
 
 ghost use Rattle.std.specs.Prelude.{◌≤◌, length};
 
+use crate::blocks::Blocks;
 use crate::operands::{Operands, Place};
-use hal_code::{Choice, ImageParts, ResultKind};
-use hal_values::{Cell, Entry, ErrNo, Value};
+use hal_code::ImageParts;
+use hal_values::{Cell, ErrNo, Value};
 use std::alloc::Global;
 
 /// What an own place holds: a value, or what an ASSIGN parameter stands for.
@@ -14,23 +15,6 @@ pub enum Held {
     Place(Place),
 }
 
-/// Where a call goes on, and the result that is wanted of it.
-#[derive(Drop)]
-pub struct Return {
-    pub at: usize,
-    pub operands: Operands,
-    pub line: Vec<u8>,
-    pub result: Choice<ResultKind>,
-}
-
-/// A block below the latest one; that of an UPDATE block isn't gone back to.
-#[derive(Drop)]
-pub struct Frame {
-    /// The error entries of the block, the latest first.
-    pub entries: Vec<Entry>,
-    pub back: Option<Return>,
-}
-
 /// What the machine holds of a process.
 #[derive(Drop)]
 pub struct Machine {
@@ -38,10 +22,7 @@ pub struct Machine {
     pub at: usize,
     pub operands: Operands,
     pub line: Vec<u8>,
-    /// The error entries of the running block, the latest first.
-    pub entries: Vec<Entry>,
-    /// The latest at the end.
-    pub frames: Vec<Frame>,
+    pub blocks: Blocks,
     pub places: Vec<Held>,
     pub last: ErrNo,
     /// The lock groups of the UPDATE block that is entered.

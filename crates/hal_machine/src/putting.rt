@@ -11,11 +11,11 @@ ghost use Rattle.hal_code.specs.Cores.{with_kept, with_mode, Tries};
 ghost use Rattle.hal_code.specs.Raising as raising;
 ghost use Rattle.hal_machine.specs.Seen.{core_seen, setting_seen, spot_seen, step_seen, rest_seen, again_seen, Does};
 
-use crate::found::Found;
 use crate::machine::{Held, Machine, Setting};
 use crate::operands::Place;
 use crate::step::{Again, Rest, Stepped, Wait};
 use crate::values::{has_bit, of_kind};
+use hal_errors::Found;
 use hal_values::{Cell, ErrNo, Plan, Request, Side, Value};
 use std::alloc::AllocError;
 

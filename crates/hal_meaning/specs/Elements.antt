@@ -121,6 +121,13 @@ leads [] path = true
 leads (n ∷ ns) [] = false
 leads (n ∷ ns) (name ∷ names) = bytes_eq n.name name && leads ns names
 
+-- whether these names are all of those
+abbrev pub are_all : List Naming → List (List ℕ) → Bool
+are_all [] [] = true
+are_all [] (name ∷ names) = false
+are_all (n ∷ ns) [] = false
+are_all (n ∷ ns) (name ∷ names) = bytes_eq n.name name && are_all ns names
+
 -- the components that lie before those to which these names lead
 abbrev pub before : List Naming → List Component → List Component
 before names [] = []
@@ -129,6 +136,10 @@ before names (c ∷ cs) = if leads names c.path then [] else c ∷ before names 
 -- the components to which these names lead
 abbrev pub chosen : List Naming → List Component → List Component
 chosen names components = filter (λ (c : Component). leads names c.path) components
+
+-- the component that these names name in full; of a structure, and of a part that has parts, there is none
+abbrev pub reached : List Naming → List Component → List Component
+reached names components = filter (λ (c : Component). are_all names c.path) components
 
 -- how many elements of a copy lie before them
 abbrev pub offset : List Naming → List Component → ℕ

@@ -28,7 +28,7 @@ use Rattle.hal_values.specs.Tables.{event_count}
 use Rattle.hal_states.specs.Spots.{Spot, Nowhere, Held, further}
 use Rattle.hal_states.specs.OfKinds.{told}
 use Rattle.hal_states.specs.Numbers.{integer_of}
-use Rattle.hal_meaning.specs.Elements.{Shape, copy_size, chosen, offset}
+use Rattle.hal_meaning.specs.Elements.{Component, Shape, copy_size, chosen, reached, offset}
 use Rattle.hal_meaning.specs.Sets.{Set, body_at}
 use Rattle.hal_meaning.specs.States.{State, Evaluated, Gives, bind}
 use Rattle.hal_meaning.specs.Access.{Here, ask, raise, tested, read}
@@ -170,9 +170,13 @@ sizes_named path shape = sizes_of_first (chosen path shape.components)
 abbrev pub copies_of : Shape → List Dimension
 copies_of shape = elim shape.copies [ None ↦ [] | Some n ↦ dimension n (copy_size shape.components) ∷ [] ]
 
+-- the sizes of the array that names name in full: an array inside a structure is none of the structure
+abbrev pub sizes_reached : List Naming → List Component → List ℕ
+sizes_reached path components = sizes_of_first (reached path components)
+
 -- SIZE of what a name means
 abbrev pub size_value : Meant → List Naming → Value
-size_value (MeantData at shape) path = value.Int (pos (size_of shape (sizes_named path shape)))
+size_value (MeantData at shape) path = value.Int (pos (size_of shape (sizes_reached path shape.components)))
 size_value other path = value.Int (pos 0)
 
 -- SIZE of a reference: its subscripts are not evaluated

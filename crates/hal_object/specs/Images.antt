@@ -43,10 +43,15 @@ parts_bytes image =
 abbrev pub image_bytes : ImageParts → List ℕ
 image_bytes image = mark ++ parts_bytes image
 
--- numbers, counts and forms are as the bytes can say
+-- numbers, counts and forms of the tables that the code names, of those of the report, and of the code are as the bytes can say
+abbrev pub FitLater : ImageParts → Type 0
+FitLater image =
+    AreFew (2 ^ 32) (AreFew (2 ^ 32) (FitsRun FitsKind)) image.shapes × (AreFew (2 ^ 32) FitsView image.views × (AreFew (2 ^ 32) (AreFew (2 ^ 32) FitsItem) image.expressions × (AreFew (2 ^ 32) FitsBlock image.blocks × (AreFew (2 ^ 32) FitsName image.names × AreFew (2 ^ 64) FitsInstr image.code))))
+
+-- and so are those of all parts
 abbrev pub FitsBytes : ImageParts → Type 0
 FitsBytes image =
-    AreFew (2 ^ 32) (FitsRun FitsCell) image.cells × (AreFew (2 ^ 32) (FitsChoice 3) image.events × (AreFew (2 ^ 32) (FitsRun FitsPlace) image.common × (AreFew (2 ^ 32) FitsProcess image.processes × ((image.first < 2 ^ 8) × (AreFew (2 ^ 32) (AreFew (2 ^ 32) (FitsRun FitsKind)) image.shapes × (AreFew (2 ^ 32) FitsView image.views × (AreFew (2 ^ 32) (AreFew (2 ^ 32) FitsItem) image.expressions × (AreFew (2 ^ 32) FitsBlock image.blocks × (AreFew (2 ^ 32) FitsName image.names × AreFew (2 ^ 64) FitsInstr image.code)))))))))
+    AreFew (2 ^ 32) (FitsRun FitsCell) image.cells × (AreFew (2 ^ 32) (FitsChoice 3) image.events × (AreFew (2 ^ 32) (FitsRun FitsPlace) image.common × (AreFew (2 ^ 32) FitsProcess image.processes × ((image.first < 2 ^ 8) × FitLater image))))
 
 -- the first of these runs, if there is one, has another row
 abbrev pub BeginsOtherwise : {T : Type 0} → T → List (Run T) → Type 0

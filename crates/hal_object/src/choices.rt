@@ -1,7 +1,7 @@
 //! Bytes that choose, both ways.
 
-ghost use Rattle.std.specs.Prelude.{◌≡◌};
-ghost use Rattle.hal_object.specs.Choices.{choice_byte, start_code, result_code, places_code, response_code, change_code, flag_code, op1_code, op2_code};
+ghost use Rattle.std.specs.Prelude.{◌≡◌, ◌↔◌, IsTrue};
+ghost use Rattle.hal_object.specs.Choices.{choice_byte, FitsChoice, start_code, result_code, places_code, response_code, change_code, flag_code, op1_code, op2_code};
 ghost use Rattle.hal_object.specs.Fields.{Gives, byte_at};
 ghost use Rattle.hal_object.specs.Reading.{choice_of, choice_at, all_starts, all_results, all_places, all_responses, all_changes, all_flags, all_op1, all_op2};
 
@@ -147,6 +147,16 @@ pub(crate) fn op2_of(bytes: &[u8]) -> Result<(Choice<Op2>, &[u8]), ReadFault>
 {
     let (byte, rest) = byte_of(bytes)?;
     Ok((choice(&WITH_TWO_OPERANDS, byte), rest))
+}
+
+/// Whether a choice among so many has a byte: one that is kept as it stands chooses none of them.
+pub(crate) fn has_byte<T: Copy>(choice: Choice<T>, count: u8) -> bool
+    ensures { IsTrue result ↔ FitsChoice count choice }
+{
+    match choice {
+        Choice::Known(_) => true,
+        Choice::Other(byte) => count <= byte,
+    }
 }
 
 /// The byte of an event's beginning.

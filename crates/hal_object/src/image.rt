@@ -1,12 +1,12 @@
 //! Images, read and written.
 
-ghost use Rattle.std.specs.Prelude.{◌≡◌, ◌++◌, IfOk, OnOk, OnErr, IsErrOf};
+ghost use Rattle.std.specs.Prelude.{◌≡◌, ◌↔◌, ◌++◌, IfOk, IsTrue, OnOk, OnErr, IsErrOf};
 ghost use Rattle.hal_code.specs.declared.image.ImageParts as parts;
 ghost use Rattle.hal_object.specs.Images.{mark, parts_bytes, image_bytes, IsSpelled};
 ghost use Rattle.hal_object.specs.declared.fault.ReadFault.TheVariants as fault;
 
 use crate::fault::ReadFault;
-use crate::parts::{image_of, write_parts};
+use crate::parts::{have_part_bytes, image_of, write_parts};
 use crate::runs::has_runs;
 use hal_code::ImageParts;
 use std::alloc::{AllocError, Global};
@@ -27,6 +27,13 @@ pub fn read_image(alloc: Global, bytes: &[u8]) -> Result<ImageParts, ReadFault>
     } else {
         Err(ReadFault::NotImage)
     }
+}
+
+/// Whether an image has bytes (image document, Bytes).
+pub fn is_spelled(image: &ImageParts) -> bool
+    ensures { IsTrue result ↔ IsSpelled image.now }
+{
+    have_part_bytes(image) && has_runs(image)
 }
 
 /// Writes the bytes of an image that has some, behind others (image document, Bytes).

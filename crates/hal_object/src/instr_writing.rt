@@ -1,12 +1,18 @@
 //! Instructions, written behind other bytes.
 
-ghost use Rattle.std.specs.Prelude.{◌≡◌, ◌++◌, ◌∷◌, OnOk};
+ghost use Rattle.std.specs.Prelude.{◌≡◌, ◌↔◌, ◌++◌, ◌∷◌, IsTrue, OnOk};
 ghost use Rattle.hal_object.specs.Numbers.{in_two, in_four, in_eight, integer_bytes};
 ghost use Rattle.hal_object.specs.Instructions.{instr_bytes, FitsInstr};
 ghost use Rattle.hal_object.specs.Reading.{instr_at};
 
-use crate::choices::{change_byte, flag_byte, op1_byte, op2_byte, places_byte, response_byte};
+use crate::choices::{
+    change_byte, flag_byte, has_byte, op1_byte, op2_byte, places_byte, response_byte,
+};
 use crate::fault::ReadFault;
+use crate::fits::{
+    fits_delay, fits_eight, fits_four, fits_integer, fits_kind, fits_limit, fits_one, fits_round,
+    fits_text, fits_two, fits_when,
+};
 use crate::instrs::instr_of;
 use crate::kinds::{write_kind, write_text};
 use crate::numbers::{put_eight, put_four, put_two};
@@ -14,6 +20,111 @@ use crate::operands::{write_delay, write_limit, write_round, write_when};
 use crate::row::Row;
 use hal_code::Instr;
 use std::alloc::{AllocError, Global};
+
+/// Whether an instruction has bytes: the choices among its operands have some, and its numbers and texts do because they are values.
+fn has_instr_bytes(instr: &Instr) -> bool
+    ensures { IsTrue result ↔ FitsInstr instr.now }
+{
+    match instr {
+        Instr::Int(number) => {
+            fits_integer(*number);
+            true
+        }
+        Instr::Bits { len, word } => {
+            fits_one(*len);
+            fits_four(*word);
+            true
+        }
+        Instr::Text(text) => {
+            fits_text(text);
+            true
+        }
+        Instr::Cell(number)
+        | Instr::Whole(number)
+        | Instr::Call(number)
+        | Instr::Bind(number)
+        | Instr::Copy(number) => {
+            fits_four(*number);
+            true
+        }
+        Instr::Event(number)
+        | Instr::Signal(number)
+        | Instr::Set(number)
+        | Instr::Reset(number)
+        | Instr::Open(number) => {
+            fits_two(*number);
+            true
+        }
+        Instr::Op1(choice) => has_byte(*choice, 10),
+        Instr::Op2(choice) => has_byte(*choice, 22),
+        Instr::Pick(choice) | Instr::Patch(choice) => has_byte(*choice, 3),
+        Instr::Jump(target) | Instr::JumpNot(target) | Instr::Turn(target) => {
+            fits_eight(*target);
+            true
+        }
+        Instr::Len(byte)
+        | Instr::Cancel(byte)
+        | Instr::Terminate(byte)
+        | Instr::Priority(byte)
+        | Instr::Print(byte) => {
+            fits_one(*byte);
+            true
+        }
+        Instr::On {
+            group,
+            number,
+            response,
+            change,
+            event,
+            target,
+        } => {
+            fits_one(*group);
+            fits_one(*number);
+            fits_two(*event);
+            fits_eight(*target);
+            has_byte(*response, 3) && has_byte(*change, 4)
+        }
+        Instr::Off { group, number } | Instr::Raise { group, number } => {
+            fits_one(*group);
+            fits_one(*number);
+            true
+        }
+        Instr::Clear { place, count } => {
+            fits_four(*place);
+            fits_four(*count);
+            true
+        }
+        Instr::Schedule {
+            process,
+            start,
+            priority,
+            dependent,
+            round,
+            limit,
+        } => {
+            fits_one(*process);
+            fits_when(*start);
+            fits_round(*round);
+            fits_limit(*limit);
+            has_byte(*priority, 2) && has_byte(*dependent, 2)
+        }
+        Instr::Wait(delay) => {
+            fits_delay(*delay);
+            true
+        }
+        Instr::Input {
+            channel,
+            kind,
+            target,
+        } => {
+            fits_one(*channel);
+            fits_kind(*kind);
+            fits_eight(*target);
+            true
+        }
+        _ => true,
+    }
+}
 
 /// A code, and a number of two bytes.
 fn write_two(code: u8, number: u16, into: &mut Vec<u8>) -> Result<(), AllocError>
@@ -146,6 +257,10 @@ impl Row for Instr {
     ghost spelling = { instr_bytes };
 
     ghost fits = { FitsInstr };
+
+    fn has_bytes(&self) -> bool {
+        has_instr_bytes(self)
+    }
 
     fn read(alloc: Global, bytes: &[u8]) -> Result<(Instr, &[u8]), ReadFault> {
         instr_of(bytes)

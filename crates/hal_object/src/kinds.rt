@@ -1,12 +1,13 @@
 //! Kinds, values, cells and own places, both ways.
 
-ghost use Rattle.std.specs.Prelude.{◌≡◌, ◌++◌, ◌∷◌, OnOk};
+ghost use Rattle.std.specs.Prelude.{◌≡◌, ◌↔◌, ◌++◌, ◌∷◌, IsTrue, OnOk};
 ghost use Rattle.hal_object.specs.Numbers.{integer_bytes, in_four, text_bytes};
-ghost use Rattle.hal_object.specs.Kinds.{kind_bytes, FitsKind, value_bytes, cell_bytes, FitsCell, place_bytes, FitsPlace};
+ghost use Rattle.hal_object.specs.Kinds.{kind_bytes, FitsKind, value_bytes, FitsValue, cell_bytes, FitsCell, place_bytes, FitsPlace};
 ghost use Rattle.hal_object.specs.Fields.{Gives};
 ghost use Rattle.hal_object.specs.Reading.{zero_at, kind_at, value_at, cell_at, data_at, reference_at, place_at};
 
 use crate::fault::ReadFault;
+use crate::fits::{fits_four, fits_integer, fits_kind, fits_one, fits_text};
 use crate::numbers::{byte_of, four_of, integer_of, put_four, text_of};
 use crate::row::Row;
 use hal_code::OwnPlace;
@@ -86,6 +87,27 @@ fn reference_of(bytes: &[u8]) -> Result<(OwnPlace, &[u8]), ReadFault>
     Ok((OwnPlace::Reference(shape), rest))
 }
 
+/// Whether an initial value has the form of a kind.
+fn has_form(kind: Kind, value: &Value) -> bool
+    ensures { IsTrue result ↔ FitsValue kind value.now }
+{
+    match (kind, value) {
+        (Kind::Single | Kind::Double, Value::Int(number)) => {
+            fits_integer(*number);
+            true
+        }
+        (Kind::Bits(bits), Value::Bits { len, word }) => {
+            fits_four(*word);
+            *len == bits
+        }
+        (Kind::Text(_), Value::Text(text)) => {
+            fits_text(text);
+            true
+        }
+        _ => false,
+    }
+}
+
 /// The bytes of a kind, behind others.
 pub(crate) fn write_kind(kind: Kind, into: &mut Vec<u8>) -> Result<(), AllocError>
     ensures { OnOk result (into.new.items ≡ into.old.items ++ kind_bytes kind) }
@@ -127,6 +149,11 @@ impl Row for Kind {
 
     ghost fits = { FitsKind };
 
+    fn has_bytes(&self) -> bool {
+        fits_kind(*self);
+        true
+    }
+
     fn read(alloc: Global, bytes: &[u8]) -> Result<(Kind, &[u8]), ReadFault> {
         kind_of(bytes)
     }
@@ -142,6 +169,12 @@ impl Row for Cell {
     ghost spelling = { cell_bytes };
 
     ghost fits = { FitsCell };
+
+    fn has_bytes(&self) -> bool {
+        fits_kind(self.kind);
+        fits_one(self.group);
+        has_form(self.kind, &self.initial)
+    }
 
     #[tactic(auto, unfolding(crate::specs::Reading::cell_at))]
     fn read(alloc: Global, bytes: &[u8]) -> Result<(Cell, &[u8]), ReadFault> {
@@ -171,6 +204,19 @@ impl Row for OwnPlace {
     ghost spelling = { place_bytes };
 
     ghost fits = { FitsPlace };
+
+    fn has_bytes(&self) -> bool {
+        match self {
+            OwnPlace::Data { kind, initial } => {
+                fits_kind(*kind);
+                has_form(*kind, initial)
+            }
+            OwnPlace::Reference(shape) => {
+                fits_four(*shape);
+                true
+            }
+        }
+    }
 
     #[tactic(auto, unfolding(crate::specs::Reading::place_at))]
     fn read(alloc: Global, bytes: &[u8]) -> Result<(OwnPlace, &[u8]), ReadFault> {

@@ -1,16 +1,17 @@
 //! The parts of an image, read and written in the order of the bytes.
 
-ghost use Rattle.std.specs.Prelude.{◌≡◌, ◌++◌, ◌<◌, ◌^◌, length, OnOk, flat_map};
+ghost use Rattle.std.specs.Prelude.{◌≡◌, ◌↔◌, ◌++◌, ◌<◌, ◌^◌, IsTrue, length, OnOk, flat_map};
 ghost use Rattle.std.specs.List.{AllByRecursion};
 ghost use Rattle.hal_object.specs.Numbers.{in_eight};
 ghost use Rattle.hal_object.specs.Instructions.{instr_bytes, FitsInstr};
-ghost use Rattle.hal_object.specs.Images.{mark, later_bytes, parts_bytes, FitsBytes};
+ghost use Rattle.hal_object.specs.Images.{mark, later_bytes, parts_bytes, FitLater, FitsBytes};
 ghost use Rattle.hal_object.specs.Fields.{Gives};
 ghost use Rattle.hal_object.specs.Reading.{code_at, marked, parts_at, whole, image_at};
 
 use crate::fault::ReadFault;
+use crate::fits::fits_one;
 use crate::numbers::{byte_of, eight_of, put_eight};
-use crate::row::{list_of, rows_of, write_list, write_rows};
+use crate::row::{has_list_bytes, have_bytes, list_of, rows_of, write_list, write_rows};
 use hal_code::{ImageParts, Instr};
 use hal_values::Listing;
 use std::alloc::{AllocError, Global};
@@ -78,6 +79,30 @@ pub(crate) fn image_of(alloc: Global, bytes: &[u8]) -> Result<ImageParts, ReadFa
     } else {
         Err(ReadFault::NotImage)
     }
+}
+
+/// Whether the tables that the code names, those of the report, and the code have bytes.
+fn have_later_bytes(image: &ImageParts) -> bool
+    ensures { IsTrue result ↔ FitLater image.now }
+{
+    has_list_bytes(&image.shapes)
+        && has_list_bytes(&image.views)
+        && has_list_bytes(&image.expressions)
+        && has_list_bytes(&image.blocks)
+        && has_list_bytes(&image.names)
+        && have_bytes(image.code.as_slice())
+}
+
+/// Whether all parts have bytes: numbers, counts and forms are as they can say.
+pub(crate) fn have_part_bytes(image: &ImageParts) -> bool
+    ensures { IsTrue result ↔ FitsBytes image.now }
+{
+    fits_one(image.first);
+    has_list_bytes(&image.cells)
+        && has_list_bytes(&image.events)
+        && has_list_bytes(&image.common)
+        && has_list_bytes(&image.processes)
+        && have_later_bytes(image)
 }
 
 /// The code behind its count, behind other bytes.

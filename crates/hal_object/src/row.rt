@@ -1,6 +1,6 @@
 //! Rows of tables, and lists of them.
 
-ghost use Rattle.std.specs.Prelude.{◌≡◌, ◌++◌, ℕ, List, Option, ◌<◌, ◌^◌, length, OnOk, flat_map};
+ghost use Rattle.std.specs.Prelude.{◌≡◌, ◌↔◌, ◌++◌, ℕ, List, Option, ◌<◌, ◌^◌, length, IsTrue, OnOk, flat_map};
 ghost use Rattle.hal_object.specs.Fields.{Gives, rows_at, list_at};
 ghost use Rattle.std.specs.List.{AllByRecursion};
 ghost use Rattle.hal_object.specs.Numbers.{list_bytes, AreFew};
@@ -9,6 +9,9 @@ use crate::fault::ReadFault;
 use crate::numbers::{four_of, put_four};
 use hal_values::Listing;
 use std::alloc::{AllocError, Global};
+
+/// A list has fewer rows.
+const LIST_LIMIT: usize = 4_294_967_296;
 
 /// What stands in a table.
 pub(crate) trait Row: Drop {
@@ -20,6 +23,10 @@ pub(crate) trait Row: Drop {
 
     /// It has these bytes.
     ghost fits: { Self → Type 0 };
+
+    /// Whether it has them.
+    fn has_bytes(&self) -> bool
+        ensures { IsTrue result ↔ fits self.now };
 
     /// A row at the front of bytes, and the bytes behind it.
     fn read(alloc: Global, bytes: &[u8]) -> Result<(Self, &[u8]), ReadFault>
@@ -55,6 +62,26 @@ pub(crate) fn list_of<T: Row>(alloc: Global, bytes: &[u8]) -> Result<(Listing<T>
 {
     let (count, rest) = four_of(bytes)?;
     rows_of(alloc, u64::from(count), rest)
+}
+
+/// Whether all rows have bytes.
+pub(crate) fn have_bytes<T: Row>(rows: &[T]) -> bool
+    ensures { IsTrue result ↔ AllByRecursion T.fits rows.now }
+{
+    for row in rows {
+        if !row.has_bytes() {
+            return false;
+        }
+    }
+    true
+}
+
+/// Whether rows behind their count have bytes.
+pub(crate) fn has_list_bytes<T: Row>(rows: &Listing<T>) -> bool
+    ensures { IsTrue result ↔ AreFew (2 ^ 32) T.fits rows.now }
+{
+    let rows = rows.as_slice();
+    rows.len() < LIST_LIMIT && have_bytes(rows)
 }
 
 /// The bytes of rows, one after another.

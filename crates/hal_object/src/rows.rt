@@ -1,19 +1,20 @@
 //! The rows of an image's tables, both ways.
 
-ghost use Rattle.std.specs.Prelude.{◌≡◌, ◌++◌, ◌∷◌, ◌<◌, ◌^◌, OnOk, IfOk, length, flat_map};
+ghost use Rattle.std.specs.Prelude.{◌≡◌, ◌↔◌, ◌++◌, ◌∷◌, ◌<◌, ◌^◌, IsTrue, OnOk, IfOk, length, flat_map};
 ghost use Rattle.hal_object.specs.Numbers.{in_four, list_bytes, AreFew};
 ghost use Rattle.hal_object.specs.Choices.{choice_bytes, FitsChoice, start_code};
-ghost use Rattle.hal_object.specs.Rows.{run_bytes, FitsRun, process_bytes, FitsProcess, base_bytes, dimension_bytes, FitsDimension, target_bytes, view_bytes, FitsView, item_bytes, FitsItem, block_bytes, FitsBlock, named_bytes, elements_bytes, name_bytes, FitsName};
+ghost use Rattle.hal_object.specs.Rows.{run_bytes, FitsRun, process_bytes, FitsProcess, base_bytes, FitsBase, dimension_bytes, FitsDimension, target_bytes, FitsTarget, view_bytes, FitsView, item_bytes, FitsItem, block_bytes, FitsBlock, named_bytes, elements_bytes, name_bytes, FitsName};
 ghost use Rattle.hal_object.specs.Fields.{Gives, four_at, list_at};
 ghost use Rattle.hal_object.specs.Reading.{choice_at, all_starts, run_at, process_at, base_behind, base_at, dimension_at, dimensions_of, dimensions_at, target_at, view_at, item_at, block_at, named_at, long_text_at, sizes_at, name_at};
 
-use crate::choices::{result_byte, result_of, start_byte, start_of};
+use crate::choices::{has_byte, result_byte, result_of, start_byte, start_of};
 use crate::fault::ReadFault;
+use crate::fits::{fits_eight, fits_four, fits_named, fits_one, fits_target, fits_text, fits_two};
 use crate::kinds::{kind_of, write_kind, write_text};
 use crate::numbers::{
     byte_of, eight_of, four_of, front_of, put_eight, put_four, put_two, text_of, two_of,
 };
-use crate::row::{Row, list_of, rows_of, write_list, write_rows};
+use crate::row::{Row, has_list_bytes, have_bytes, list_of, rows_of, write_list, write_rows};
 use hal_code::{Base, Block, Choice, Dimension, Process, Run, Target, View};
 use hal_values::{EventStart, Item, Listing, ReportBase, ReportName};
 use std::alloc::{AllocError, Global};
@@ -24,6 +25,11 @@ impl Row for u32 {
     ghost spelling = { in_four };
 
     ghost fits = { λ n. n < 2 ^ 32 };
+
+    fn has_bytes(&self) -> bool {
+        fits_four(*self);
+        true
+    }
 
     fn read(alloc: Global, bytes: &[u8]) -> Result<(u32, &[u8]), ReadFault> {
         four_of(bytes)
@@ -41,6 +47,10 @@ impl Row for Choice<EventStart> {
 
     ghost fits = { FitsChoice 3 };
 
+    fn has_bytes(&self) -> bool {
+        has_byte(*self, 3)
+    }
+
     fn read(alloc: Global, bytes: &[u8]) -> Result<(Choice<EventStart>, &[u8]), ReadFault> {
         start_of(bytes)
     }
@@ -57,6 +67,11 @@ impl<T: Row> Row for Run<T> {
     ghost spelling = { run_bytes T.spelling };
 
     ghost fits = { FitsRun T.fits };
+
+    fn has_bytes(&self) -> bool {
+        fits_four(self.repeat);
+        self.row.has_bytes()
+    }
 
     fn read(alloc: Global, bytes: &[u8]) -> Result<(Run<T>, &[u8]), ReadFault> {
         let (repeat, rest) = four_of(bytes)?;
@@ -77,6 +92,10 @@ impl<T: Row> Row for Listing<T> {
 
     ghost fits = { AreFew (2 ^ 32) T.fits };
 
+    fn has_bytes(&self) -> bool {
+        has_list_bytes(self)
+    }
+
     fn read(alloc: Global, bytes: &[u8]) -> Result<(Listing<T>, &[u8]), ReadFault> {
         list_of(alloc, bytes)
     }
@@ -92,6 +111,12 @@ impl Row for Process {
     ghost spelling = { process_bytes };
 
     ghost fits = { FitsProcess };
+
+    fn has_bytes(&self) -> bool {
+        fits_text(&self.name);
+        fits_four(self.block);
+        has_list_bytes(&self.places)
+    }
 
     #[tactic(auto, unfolding(crate::specs::Reading::process_at))]
     fn read(alloc: Global, bytes: &[u8]) -> Result<(Process, &[u8]), ReadFault> {
@@ -147,6 +172,16 @@ fn base_of(bytes: &[u8]) -> Result<(Base, &[u8]), ReadFault>
     base_behind_of(base, rest)
 }
 
+/// Whether where a view begins has bytes: a base that is kept as it stands is none of the three.
+fn has_base_bytes(base: Base) -> bool
+    ensures { IsTrue result ↔ FitsBase base }
+{
+    match base {
+        Base::Other { base, .. } => 3 <= base,
+        _ => true,
+    }
+}
+
 /// The bytes of where a view begins, behind others.
 fn write_base(base: Base, into: &mut Vec<u8>) -> Result<(), AllocError>
     ensures { OnOk result (into.new.items ≡ into.old.items ++ base_bytes base) }
@@ -178,6 +213,12 @@ impl Row for Dimension {
     ghost spelling = { dimension_bytes };
 
     ghost fits = { FitsDimension };
+
+    fn has_bytes(&self) -> bool {
+        fits_four(self.size);
+        fits_four(self.stride);
+        true
+    }
 
     #[tactic(auto, unfolding(crate::specs::Reading::dimension_at))]
     fn read(alloc: Global, bytes: &[u8]) -> Result<(Dimension, &[u8]), ReadFault> {
@@ -246,6 +287,12 @@ impl Row for View {
 
     ghost fits = { FitsView };
 
+    fn has_bytes(&self) -> bool {
+        fits_target(self.target);
+        let dimensions = self.dimensions.as_slice();
+        has_base_bytes(self.base) && dimensions.len() < 5 && have_bytes(dimensions)
+    }
+
     #[tactic(auto, unfolding(crate::specs::Reading::view_at))]
     fn read(alloc: Global, bytes: &[u8]) -> Result<(View, &[u8]), ReadFault> {
         let (base, rest) = base_of(bytes)?;
@@ -276,6 +323,16 @@ impl Row for Item {
     ghost spelling = { item_bytes };
 
     ghost fits = { FitsItem };
+
+    fn has_bytes(&self) -> bool {
+        match self {
+            Item::Event(event) => {
+                fits_two(*event);
+                true
+            }
+            Item::Not | Item::And | Item::Or => true,
+        }
+    }
 
     #[tactic(auto, unfolding(crate::specs::Reading::item_at))]
     fn read(alloc: Global, bytes: &[u8]) -> Result<(Item, &[u8]), ReadFault> {
@@ -312,6 +369,13 @@ impl Row for Block {
     ghost spelling = { block_bytes };
 
     ghost fits = { FitsBlock };
+
+    fn has_bytes(&self) -> bool {
+        fits_one(self.process);
+        fits_eight(self.first);
+        fits_eight(self.end);
+        has_byte(self.result, 4)
+    }
 
     #[tactic(auto, unfolding(crate::specs::Reading::block_at))]
     fn read(alloc: Global, bytes: &[u8]) -> Result<(Block, &[u8]), ReadFault> {
@@ -407,6 +471,15 @@ impl Row for ReportName {
     ghost spelling = { name_bytes };
 
     ghost fits = { FitsName };
+
+    fn has_bytes(&self) -> bool {
+        fits_named(self.base);
+        fits_four(self.first);
+        fits_four(self.copies);
+        fits_four(self.stride);
+        let dimensions = self.dimensions.as_slice();
+        self.name.as_slice().len() < 65_536 && dimensions.len() < 256 && have_bytes(dimensions)
+    }
 
     #[tactic(auto, unfolding(crate::specs::Reading::name_at))]
     fn read(alloc: Global, bytes: &[u8]) -> Result<(ReportName, &[u8]), ReadFault> {

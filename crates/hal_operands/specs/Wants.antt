@@ -2,13 +2,14 @@
 use Rattle.std.specs.Prelude.{ℕ, List, Option, Some, None}
 use Rattle.std.specs.Option.{option_and_then}
 use Rattle.hal_base.specs.declared.refusal.Place.{Place}
+use Rattle.hal_grammar.specs.Leaves.{Naming}
 use Rattle.hal_grammar.specs.Expressions.{Expression, place_of}
 use Rattle.hal_phrases.specs.declared.role.Role.{Role}
 use Rattle.hal_phrases.specs.declared.role.Role.TheVariants as role
-use Rattle.hal_phrases.specs.Phrases.{Node, Phrase, OfExpression, OfReference}
+use Rattle.hal_phrases.specs.Phrases.{Node, Phrase, OfExpression, OfReference, OfSubscriptName}
 use Rattle.hal_kinds.specs.declared.class.Class.{Class}
 use Rattle.hal_kinds.specs.declared.class.Class.TheVariants as class
-use Rattle.hal_kinds.specs.Classes.{class_of, class_of_reference}
+use Rattle.hal_kinds.specs.Classes.{class_of, class_of_name, class_of_reference}
 use Rattle.hal_grammar.specs.Expressions.{Reference, place_of_reference}
 use Rattle.hal_scope.specs.Rules.{ruled}
 use Rattle.hal_operands.specs.declared.want.Want.{Want}
@@ -90,8 +91,13 @@ unfoldable pub receiver_misfit : List Phrase → ℕ → Role → Reference → 
 receiver_misfit ps block role.Receiver reference = at (place_of_reference reference) (option_and_then misfit_of_receiver (class_of_reference ps block reference))
 receiver_misfit ps block other reference = None
 
+-- the rule that a name behind `$` breaks: it is an integer
+abbrev pub name_misfit : List Phrase → ℕ → Naming → Option (ℕ × Place)
+name_misfit ps block name = at name.place (option_and_then (misfit want.Integer) (class_of_name ps block name.name))
+
 -- rules 702, 703 and 720 of one operand or receiver
 unfoldable pub unfit : List Phrase → Phrase → Node → Option (ℕ × Place)
 unfit ps p (OfExpression r tree) = misfit_at ps p.around.block (wanted r) tree
 unfit ps p (OfReference r reference) = receiver_misfit ps p.around.block r reference
+unfit ps p (OfSubscriptName name) = name_misfit ps p.around.block name
 unfit ps p other = None

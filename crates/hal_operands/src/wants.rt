@@ -2,16 +2,17 @@
 
 ghost use Rattle.std.specs.Prelude.{◌≡◌};
 ghost use Rattle.hal_tree.specs.SeenExpressions.{seen_expression, seen_reference};
+ghost use Rattle.hal_tree.specs.SeenLeaves.{seen_name};
 ghost use Rattle.hal_phrases.specs.SeenPhrases.{seen_phrase};
 ghost use Rattle.hal_names.specs.SeenNames.{seen_names};
 ghost use Rattle.hal_operands.specs.Wants as wants;
 
 use crate::want::Want;
 use hal_base::Place;
-use hal_kinds::{Class, class_of, class_of_reference};
+use hal_kinds::{Class, class_of, class_of_name, class_of_reference};
 use hal_names::Names;
 use hal_phrases::{Node, Phrase, Role};
-use hal_tree::{Expr, Reference};
+use hal_tree::{Expr, Identifier, Reference};
 
 /// What is wanted of an operand of this role.
 #[tactic(auto, unfolding(crate::specs::Wants::wanted))]
@@ -123,6 +124,15 @@ fn receiver_misfit(
     }
 }
 
+/// The rule that a name directly behind `$` breaks, and where: it is an integer.
+fn name_misfit(names: &Names<'_>, block: usize, name: &Identifier) -> Option<(u16, Place)>
+    ensures { result ≡ wants.name_misfit (seen_names names.now) block (seen_name name.now) }
+{
+    let class = class_of_name(names, block, &name.name)?;
+    let rule = misfit(Want::Integer, class)?;
+    Some((rule, name.place))
+}
+
 /// Which rule of 702, 703 and 720 one operand or receiver breaks, and where (language document, Kinds).
 #[tactic(auto, unfolding(crate::specs::Wants::unfit))]
 pub fn unfit(names: &Names<'_>, phrase: &Phrase<'_>) -> Option<(u16, Place)>
@@ -135,6 +145,7 @@ pub fn unfit(names: &Names<'_>, phrase: &Phrase<'_>) -> Option<(u16, Place)>
         Node::Reference { role, reference } => {
             receiver_misfit(names, phrase.around.block, role, reference)
         }
+        Node::SubscriptName { name } => name_misfit(names, phrase.around.block, name),
         _ => None,
     }
 }

@@ -27,8 +27,7 @@ fn begin(machine: &mut Machine, setting: &Setting<'_>) -> Stepped
     machine.at = setting.begin + 1;
     machine.operands.clear();
     machine.line.clear();
-    machine.entries.clear();
-    machine.frames.clear();
+    machine.blocks.restart();
     machine.groups = None;
     machine.store.clear();
     machine.writes.clear();

@@ -17,7 +17,7 @@ use crate::machines::{machine_of, places_of};
 use crate::moving::settle;
 use crate::reply::Reply;
 use crate::requests::{request_of, wait_of};
-use hal_machine::{Machine, Operands, Rest, Setting, Wait};
+use hal_machine::{Blocks, Machine, Operands, Rest, Setting, Wait};
 use hal_values::{ErrNo, Request, Value};
 use std::alloc::{AllocError, Global};
 
@@ -46,8 +46,7 @@ impl Runner {
             at: setting.begin + 1,
             operands: Operands::new(setting.alloc),
             line: Vec::new(setting.alloc),
-            entries: Vec::new(setting.alloc),
-            frames: Vec::new(setting.alloc),
+            blocks: Blocks::new(setting.alloc)?,
             places,
             last: NO_ERROR,
             groups: None,

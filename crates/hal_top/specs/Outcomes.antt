@@ -10,9 +10,11 @@ use Rattle.exec_model.specs.declared.script.ScriptLine.{ScriptLine}
 use Rattle.hal_script.specs.declared.fault.ScriptFault.{ScriptFault}
 use Rattle.exec_model.specs.declared.event.Event.{Event}
 use Rattle.hal_top.specs.declared.outcome.Outcome.{Outcome}
-use Rattle.hal_top.specs.CommandLine.{file_of_unit, usage_line}
-use Rattle.hal_top.specs.Performed.{HasReport}
-use Rattle.hal_top.specs.Causes.{IsWork}
+use Rattle.hal_code.specs.declared.image.ImageParts.{ImageParts}
+use Rattle.hal_compile.specs.Compiling.{Compiles}
+use Rattle.hal_top.specs.CommandLine.{words_before, file_of_unit, usage_line}
+use Rattle.hal_top.specs.Performed.{HasReport, HasImageReport}
+use Rattle.hal_top.specs.Causes.{HasBytes, IsWork, IsBuild, IsExec}
 
 -- a refusal: neither a report nor one cut short
 abbrev pub IsRefusal : ℕ → Type 0
@@ -27,12 +29,12 @@ abbrev pub Completes : ℕ → Type 0
 Completes status = ((status ≡ 0) ⊎ (status ≡ 8)) ⊎ IsExcused status
 
 abbrev pub IsStatus : ℕ → Type 0
-IsStatus status = (status ≡ 0) ⊎ (status ≡ 2) ⊎ (status ≡ 3) ⊎ (status ≡ 4) ⊎ (status ≡ 5) ⊎ (status ≡ 6) ⊎ (status ≡ 7) ⊎ (status ≡ 8) ⊎ (status ≡ 9)
+IsStatus status = (status ≡ 0) ⊎ (status ≡ 2) ⊎ (status ≡ 3) ⊎ (status ≡ 4) ⊎ (status ≡ 5) ⊎ (status ≡ 6) ⊎ (status ≡ 7) ⊎ (status ≡ 8) ⊎ (status ≡ 9) ⊎ (status ≡ 10)
 
--- the word that names this file, after `run` and the number of lanes
+-- the word that names this file
 abbrev pub file_word : List (List ℕ) → Option ℕ → List ℕ
 file_word words None = []
-file_word words (Some number) = unwrap_or (slice_get words (number + 2)) []
+file_word words (Some number) = unwrap_or (slice_get words (number + words_before words)) []
 
 abbrev pub rule_text : Option Refusal → List ℕ
 rule_text None = []
@@ -41,6 +43,10 @@ rule_text (Some refusal) = codes ":" ++ (decimal refusal.place.line ++ (codes ":
 abbrev pub fault_text : Option ScriptFault → List ℕ
 fault_text None = []
 fault_text (Some fault) = codes ":" ++ (decimal fault.line ++ (codes ": reason " ++ (decimal fault.reason ++ codes "\n")))
+
+abbrev pub image_text : Option ℕ → List ℕ
+image_text None = codes ": not an image\n"
+image_text (Some number) = codes ": instruction " ++ (decimal number ++ codes "\n")
 
 -- the one line of a refusal
 abbrev pub refusal_line : List (List ℕ) → Outcome → List ℕ
@@ -51,7 +57,8 @@ refusal_line words outcome =
     else (if nat_eq outcome.status 5 then file_word words outcome.file ++ rule_text outcome.refused
     else (if nat_eq outcome.status 6 then file_word words outcome.file ++ fault_text outcome.script_fault
     else (if nat_eq outcome.status 7 then codes "shelf fault\n"
-    else codes "memory\n")))))
+    else (if nat_eq outcome.status 10 then file_word words outcome.file ++ image_text outcome.image_fault
+    else codes "memory\n"))))))
 
 -- the sink took a front of the piece, or the whole where its count of faults didn't rise
 abbrev pub Prints : Option (List ℕ) → Option (List ℕ) → List ℕ → ℕ → ℕ → Type 0
@@ -66,24 +73,45 @@ pub record Ran (files : List File) (words : List (List ℕ)) (journal : List Eve
   pub work : IsWork files words script set
   pub reported : HasReport script set journal bytes
 
--- the sink took the report of a run with this journal, where it tells its bytes
-pub record PrintsReport (files : List File) (words : List (List ℕ)) (journal : List Event) (before now : Option (List ℕ)) : Type 0 where
+-- the same of an image that the words name
+pub record Executed (files : List File) (words : List (List ℕ)) (journal : List Event) (bytes : List ℕ) : Type 0 where
+  pub script : List ScriptLine
+  pub image : ImageParts
+  pub work : IsExec files words script image
+  pub reported : HasImageReport script image journal bytes
+
+-- the bytes of the image of the set that the words name; nothing ran
+pub record Built (files : List File) (words : List (List ℕ)) (journal : List Event) (bytes : List ℕ) : Type 0 where
+  pub set : List units.File
+  pub image : ImageParts
+  pub work : IsBuild files words set
+  pub compiled : Compiles set image
+  pub written : HasBytes image bytes
+  pub nothing : journal ≡ []
+
+-- what the words ask for comes to this journal and these bytes
+abbrev pub Output : List File → List (List ℕ) → List Event → List ℕ → Type 0
+Output files words journal bytes = Ran files words journal bytes ⊎ Executed files words journal bytes ⊎ Built files words journal bytes
+
+-- the sink took them, where it tells its bytes
+pub record PrintsOutput (files : List File) (words : List (List ℕ)) (journal : List Event) (before now : Option (List ℕ)) : Type 0 where
   pub bytes : List ℕ
-  pub ran : Ran files words journal bytes
+  pub output : Output files words journal bytes
   pub taken : Takes before now bytes (length bytes)
 
--- or a front of it
+-- or a front of them
 pub record PrintsFront (files : List File) (words : List (List ℕ)) (journal : List Event) (before now : Option (List ℕ)) : Type 0 where
   pub bytes : List ℕ
   pub count : ℕ
-  pub ran : Ran files words journal bytes
+  pub output : Output files words journal bytes
   pub taken : Takes before now bytes count
 
 -- which fields are given
-pub record IsTold (outcome : Outcome) : Type 0 where
-  pub file : IsSome outcome.file ↔ ((outcome.status ≡ 3) ⊎ (outcome.status ≡ 4) ⊎ (outcome.status ≡ 5) ⊎ (outcome.status ≡ 6))
+pub record IsTold (words : List (List ℕ)) (outcome : Outcome) : Type 0 where
+  pub file : IsSome outcome.file ↔ ((outcome.status ≡ 3) ⊎ (outcome.status ≡ 4) ⊎ (outcome.status ≡ 5) ⊎ (outcome.status ≡ 6) ⊎ (outcome.status ≡ 10))
   pub of_script : outcome.status ≡ 6 → outcome.file ≡ Some 0
-  pub of_unit : IfSome outcome.refused (λ refusal. outcome.file ≡ Some (file_of_unit refusal.place.unit))
+  pub of_image : outcome.status ≡ 10 → outcome.file ≡ Some 1
+  pub of_unit : IfSome outcome.refused (λ refusal. outcome.file ≡ Some (file_of_unit words refusal.place.unit))
   pub refused : IsSome outcome.refused ↔ (outcome.status ≡ 5)
   pub script_fault : IsSome outcome.script_fault ↔ (outcome.status ≡ 6)
-  pub image_fault : outcome.image_fault ≡ None
+  pub image_fault : IsSome outcome.image_fault → outcome.status ≡ 10

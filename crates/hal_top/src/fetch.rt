@@ -2,8 +2,11 @@ ghost use Rattle.std.specs.Prelude.{◌≡◌, ◌≤◌, IfSome, IsErrOf};
 ghost use Rattle.hal_base.specs.Faults.{Rose};
 ghost use Rattle.hal_top.specs.Told.{FetchesFile};
 
-use hal_base::{Found, Shelf, ShelfFault, TEXT_LIMIT};
+use hal_base::{Found, Shelf, ShelfFault};
 use std::alloc::Global;
+
+/// An image has at most so many bytes, 64 MiB.
+pub const IMAGE_LIMIT: u64 = 67_108_864;
 
 /// Why a file's bytes aren't there.
 #[derive(Clone, Copy, Debug, PartialEq, Eq)]
@@ -14,15 +17,20 @@ pub enum NoFile {
     Memory,
 }
 
-/// The bytes of a unit or a script.
-pub fn fetched<S: Shelf>(alloc: Global, shelf: &mut S, name: &str) -> Result<Vec<u8>, NoFile>
-    ensures answer { IfSome (S.files shelf.old) (λ files. FetchesFile files name.now result) }
+/// The bytes of a file, of which there may be so many.
+pub fn fetched<S: Shelf>(
+    alloc: Global,
+    shelf: &mut S,
+    name: &str,
+    limit: u64,
+) -> Result<Vec<u8>, NoFile>
+    ensures answer { IfSome (S.files shelf.old) (λ files. FetchesFile files (record { name = name.now; limit = limit }) result) }
     ensures failed { IsErrOf result NoFile.Shelf → Rose (S.faults shelf.old) (S.faults shelf.new) }
     ensures same { S.files shelf.new ≡ S.files shelf.old }
     ensures later { S.faults shelf.old ≤ S.faults shelf.new }
 {
     let mut bytes = Vec::new(alloc);
-    match shelf.fetch(alloc, name, TEXT_LIMIT, &mut bytes) {
+    match shelf.fetch(alloc, name, limit, &mut bytes) {
         Ok(Found::All) => Ok(bytes),
         Ok(Found::Absent) => Err(NoFile::Absent),
         Ok(Found::TooLong) => Err(NoFile::TooLong),

@@ -1,4 +1,4 @@
-//! The top call: words, files, script and units come in, and a report or one line of refusal goes out.
+//! The top call: words, files, script, units and images come in, and a report, an image or one line of refusal goes out.
 #![tactic(auto)]
 
 mod fetch;
@@ -7,6 +7,7 @@ mod perform;
 mod prepare;
 mod refuse;
 mod refused;
+mod tasks;
 mod top;
 mod words;
 

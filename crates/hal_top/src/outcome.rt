@@ -15,6 +15,6 @@ pub struct Outcome {
     pub refused: Option<Refusal>,
     /// The first faulty line of the script.
     pub script_fault: Option<ScriptFault>,
-    /// The first faulty instruction of an image: no command reads one yet.
+    /// Of an image that isn't right, the first instruction that isn't, or the number of instructions where its tables alone aren't; none of bytes that are no image.
     pub image_fault: Option<u64>,
 }

@@ -1,7 +1,7 @@
 use hal_base::Refusal;
 use hal_script::ScriptFault;
 
-/// Why there is no report.
+/// Why nothing is done.
 #[derive(Clone, Copy, Debug, PartialEq, Eq)]
 pub enum Refused {
     /// The words have no form.
@@ -14,6 +14,10 @@ pub enum Refused {
     Script(ScriptFault),
     /// The set of the units breaks a rule.
     Rule(Refusal),
+    /// The bytes are those of no image.
+    NotImage,
+    /// The image isn't right: its first instruction that isn't, or the number of instructions where its tables alone aren't.
+    Unsound(u64),
     /// The shelf failed.
     Shelf,
     /// Memory was wanting.

@@ -1,31 +1,90 @@
-ghost use Rattle.std.specs.Prelude.{◌≡◌, IfSome, IfNone, IsTrue, ◌↔◌, length};
+ghost use Rattle.std.specs.Prelude.{◌≡◌, ℕ, List, IfSome, IfNone, IsTrue, ◌↔◌, length};
 ghost use Rattle.std.specs.String.{string_bytes};
-ghost use Rattle.hal_top.specs.CommandLine.{texts, IsRunLine, IsUnitCount, HasNoForm};
+ghost use Rattle.hal_top.specs.CommandLine as lines;
+ghost use Rattle.hal_top.specs.CommandLine.{texts, IsRunLine, IsBuildLine, IsExecLine, IsUnitCount, IsCommand, HasNoForm, seen_command};
 
 use hal_base::UNIT_LIMIT;
 
-/// The command `run 1 SCRIPT UNIT..` with the files that it names.
+/// What a call is asked for, with the names of the files.
 #[derive(Drop)]
-pub struct Command<'a> {
-    pub script: &'a str,
-    pub units: &'a [String],
+pub enum Command<'a> {
+    /// A set of units is run under a script: `run 1 SCRIPT UNIT..`.
+    Run {
+        script: &'a str,
+        units: &'a [String],
+    },
+    /// The image of a set of units is written: `build UNIT..`.
+    Build {
+        units: &'a [String],
+    },
+    /// An image is run under a script: `exec 1 SCRIPT IMAGE`.
+    Exec {
+        script: &'a str,
+        image: &'a str,
+    },
 }
 
-/// The command, or None where the words aren't that.
-pub fn run_line(words: &[String]) -> Option<Command<'_>>
-    ensures run { IfSome result (λ command. IsRunLine (texts words.now) command.script.now (texts command.units.now)) }
-    ensures count { IfSome result (λ command. IsUnitCount (length command.units.now)) }
+/// The command of these words, None where they have no form.
+#[tactic(auto, using(crate::proofs::Forms::no_form))]
+pub fn command_of(words: &[String]) -> Option<Command<'_>>
+    ensures command { IfSome result (λ command. IsCommand (texts words.now) (seen_command command)) }
     ensures none { IfNone result (HasNoForm (texts words.now)) }
+{
+    if let Some((script, units)) = run_line(words) {
+        return Some(Command::Run { script, units });
+    }
+    if let Some(units) = build_line(words) {
+        return Some(Command::Build { units });
+    }
+    let (script, image) = exec_line(words)?;
+    Some(Command::Exec { script, image })
+}
+
+/// The script and the units of `run 1 SCRIPT UNIT..`.
+fn run_line(words: &[String]) -> Option<(&str, &[String])>
+    ensures run { IfSome result (λ files. IsRunLine (texts words.now) files.0.now (texts files.1.now)) }
+    ensures none { IfNone result ((script : List ℕ) (units : List (List ℕ)) → IsRunLine (texts words.now) script units → ⊥) }
 {
     match words {
         [run, lanes, script, units @ ..]
             if is_text(run, "run") && is_text(lanes, "1") && is_unit_count(units.len()) => {
-            Some(Command {
-                script: script.as_str(),
-                units,
-            })
+            Some((script.as_str(), units))
         }
         _ => None,
+    }
+}
+
+/// The units of `build UNIT..`.
+fn build_line(words: &[String]) -> Option<&[String]>
+    ensures build { IfSome result (λ units. IsBuildLine (texts words.now) (texts units.now)) }
+    ensures none { IfNone result ((units : List (List ℕ)) → IsBuildLine (texts words.now) units → ⊥) }
+{
+    match words {
+        [build, units @ ..] if is_text(build, "build") && is_unit_count(units.len()) => Some(units),
+        _ => None,
+    }
+}
+
+/// The script and the image of `exec 1 SCRIPT IMAGE`.
+fn exec_line(words: &[String]) -> Option<(&str, &str)>
+    ensures exec { IfSome result (λ files. IsExecLine (texts words.now) files.0.now files.1.now) }
+    ensures none { IfNone result ((script image : List ℕ) → IsExecLine (texts words.now) script image → ⊥) }
+{
+    match words {
+        [exec, lanes, script, image] if is_text(exec, "exec") && is_text(lanes, "1") => {
+            Some((script.as_str(), image.as_str()))
+        }
+        _ => None,
+    }
+}
+
+/// Whether the words are of `build`, which names no script.
+pub fn is_build(words: &[String]) -> bool
+    ensures { result ≡ lines.is_build (texts words.now) }
+{
+    match words {
+        [] => false,
+        [word, ..] => word.as_str() == "build",
     }
 }
 

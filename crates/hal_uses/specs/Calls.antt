@@ -7,7 +7,7 @@ use Rattle.hal_grammar.specs.Expressions.{Expression, Referred, Expressions, NoE
 use Rattle.hal_grammar.specs.Units.{Head, Procedure, Function}
 use Rattle.hal_phrases.specs.declared.role.Role.{Role}
 use Rattle.hal_phrases.specs.declared.role.Role.TheVariants as role
-use Rattle.hal_phrases.specs.Phrases.{Node, Phrase, OfTemplate, OfUnit, OfItem, OfExpression, OfReference, OfCallForm, OfTemporaryGroup, OfCall}
+use Rattle.hal_phrases.specs.Phrases.{Node, Phrase, OfTemplate, OfUnit, OfItem, OfExpression, OfReference, OfCallForm, OfTemporaryGroup, OfCall, OfSubscriptName}
 use Rattle.hal_names.specs.Means.{means}
 use Rattle.hal_scope.specs.declared.builtin.Builtin.{Builtin}
 use Rattle.hal_scope.specs.declared.builtin.Builtin.TheVariants as builtin
@@ -198,13 +198,18 @@ is_operand_role role.Event = false
 is_operand_role other = true
 
 -- the name of a FUNCTION without the arguments that it takes
-unfoldable pub alone_fault : List Phrase → ℕ → Reference → Option (ℕ × Place)
-alone_fault ps block (Refers place name path subscript) =
+abbrev pub lone_fault : List Phrase → ℕ → Place → List ℕ → Option (ℕ × Place)
+lone_fault ps block place name =
     option_and_then (λ k. option_and_then (λ (q : Phrase). if lacks_arguments q.node then Some (705, place) else None) (slice_get ps k)) (means ps block name)
+
+-- the same of a reference
+unfoldable pub alone_fault : List Phrase → ℕ → Reference → Option (ℕ × Place)
+alone_fault ps block (Refers place name path subscript) = lone_fault ps block place name
 
 -- rules 329, 705 and 716, and 702, 703 and 720 of arguments
 unfoldable pub miscalled : List Phrase → Phrase → Node → Option (ℕ × Place)
 miscalled ps p (OfCallForm place name arguments) = call_form_fault ps p place name arguments
 miscalled ps p (OfCall name arguments receivers) = call_fault ps p.around.block name arguments receivers
 miscalled ps p (OfReference r reference) = if is_operand_role r then alone_fault ps p.around.block reference else None
+miscalled ps p (OfSubscriptName name) = lone_fault ps p.around.block name.place name.name
 miscalled ps p other = None

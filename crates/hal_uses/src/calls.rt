@@ -282,18 +282,25 @@ fn lacks_arguments(node: Node<'_>) -> bool
     }
 }
 
-/// The name of a FUNCTION without the arguments that it takes.
+/// The name of a FUNCTION without the arguments that it takes, at this place.
+fn lone_fault(names: &Names<'_>, block: usize, place: Place, name: &Name) -> Option<(u16, Place)>
+    ensures { result ≡ calls.lone_fault (seen_names names.now) block place name.now }
+{
+    let number = names.means(block, name)?;
+    let declared = names.phrase(number)?;
+    if lacks_arguments(declared.node) {
+        Some((705, place))
+    } else {
+        None
+    }
+}
+
+/// The same of a reference.
 #[tactic(auto, using(hal_tree::proofs::MadeExpressions::made_reference), unfolding(crate::specs::Calls::alone_fault))]
 fn alone_fault(names: &Names<'_>, block: usize, reference: &Reference) -> Option<(u16, Place)>
     ensures { result ≡ calls.alone_fault (seen_names names.now) block (seen_reference reference.now) }
 {
-    let number = names.means(block, &reference.name)?;
-    let declared = names.phrase(number)?;
-    if lacks_arguments(declared.node) {
-        Some((705, reference.place))
-    } else {
-        None
-    }
+    lone_fault(names, block, reference.place, &reference.name)
 }
 
 /// Which rule of 329, 705 and 716 a phrase breaks, or 702, 703 and 720 by an argument, and where (language document, Kinds).
@@ -316,6 +323,9 @@ pub fn miscalled(names: &Names<'_>, phrase: &Phrase<'_>) -> Option<(u16, Place)>
             Role::Receiver | Role::Output | Role::Event => None,
             _ => alone_fault(names, phrase.around.block, reference),
         },
+        Node::SubscriptName { name } => {
+            lone_fault(names, phrase.around.block, name.place, &name.name)
+        }
         _ => None,
     }
 }

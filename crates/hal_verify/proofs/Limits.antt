@@ -1,5 +1,5 @@
 -- What an image that is right keeps.
-use Rattle.std.specs.Prelude.{◌≡◌, ℕ, nat_le, length, Bool, true, false, not, ◌&&◌, Option, Some, None, if◌then◌else◌}
+use Rattle.std.specs.Prelude.{◌≡◌, ◌↔◌, ℕ, nat_le, length, Bool, true, false, not, ◌&&◌, Option, Some, None, if◌then◌else◌}
 use Rattle.std.specs.List.{list_all, sum_by}
 use Rattle.std.proofs.Common.{refl}
 use Rattle.hal_values.specs.declared.tables.EventStart.{EventStart}
@@ -9,7 +9,7 @@ use Rattle.hal_code.specs.Blocks.{outward}
 use Rattle.hal_code.specs.Memory.{spread_limit, spread_of}
 use Rattle.hal_code.specs.Operands.{events_of, is_known}
 use Rattle.hal_code.specs.Right as right
-use Rattle.hal_verify.specs.Limits.{limits_kept}
+use Rattle.hal_verify.specs.Limits.{limits_kept, first_fault}
 
 -- rows of tables are right
 rows_by : (blocks rows : Bool) (size : ℕ) (found : Option ℕ)
@@ -40,3 +40,17 @@ right_keeps image is = kept_by
     (list_all (right.form_right image) image.views) (nat_le (sum_by (spread_of image) image.views) spread_limit) (right.views_lie image 0 image.views)
     (list_all (right.postfix_right (events_of image) 0) image.expressions) (right.names_right image)
     (rows_are image is)
+
+something : (n : ℕ) → Some n ≡ None → ⊥
+something n same = cc
+
+never : false ≡ true → ⊥
+never same = cc
+
+fault_by : (kept : Bool) (found : Option ℕ) (size : ℕ) → (found ≡ None → kept ≡ true) → (if kept then found else Some size) ≡ None ↔ found ≡ None
+fault_by true found size keeps = ((λ none. none), (λ none. none))
+fault_by false found size keeps = ((λ none. absurd (something size none)), (λ none. absurd (never (keeps none))))
+
+-- and it has no fault where it is right, and only there
+pub fault_none : (image : ImageParts) → first_fault image ≡ None ↔ right.IsRight image
+fault_none image = fault_by (limits_kept image) (right.first_failure image) (length image.code) (right_keeps image)

@@ -1,6 +1,6 @@
 //! The first instruction of an image that isn't right.
 
-ghost use Rattle.std.specs.Prelude.{◌≡◌, ◌&&◌, ◌↔◌, length, IfOk, IsTrue, if◌then◌else◌};
+ghost use Rattle.std.specs.Prelude.{◌≡◌, ◌&&◌, ◌↔◌, length, IfOk, IsTrue, None, if◌then◌else◌};
 ghost use Rattle.std.specs.List.{list_all};
 ghost use Rattle.hal_values.specs.declared.tables.EventStart.{EventStart};
 ghost use Rattle.hal_code.specs.declared.choice.Choice.{Choice as ChoiceThere};
@@ -8,7 +8,7 @@ ghost use Rattle.hal_code.specs.Blocks.{outward};
 ghost use Rattle.hal_code.specs.Operands.{events_of, is_known};
 ghost use Rattle.hal_code.specs.Right as right;
 ghost use Rattle.hal_code.specs.Right.{IsRight};
-ghost use Rattle.hal_verify.specs.Limits.{limits_kept};
+ghost use Rattle.hal_verify.specs.Limits.{first_fault, limits_kept};
 
 use crate::blocks::{blocks_right, outward, wrong_instr};
 use crate::counts::view_count;
@@ -63,7 +63,7 @@ fn first_of_blocks(alloc: Global, image: &ImageParts) -> Result<Option<u64>, All
 /// The first instruction of an image that isn't right, or the number of instructions where rows of tables alone aren't; None where the image is right (image
 /// document, When an image is right). It fails only where memory is wanting. Runs are never expanded, so memory is bounded by the size of the image. Time goes
 /// with the size of the image, and with the cells that views give, for each process whose places they may use; COPY looks at the runs of its shape each time.
-/// Views of common blocks are looked at before their limit is, so where it isn't kept the time may be without any bound: `is_right` asks for the limits first.
+/// Views of common blocks are looked at before their limit is, so where it isn't kept the time may be without any bound: `first_fault` asks for the limits first.
 pub fn first_failure(alloc: Global, image: &ImageParts) -> Result<Option<u64>, AllocError>
     ensures { IfOk result (λ found. found ≡ right.first_failure image.now) }
 {
@@ -81,15 +81,23 @@ fn limits_kept(image: &ImageParts) -> bool
     limits_right(image) && shapes_right(image) && view_count(image) <= SPREAD_LIMIT
 }
 
-/// Whether an image is right (image document, When an image is right). Where the limits aren't kept, neither its instructions nor the addresses of its views are
-/// looked at. It fails only where memory is wanting.
-#[tactic(auto, using(crate::proofs::Limits::right_keeps))]
+/// The same, but that where the limits aren't kept it is the number of instructions, and neither instructions nor the addresses of views are looked at: its time
+/// goes with the size of the image and those limits (image document, When an image is right). It fails only where memory is wanting.
+#[tactic(auto, using(crate::proofs::Limits::fault_none))]
+pub fn first_fault(alloc: Global, image: &ImageParts) -> Result<Option<u64>, AllocError>
+    ensures found { IfOk result (λ found. found ≡ first_fault image.now) }
+    ensures right { IfOk result (λ found. (found ≡ None) ↔ IsRight image.now) }
+{
+    if limits_kept(image) {
+        first_failure(alloc, image)
+    } else {
+        Ok(Some(image.code.as_slice().len() as u64))
+    }
+}
+
+/// Whether an image is right (image document, When an image is right), by the limits first. It fails only where memory is wanting.
 pub fn is_right(alloc: Global, image: &ImageParts) -> Result<bool, AllocError>
     ensures { IfOk result (λ right. IsTrue right ↔ IsRight image.now) }
 {
-    if limits_kept(image) {
-        Ok(first_failure(alloc, image)?.is_none())
-    } else {
-        Ok(false)
-    }
+    Ok(first_fault(alloc, image)?.is_none())
 }

@@ -1,0 +1,70 @@
+//! Where calls go on.
+
+ghost use Rattle.std.specs.Prelude.{◌≡◌, map, IfOk};
+ghost use Rattle.hal_code.specs.Controlling.{zero_of};
+ghost use Rattle.hal_machine.specs.Blocks.{Gives};
+ghost use Rattle.hal_machine.specs.Stacks.{return_seen, back_seen};
+
+use crate::operands::Operands;
+use hal_code::{Choice, ResultKind};
+use std::alloc::{AllocError, Global};
+
+/// Where a call goes on, and the result that is wanted of it.
+#[derive(Drop)]
+pub struct Return {
+    pub at: usize,
+    pub operands: Operands,
+    pub line: Vec<u8>,
+    pub result: Choice<ResultKind>,
+}
+
+impl Return {
+    /// Whether a value is wanted.
+    pub(crate) fn wants_value(&self) -> bool
+        ensures { Gives result (zero_of self.now.result) }
+    {
+        match self.result {
+            Choice::Known(ResultKind::Nothing) => false,
+            Choice::Known(ResultKind::Integer) => true,
+            Choice::Known(ResultKind::Bits) => true,
+            Choice::Known(ResultKind::Text) => true,
+            Choice::Other(_) => false,
+        }
+    }
+
+    /// The same once more.
+    fn copy(&self, alloc: Global) -> Result<Return, AllocError>
+        ensures { IfOk result (λ copy. return_seen copy ≡ return_seen self.now) }
+    {
+        Ok(Return {
+            at: self.at,
+            operands: self.operands.copy(alloc)?,
+            line: Vec::from_slice(alloc, self.line.as_slice())?,
+            result: self.result,
+        })
+    }
+}
+
+/// Where a call goes on, if it does, once more.
+fn back_of(alloc: Global, back: &Option<Return>) -> Result<Option<Return>, AllocError>
+    ensures { IfOk result (λ copy. back_seen copy ≡ back_seen back.now) }
+{
+    match back {
+        None => Ok(None),
+        Some(back) => Ok(Some(back.copy(alloc)?)),
+    }
+}
+
+/// The same of some.
+pub(crate) fn backs_of(
+    alloc: Global,
+    backs: &[Option<Return>],
+) -> Result<Vec<Option<Return>>, AllocError>
+    ensures { IfOk result (λ copy. map back_seen copy.items ≡ map back_seen backs.now) }
+{
+    let mut copy = Vec::new(alloc);
+    for back in backs {
+        copy.push(back_of(alloc, back)?)?;
+    }
+    Ok(copy)
+}
