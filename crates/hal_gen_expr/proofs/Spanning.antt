@@ -2,20 +2,15 @@
 use Rattle.std.specs.Prelude.{◌≡◌, ℕ, ◌+◌, ℤ, pos, ◌+ℤ◌, ◌-ℤ◌, Bool, true, false, ◌&&◌, Option, Some, None, if◌then◌else◌}
 use Rattle.std.specs.Option.{option_and_then, is_some}
 use Rattle.std.proofs.Common.{refl, sym, ap, ◌∙◌}
-use Rattle.hal_grammar.specs.Expressions.{Sub, Every, Range, Portion, One as OnePlace, Position, FromBeginning, FromEnd}
-use Rattle.hal_values.specs.declared.value.Value.TheVariants as value
+use Rattle.hal_grammar.specs.Expressions.{Sub, Every, Range, Portion, One as OnePlace}
 use Rattle.hal_states.specs.Numbers.{is_inside, before_nearest}
-use Rattle.hal_meaning.specs.Expressions.{summed}
 use Rattle.hal_meaning.specs.Variables.{Dimension}
-use Rattle.hal_agreement.specs.PlacedExpressions.{IsPosition, IsSpan, SpanAt}
+use Rattle.hal_agreement.specs.PlacedExpressions.{IsSpan, SpanAt}
 use Rattle.hal_agreement.specs.Sites.{Site}
 use Rattle.hal_gen_expr.specs.declared.spans.Span.{Span}
-use Rattle.hal_gen_expr.specs.Constants.{integer_of}
-use Rattle.hal_gen_expr.specs.Spans.{a_span, place_of, from_to, so_many_at, span_of, places_before_span, places_skipped, elements_behind, elements_skipped}
-use Rattle.hal_gen_expr.proofs.Constancy.{constant_at, sum_at}
-
-some_is : (a b : ℤ) → Some a ≡ Some b → a ≡ b
-some_is a b is = cc
+use Rattle.hal_gen_expr.specs.Constants.{integer_of, place_of}
+use Rattle.hal_gen_expr.specs.Spans.{a_span, from_to, so_many_at, span_of, places_before_span, places_skipped, elements_behind, elements_skipped}
+use Rattle.hal_gen_expr.proofs.Constancy.{constant_at, place_at}
 
 span_is : (s t : Span) → Some s ≡ Some t → s ≡ t
 span_is s t is = cc
@@ -33,20 +28,14 @@ so_many_known (Some n) None span is = absurd (cc)
 so_many_known None p span is = absurd (cc)
 
 module _ (site : Site) where
-  place_known : (size : ℕ) (one : Position) (k : ℤ) → place_of site size one ≡ Some k → IsPosition site size one k
-  place_known size (FromBeginning tree) k is = constant_at site tree k is
-  place_known size (FromEnd there terms) k is =
-      let sum = sum_at site terms (Some (pos size)) k is in
-      λ rec h st same. ap (λ a. summed rec h (value.Int a) terms st) (some_is (pos size) sum.0 sum.1) ∙ sum.2 rec h st same
-
   span_known : (size : ℕ) (sub : Sub) (span : Span) → span_of site size sub ≡ Some span → IsSpan site size sub span.first span.last
   span_known size (Every there) span is = let same = span_is (a_span (pos 1) (pos size)) span is in (sym (ap (λ (s : Span). s.first) same), sym (ap (λ (s : Span). s.last) same))
   span_known size (OnePlace one) span is = absurd (cc)
   span_known size (Range one other) span is =
-      let both = from_to_known (place_of site size one) (place_of site size other) span is in (place_known size one span.first both.0, place_known size other span.last both.1)
+      let both = from_to_known (place_of site size one) (place_of site size other) span is in (place_at site one size span.first both.0, place_at site other size span.last both.1)
   span_known size (Portion count one) span is =
       let known = so_many_known (integer_of site count) (place_of site size one) span is in
-      (known.0, constant_at site count known.0 known.1, place_known size one span.first known.2, known.3)
+      (known.0, constant_at site count known.0 known.1, place_at site one size span.first known.2, known.3)
 
   inside_by : (d : Dimension) (sub : Sub) (span : Span) → IsSpan site d.size sub span.first span.last → (b : Bool) → (is_inside d.size span.first && is_inside d.size span.last) ≡ b
       → is_some (if b then Some (before_nearest d.size span.first) else None) ≡ true → SpanAt site d sub (elements_behind d.stride (if b then Some (before_nearest d.size span.first) else None))

@@ -1,20 +1,15 @@
 -- Several places of a dimension that a subscript chooses: they are constant and lie inside it.
 use Rattle.std.specs.Prelude.{ℕ, ◌+◌, ◌*◌, ℤ, pos, ◌+ℤ◌, ◌-ℤ◌, ◌&&◌, List, [], ◌∷◌, Option, Some, None, if◌then◌else◌}
 use Rattle.std.specs.Option.{option_and_then}
-use Rattle.hal_grammar.specs.Expressions.{Subscripts, NoSubscripts, MoreSubscripts, Sub, Every, Range, Portion, One as OnePlace, Position, FromBeginning, FromEnd}
+use Rattle.hal_grammar.specs.Expressions.{Subscripts, NoSubscripts, MoreSubscripts, Sub, Every, Range, Portion, One as OnePlace}
 use Rattle.hal_states.specs.Numbers.{is_inside, before_nearest}
 use Rattle.hal_meaning.specs.Variables.{Dimension}
 use Rattle.hal_agreement.specs.Sites.{Site}
 use Rattle.hal_gen_expr.specs.declared.spans.Span.{Span}
-use Rattle.hal_gen_expr.specs.Constants.{integer_of, added}
+use Rattle.hal_gen_expr.specs.Constants.{integer_of, place_of}
 
 abbrev pub a_span : ℤ → ℤ → Span
 a_span first last = record { first = first; last = last }
-
--- a place of so many, where it is constant
-abbrev pub place_of : Site → ℕ → Position → Option ℤ
-place_of site size (FromBeginning one) = integer_of site one
-place_of site size (FromEnd there terms) = added site (Some (pos size)) terms
 
 -- the places from one to another
 abbrev pub from_to : Option ℤ → Option ℤ → Option Span

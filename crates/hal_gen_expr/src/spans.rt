@@ -3,36 +3,24 @@
 ghost use Rattle.std.specs.Prelude.{◌≡◌, map, min};
 ghost use Rattle.hal_states.specs.Numbers as numbers;
 ghost use Rattle.hal_tree.specs.Rows.{subscripts};
-ghost use Rattle.hal_tree.specs.SeenExpressions.{seen_position, seen_sub};
+ghost use Rattle.hal_tree.specs.SeenExpressions.{seen_sub};
 ghost use Rattle.hal_elements.specs.SeenComponents.{seen_shape};
 ghost use Rattle.hal_meaning.specs.Expressions.{copies_of};
 ghost use Rattle.hal_meaning.specs.Variables.{dimensions_of};
 ghost use Rattle.hal_gen_expr.specs.SeenSites.{seen_site, IsSite};
 ghost use Rattle.hal_gen_expr.specs.Spans as spans;
 
-use crate::constants::{added, integer_of};
+use crate::constants::{integer_of, place_of};
 use crate::led::stride;
 use crate::site::Site;
 use hal_elements::{Shape, copy_size};
-use hal_tree::{Position, Sub};
+use hal_tree::Sub;
 
 /// Places of a dimension, from one to another, as they are counted from 1.
 #[derive(Clone, Copy)]
 pub struct Span {
     pub first: i64,
     pub last: i64,
-}
-
-/// A place of so many, where it is constant.
-#[tactic(auto, using(hal_tree::proofs::MadeExpressions::made_from_beginning, hal_tree::proofs::MadeExpressions::made_from_end))]
-fn place_of(position: &Position, size: u16, site: &Site<'_>) -> Option<i32>
-    requires site { IsSite site.now }
-    ensures { result ≡ spans.place_of (seen_site site.now) size (seen_position position.now) }
-{
-    match position {
-        Position::FromBeginning { position } => integer_of(position, site),
-        Position::FromEnd { place: _, terms } => added(terms, Some(i32::from(size)), site),
-    }
 }
 
 /// The places from one to another.
