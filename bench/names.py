@@ -1,7 +1,7 @@
 #!/usr/bin/env python3
 """How fast the rules of names are tried, and how the time grows. Run it by hand, from anywhere: bench/names.py
 
-A program of its own, crates/parse_times, makes a unit that is full of names of one kind and tries the rules of
+A program of its own, crates/times, makes a unit that is full of names of one kind and tries the rules of
 names on it. A row is a kind of unit: its words, the processor time of trying it once (the difference between trying
 it TIMES times and not at all; the least of three), the words a second, and the time's ratio to that of a unit of
 half the names. The larger unit is nearly at the limit of 65,536 words. The ratio is to stay below 2.5 for each kind.
@@ -23,7 +23,7 @@ HIGHEST = 2.5
 
 def cost(path, kind, names, times):
     """The processor seconds of a run, and the unit's words."""
-    said, seconds, _ = run(path, names, times, kind)
+    said, seconds, _ = run(path, 'units', names, times, kind)
     told = said.split()
     if told[:1] != [kind] or told[1] == '0' or told[4] != str(times):
         sys.exit(f'{kind}: {said!r}')
@@ -38,7 +38,7 @@ def each(path, kind, names):
 
 
 def main():
-    path = program('parse_times')
+    path = program('times')
     print(f'{"unit":>13}{"words":>8}{"ms":>8}{"Mwords/s":>10}{"ratio":>8}')
     is_fine = True
     for kind, names in KINDS:

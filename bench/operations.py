@@ -1,7 +1,7 @@
 #!/usr/bin/env python3
 """How long an operation of expressions takes. Run it by hand, from anywhere: bench/operations.py
 
-A program of its own, crates/operation_times, does so many rounds of one operation as its words say, and
+A program of its own, crates/times, does so many rounds of one operation as its words say, and
 each round needs what the one before it came to. A row is an operation: its rounds, the processor time
 (the least of nine runs), and the nanoseconds for each round, from which those of the program's start,
 a run of no rounds, are taken. A sum and a comparison of integers are to take less than 20 nanoseconds
@@ -19,14 +19,14 @@ RUNS = 9
 
 def cost(path, kind, rounds):
     """The processor seconds of one run of so many rounds."""
-    said, seconds, _ = run(path, rounds, kind)
+    said, seconds, _ = run(path, 'operations', rounds, kind)
     if not said.startswith(f'{rounds} {kind} ') or said.count('\n') != 1:
         sys.exit(f'{rounds} {kind}: {said!r}')
     return seconds
 
 
 def main():
-    path = program('operation_times')
+    path = program('times')
     print(f'{"operation":>12}{"rounds":>12}{"ms":>10}{"ns each":>10}')
     is_fine = True
     for kind, rounds, limit in ROWS:

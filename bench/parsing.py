@@ -1,7 +1,7 @@
 #!/usr/bin/env python3
 """How fast words are parsed, and how the time grows. Run it by hand, from anywhere: bench/parsing.py
 
-A program of its own, crates/parse_times, makes a unit of one kind and parses its words. A row is a kind
+A program of its own, crates/times, makes a unit of one kind and parses its words. A row is a kind
 of unit of so many bytes: its words, the processor time of parsing it once (the difference between parsing
 it TIMES times and not at all; the least of three), the words a second, and the time's ratio to that of
 a unit of half the bytes. The larger unit is nearly at the limit of 65,536 words. The ratio is to stay
@@ -23,7 +23,7 @@ SECONDS = 1.0
 
 def cost(path, kind, size, times):
     """The processor seconds of a run, and the unit's words."""
-    said, seconds, _ = run(path, size, times, kind)
+    said, seconds, _ = run(path, 'units', size, times, kind)
     told = said.split()
     if told[:1] != [kind] or told[4] != ('0' if kind in UNREAD else str(times)):
         sys.exit(f'{kind}: {said!r}')
@@ -38,7 +38,7 @@ def each(path, kind, size):
 
 
 def main():
-    path = program('parse_times')
+    path = program('times')
     print(f'{"unit":>13}{"words":>8}{"ms":>8}{"Mwords/s":>10}{"ratio":>8}')
     is_fine = True
     for kind, size in KINDS:

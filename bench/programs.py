@@ -12,7 +12,7 @@ def program(name):
     crate = CRATES / name
     path = crate / 'out' / name
     if not path.exists():
-        subprocess.run(['rt', 'run', '--', '1000'], cwd=crate, stdout=subprocess.DEVNULL, check=False)
+        subprocess.run(['rt', 'run'], cwd=crate, stdout=subprocess.DEVNULL, check=False)
     if not path.exists():
         sys.exit(f'{name} is not built')
     if any(source.stat().st_mtime > path.stat().st_mtime for source in CRATES.glob('*/src/**/*.rt')):

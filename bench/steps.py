@@ -1,7 +1,7 @@
 #!/usr/bin/env python3
 """How long a step of the plain executive takes with 128 processes. Run it by hand, from anywhere: bench/steps.py
 
-A program of its own, crates/exec_steps, runs 128 processes that take turns on one lane, for so many
+A program of its own, crates/times, runs 128 processes that take turns on one lane, for so many
 events as its word says; for each it asks which event may come and makes its step. A row is a number of
 events: the processor time (the least of three runs), the peak of memory, and the milliseconds for each
 event more than in the row above. A step is to cost the same in a long run, so the last row's is at
@@ -17,14 +17,14 @@ RATIO_LIMIT = 2.5
 
 def cost(path, events):
     """The processor seconds and peak megabytes of one run of so many events."""
-    said, seconds, peak = run(path, events)
+    said, seconds, peak = run(path, 'steps', events)
     if said != f'{events} events, 128 processes\n':
         sys.exit(f'{events} events: {said!r}')
     return seconds, peak
 
 
 def main():
-    path = program('exec_steps')
+    path = program('times')
     print(f'{"events":>8}{"ms":>10}{"MB":>8}{"ms each":>10}')
     last, steps = None, []
     for events in EVENTS:

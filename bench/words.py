@@ -1,7 +1,7 @@
 #!/usr/bin/env python3
 """How fast words are read. Run it by hand, from anywhere: bench/words.py
 
-A program of its own, crates/word_times, makes a text of one kind and reads its words. A row is a kind
+A program of its own, crates/times, makes a text of one kind and reads its words. A row is a kind
 of text of so many bytes: its words, the processor time of reading it once (the difference between
 reading it 21 times and once, by 20; the least of three), and the megabytes a second. Ordinary source
 is to be read at 20 MB/s at least, and no kind slower than at a tenth of it.
@@ -28,7 +28,7 @@ MOST = 10
 
 def cost(path, kind, size, times):
     """The processor seconds of a run, its bytes and words."""
-    said, seconds, _ = run(path, size, times, kind)
+    said, seconds, _ = run(path, 'words', size, times, kind)
     told = said.split()
     if told[:1] != [kind]:
         sys.exit(f'{kind}: {said!r}')
@@ -44,7 +44,7 @@ def again(path, kind):
 
 
 def main():
-    path = program('word_times')
+    path = program('times')
     print(f'{"text":>13}{"bytes":>10}{"words":>8}{"ms":>8}{"MB/s":>8}')
     speeds = []
     for kind, least in KINDS:

@@ -1,0 +1,129 @@
+#!/usr/bin/env python3
+"""How fast sets of units are compiled, and how the time grows. Run it by hand, from anywhere: bench/compiling.py
+
+The proved program builds sets of units, of 128 KiB to 1 MiB of source: a PROGRAM that calls PROCEDUREs, each a unit of its own with declarations, loops,
+conditions, expressions, subscripts and texts. The first table has a row for each size: the processor time of `build` (the least of three), the megabytes a second, and the ratio
+to half the size. 1 MiB is to be built at 2 MB a second at least, and no ratio is to be above 2.5.
+
+The second table says which share each stage has of it. The set of 1 MiB is given a fault in its last statement, which a stage finds when it has done all its work, so that no
+later stage begins. A row is a stage: the time until the set is refused by it, and the time that it adds to the one before.
+
+It ends with status 1 where a bar isn't met.
+"""
+import os
+import pathlib
+import subprocess
+import sys
+import tempfile
+
+ROOT = pathlib.Path(__file__).resolve().parent.parent
+PROGRAM = ROOT / 'crates/hal_cli/out/hal_cli'
+KIB = 1024
+SIZES = (128 * KIB, 256 * KIB, 512 * KIB, 1024 * KIB)
+LEAST, HIGHEST = 2.0, 2.5
+# A unit keeps below the limit of words.
+UNIT = 128 * KIB
+
+# Stages in their order, each with a last statement that it refuses, and the rule that it tells.
+STAGES = (
+    ('words and trees', 'N = 1 +;', 401),
+    ('names', 'N = LOST;', 601),
+    ('types', "N = 'A' + 1;", 702),
+    ('locks', 'UPDATE; UPDATE; CLOSE; CLOSE;', 802),
+    ('limits and calls', 'CALL LAST{unit}(N) ASSIGN(N);', 901),
+)
+
+DECLARED = """ LAST{unit}: PROCEDURE(X) ASSIGN(Y);
+  DECLARE X INTEGER DOUBLE, Y INTEGER DOUBLE;
+  DECLARE N INTEGER DOUBLE, K INTEGER, A ARRAY(100) INTEGER, T CHARACTER(40), B BIT(16);
+"""
+# Statements of many kinds; those of a number have a name of their own.
+STATEMENTS = """  N = N + K * (X - {one}) - ABS(Y);
+  IF N > {one} AND K < 7 THEN A$K = N; ELSE T = T CAT 'UNIT {one}';
+  DO FOR K = 1 TO 100; A$K = A$(K) + {one}; END;
+  DO WHILE N > 0; N = N - 1; IF A$(1) = N THEN N = 0; END;
+  B = B OR BIN'0101'; DO CASE K; N = 1; ; Y = A$(K); END;
+"""
+
+
+def unit_of(unit, size, last):
+    """A PROCEDURE of so many bytes, with this statement at its end."""
+    parts, length, one = [DECLARED.format(unit=unit)], 0, 0
+    while length < size:
+        one += 1
+        parts.append(STATEMENTS.format(one=one % 10_000))
+        length += len(parts[-1])
+    return ''.join(parts) + f'  {last.format(unit=unit)}\n CLOSE LAST{unit};\n'
+
+
+def set_of(folder, size, last=';'):
+    """The paths of a set of so many bytes; the statement is the last one of its last unit."""
+    count = max(size // UNIT, 1)
+    texts = [unit_of(unit, size // count, last if unit == count - 1 else ';') for unit in range(count)]
+    calls = ''.join(f'  CALL LAST{unit}(N) ASSIGN(N);\n' for unit in range(count))
+    heads = ''.join(f'D INCLUDE TEMPLATE LAST{unit}\n' for unit in range(count))
+    texts.insert(0, f'{heads} MAIN: PROGRAM;\n  DECLARE N INTEGER DOUBLE;\n{calls} CLOSE MAIN;\n')
+    paths = []
+    for number, text in enumerate(texts):
+        paths.append(folder / f'{number}.hal')
+        paths[-1].write_text(text)
+    return paths
+
+
+def build(paths):
+    """The processor seconds of a build, the least of three, its status and what it printed."""
+    least = None
+    for _ in range(3):
+        child = subprocess.Popen([PROGRAM, 'build', *paths], stdout=subprocess.PIPE)
+        said = child.stdout.read()
+        child.stdout.close()
+        _, status, usage = os.wait4(child.pid, 0)
+        child.returncode = os.waitstatus_to_exitcode(status)
+        took = usage.ru_utime + usage.ru_stime
+        least = took if least is None else min(least, took)
+    return least, child.returncode, said
+
+
+def growing(folder):
+    """Whether the set is built fast enough, in a time that grows as its length does."""
+    print(f'{"bytes":>10}{"seconds":>10}{"MB/s":>8}{"ratio":>8}')
+    half, met = None, True
+    for size in SIZES:
+        paths = set_of(folder, size)
+        length = sum(path.stat().st_size for path in paths)
+        took, status, said = build(paths)
+        if status != 0:
+            sys.exit(f'a set of {length} bytes: status {status}, {said[:200]!r}')
+        ratio = '' if half is None else f'{took / half:.2f}'
+        print(f'{length:10}{took:10.3f}{length / took / 1e6:8.2f}{ratio:>8}', flush=True)
+        met = met and (half is None or took / half <= HIGHEST) and (size < SIZES[-1] or length / took / 1e6 >= LEAST)
+        half = took
+    return met
+
+
+def shares(folder):
+    """What each stage takes of the largest set."""
+    print(f'{"stage":>18}{"seconds":>10}{"adds":>10}')
+    before = 0.0
+    for stage, last, rule in STAGES:
+        took, status, said = build(set_of(folder, SIZES[-1], last))
+        if status != 5 or not said.endswith(f'rule {rule}\n'.encode()):
+            sys.exit(f'{stage}: status {status}, {said[:200]!r}')
+        print(f'{stage:>18}{took:10.3f}{took - before:10.3f}', flush=True)
+        before = took
+    took, _, _ = build(set_of(folder, SIZES[-1]))
+    print(f'{"code and image":>18}{took:10.3f}{took - before:10.3f}')
+
+
+def main():
+    if not os.access(PROGRAM, os.X_OK):
+        sys.exit(f'{PROGRAM} is missing: ./hal --prove builds it')
+    with tempfile.TemporaryDirectory() as name:
+        folder = pathlib.Path(name)
+        met = growing(folder)
+        shares(folder)
+    sys.exit(0 if met else 1)
+
+
+if __name__ == '__main__':
+    main()
