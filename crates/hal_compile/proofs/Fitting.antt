@@ -10,7 +10,7 @@ use Rattle.hal_code.specs.declared.row.Target.TheVariants as target
 use Rattle.hal_code.specs.declared.row.View.{View}
 use Rattle.hal_code.specs.Images.{expanded}
 use Rattle.hal_code.specs.Memory.{target_kinds}
-use Rattle.hal_layout.specs.Layouts.{Layout, AreShort, IsNarrow}
+use Rattle.hal_storage.specs.layout.Layouts.{Layout, AreShort, IsNarrow}
 use Rattle.hal_right_values.specs.Finding.{HaveCells}
 use Rattle.hal_compile.specs.Fitness.{is_short, is_narrow, has_rows, has_cell, view_has_cell, have_cells}
 

@@ -4,7 +4,7 @@ use Rattle.std.specs.declared.alloc.Global.{Global}
 use Rattle.hal_base.specs.declared.refusal.Refusal.{Refusal}
 use Rattle.hal_base.specs.declared.refusal.Fault.{Fault}
 use Rattle.hal_base.specs.declared.refusal.Fault.TheVariants as fault
-use Rattle.hal_elements.proofs.Repeated.{behind, none_behind}
+use Rattle.hal_storage.proofs.elements.Repeated.{behind, none_behind}
 use Rattle.hal_grammar.specs.Units.{File}
 use Rattle.hal_tree.specs.declared.unit.File as rust-file
 use Rattle.hal_tree.specs.SeenUnits.{seen_file}

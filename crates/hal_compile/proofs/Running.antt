@@ -9,7 +9,7 @@ use Rattle.hal_constants.specs.Known.{Known, known}
 use Rattle.hal_meaning.specs.Bodies.{Body, bodies_of}
 use Rattle.hal_grammar.specs.Units.{File}
 use Rattle.hal_code.specs.declared.image.ImageParts.{ImageParts}
-use Rattle.hal_layout.specs.Layouts.{Layout, IsNarrow, layout_of, tables_of}
+use Rattle.hal_storage.specs.layout.Layouts.{Layout, IsNarrow, layout_of, tables_of}
 use Rattle.hal_link.specs.Linking.{image_of}
 use Rattle.hal_link.specs.CalledViews.{views_of}
 use Rattle.hal_meaning.specs.Sets.{Set, beginning, set_of}

@@ -16,7 +16,7 @@ use Rattle.hal_calls.specs.Programs.{has_program}
 use Rattle.hal_calls.specs.Rules.{BreaksCalls, call_rows}
 use Rattle.hal_constants.specs.Known.{known}
 use Rattle.hal_limits.specs.Limits.{IsWithin, BreaksLimit}
-use Rattle.hal_layout.specs.Layouts.{IsNarrow, layout_of}
+use Rattle.hal_storage.specs.layout.Layouts.{IsNarrow, layout_of}
 use Rattle.hal_values.specs.Loads.{turn_limit}
 use Rattle.hal_meaning.specs.Sets.{Set, beginning, set_of}
 use Rattle.hal_code.specs.declared.image.ImageParts.{ImageParts}

@@ -7,7 +7,7 @@ use Rattle.hal_code.specs.declared.row.Run.{Run}
 use Rattle.hal_code.specs.declared.row.Target.{Target}
 use Rattle.hal_code.specs.declared.row.Target.TheVariants as target
 use Rattle.hal_code.specs.declared.row.View.{View}
-use Rattle.hal_layout.specs.Layouts.{Layout}
+use Rattle.hal_storage.specs.layout.Layouts.{Layout}
 
 abbrev pub is_short : List ℕ → Bool
 is_short name = nat_le (length name) 255

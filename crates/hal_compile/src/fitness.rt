@@ -2,12 +2,12 @@
 
 ghost use Rattle.std.specs.Prelude.{◌≡◌, map};
 ghost use Rattle.std.specs.List.{list_all, list_any};
-ghost use Rattle.hal_layout.specs.SeenLayout.{seen_layout};
-ghost use Rattle.hal_processes.specs.SeenPaths.{seen_path};
+ghost use Rattle.hal_storage.specs.layout.SeenLayout.{seen_layout};
+ghost use Rattle.hal_storage.specs.processes.SeenPaths.{seen_path};
 ghost use Rattle.hal_compile.specs.Fitness as fitness;
 
 use hal_code::{ImageParts, Run, Target};
-use hal_layout::Layout;
+use hal_storage::layout::Layout;
 use hal_values::Kind;
 
 /// Whether names have at most 255 bytes.

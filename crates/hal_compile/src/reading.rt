@@ -39,7 +39,7 @@ fn reading_of(alloc: Global, text: &[u8], number: u32) -> Result<FileRead, Fault
 }
 
 /// Adds a file.
-#[tactic(auto, using(hal_elements::proofs::Repeated::one_mapped))]
+#[tactic(auto, using(hal_storage::proofs::elements::Repeated::one_mapped))]
 fn push_file(files: &mut Vec<File>, file: File) -> Result<(), Fault>
     ensures added { OnOk result (map seen_file files.new.items ≡ map seen_file files.old.items ++ (seen_file file ∷ [])) }
     ensures wanting { IfErr result IsOfMemory }

@@ -5,7 +5,7 @@ use Rattle.hal_base.specs.declared.refusal.Place.{Place}
 use Rattle.hal_grammar.specs.Expressions.{Expressions, Reference}
 use Rattle.hal_code.specs.declared.instr.Instr.{Instr}
 use Rattle.hal_agreement.specs.Sites.{Site}
-use Rattle.hal_referents.specs.Referents.{Referent, DataOf, ConstantOf, EventOf, BlockOf, BuiltinOf, Unmeant}
+use Rattle.hal_storage.specs.referents.Referents.{Referent, DataOf, ConstantOf, EventOf, BlockOf, BuiltinOf, Unmeant}
 use Rattle.hal_gen_expr.specs.Calling.{called_code}
 use Rattle.hal_gen_expr.specs.Emitting.{length_of}
 use Rattle.hal_gen_expr.specs.Numbering.{Numbering}

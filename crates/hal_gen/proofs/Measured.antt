@@ -33,7 +33,7 @@ use Rattle.hal_gen_expr.specs.Leaves.{value_of}
 use Rattle.hal_gen_expr.specs.declared.aims.Aim.TheVariants as aims
 use Rattle.hal_gen_expr.specs.Led.{Led, led_by, sizes_led}
 use Rattle.hal_gen_expr.specs.Numbering.{Numbering, below}
-use Rattle.hal_referents.specs.Referents.{Referent, DataOf, ConstantOf, EventOf, BlockOf, BuiltinOf, Unmeant}
+use Rattle.hal_storage.specs.referents.Referents.{Referent, DataOf, ConstantOf, EventOf, BlockOf, BuiltinOf, Unmeant}
 use Rattle.hal_gen_expr.specs.Referents.{referent}
 use Rattle.hal_gen_expr.proofs.Appending.{behind, emit_behind, onwards_behind, if_behind, grows_by, chosen_behind, part_behind, expression_grows, call_grows}
 use Rattle.hal_gen.specs.BlockExits.{of_body}

@@ -2,7 +2,7 @@
 use Rattle.std.specs.Prelude.{ℕ, suc, ◌+◌, ◌==◌, nat_lt, Bool, true, false, List, [], ◌∷◌, length, map, slice_get, Option, Some, None, if◌then◌else◌}
 use Rattle.std.specs.Option.{option_map, option_and_then}
 use Rattle.std.proofs.Common.{◌≡◌, ◌<◌, refl, ap, ap₂, ◌∙◌, arith, lt-ltb}
-use Rattle.hal_layout.specs.Layouts.{items_of}
+use Rattle.hal_storage.specs.layout.Layouts.{items_of}
 use Rattle.hal_meaning.specs.Events.{Stated}
 use Rattle.hal_meaning.specs.RealTime.{stated_from, stated_at_mark}
 use Rattle.hal_agreement.specs.Sites.{Site, here_at}

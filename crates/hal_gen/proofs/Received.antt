@@ -25,7 +25,7 @@ use Rattle.hal_gen_expr.specs.Emitting.{Emitted}
 use Rattle.hal_gen_expr.specs.ExpressionCode.{name_code, integer_code, chosen_code, part_code}
 use Rattle.hal_gen_expr.specs.Led.{led_to, led_by}
 use Rattle.hal_gen_expr.specs.Numbering.{Numbering}
-use Rattle.hal_referents.specs.Referents.{Referent, DataOf, ConstantOf, EventOf, BlockOf, BuiltinOf, Unmeant}
+use Rattle.hal_storage.specs.referents.Referents.{Referent, DataOf, ConstantOf, EventOf, BlockOf, BuiltinOf, Unmeant}
 use Rattle.hal_gen_expr.specs.Referents.{referent}
 use Rattle.hal_gen_expr.specs.Standing.{Begins, IsNumbered, Placed}
 use Rattle.hal_gen_expr.proofs.Expressed.{ok_is, if_emitted, name_at, integer_at, chosen_at, part_at}

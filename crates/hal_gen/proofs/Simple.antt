@@ -42,7 +42,7 @@ use Rattle.hal_gen_expr.specs.ExpressionCode.{emit_one, expression_code, argumen
 use Rattle.hal_gen_expr.specs.Calling.{spot_code, spots_code, passed_to_code}
 use Rattle.hal_gen_expr.specs.Leaves.{call_of}
 use Rattle.hal_gen_expr.specs.Numbering.{Numbering, below}
-use Rattle.hal_referents.specs.Referents.{Referent, DataOf, ConstantOf, EventOf, BlockOf, BuiltinOf, Unmeant}
+use Rattle.hal_storage.specs.referents.Referents.{Referent, DataOf, ConstantOf, EventOf, BlockOf, BuiltinOf, Unmeant}
 use Rattle.hal_gen_expr.specs.Referents.{referent}
 use Rattle.hal_gen_expr.specs.Standing.{Begins, IsNumbered, Placed}
 use Rattle.hal_gen_expr.proofs.Expressed.{call_given, ok_is, expression_at, arguments_at, area_placed}

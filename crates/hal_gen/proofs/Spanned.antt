@@ -14,7 +14,7 @@ use Rattle.hal_agreement.specs.PlacedExpressions.{Has, One, ExpressionAt}
 use Rattle.hal_agreement.specs.PlacedGroups.{KeepsAt, HoldsAt, CaseAt, BoundsAt, NextAt}
 use Rattle.hal_agreement.specs.PlacedStatements.{KeptAt, VariableAt, FetchedAt, VariableValueAt, TestAt, FirstSpanAt, LaterSpanAt, StepAt, BegunAt, SteppingAt, ValueKeptAt, NextValueAt, ListingAt}
 use Rattle.hal_agreement.specs.Sites.{Site, here_at}
-use Rattle.hal_referents.specs.Referents.{Referent, DataOf, ConstantOf, EventOf, BlockOf, BuiltinOf, Unmeant}
+use Rattle.hal_storage.specs.referents.Referents.{Referent, DataOf, ConstantOf, EventOf, BlockOf, BuiltinOf, Unmeant}
 use Rattle.hal_gen_expr.specs.Emitting.{onwards, emit}
 use Rattle.hal_gen_expr.specs.ExpressionCode.{emit_one, expression_code}
 use Rattle.hal_gen_expr.specs.Numbering.{Numbering, below}

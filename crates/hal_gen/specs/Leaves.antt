@@ -26,7 +26,7 @@ use Rattle.hal_code.specs.declared.operand.Response.TheVariants as response
 use Rattle.hal_agreement.specs.PlacedStatements.{Leaving, ToFinish, ByReturn, ByResult, changes, sets, response_of}
 use Rattle.hal_agreement.specs.Sites.{Site, here_at}
 use Rattle.hal_gen_expr.specs.Numbering.{below}
-use Rattle.hal_referents.specs.Referents.{Referent, DataOf}
+use Rattle.hal_storage.specs.referents.Referents.{Referent, DataOf}
 use Rattle.hal_gen_expr.specs.Referents.{referent}
 
 -- the kind of what READ stores in what a name refers to

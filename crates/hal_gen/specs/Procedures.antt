@@ -1,6 +1,6 @@
 -- What CALL calls.
 use Rattle.std.specs.Prelude.{ℕ, Option, Some, None}
-use Rattle.hal_referents.specs.Referents.{Referent, BlockOf}
+use Rattle.hal_storage.specs.referents.Referents.{Referent, BlockOf}
 
 -- the block that a name refers to
 abbrev pub block_of : Referent → Option ℕ

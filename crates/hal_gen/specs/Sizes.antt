@@ -11,7 +11,7 @@ use Rattle.hal_gen_expr.specs.Emitting.{length_of}
 use Rattle.hal_gen_expr.specs.Calling.{called_code}
 use Rattle.hal_gen_expr.specs.ExpressionCode.{expression_code}
 use Rattle.hal_gen_expr.specs.Numbering.{Numbering}
-use Rattle.hal_referents.specs.Referents.{Referent, BlockOf}
+use Rattle.hal_storage.specs.referents.Referents.{Referent, BlockOf}
 use Rattle.hal_gen_expr.specs.Referents.{referent}
 use Rattle.hal_gen.specs.Leaves.{as_result}
 use Rattle.hal_gen.specs.Receiving.{receiver_size}

@@ -18,7 +18,7 @@ use Rattle.hal_gen_expr.specs.Emitting.{Emitted, onwards, emit}
 use Rattle.hal_gen_expr.specs.Calling.{called_code}
 use Rattle.hal_gen_expr.specs.ExpressionCode.{emit_one, expression_code}
 use Rattle.hal_gen_expr.specs.Numbering.{Numbering, below}
-use Rattle.hal_referents.specs.Referents.{Referent, BlockOf}
+use Rattle.hal_storage.specs.referents.Referents.{Referent, BlockOf}
 use Rattle.hal_gen_expr.specs.Referents.{referent}
 use Rattle.hal_gen.specs.ChannelNumbers.{channel_of}
 use Rattle.hal_gen.specs.Leaves.{kind_of_receiver, return_of, result_of, event_change_of, event_pause_of, named_or_own_of, response_code, handler_code, off_of, raise_of}

@@ -4,7 +4,7 @@ ghost use Rattle.std.specs.Prelude.{◌≡◌, IfOk, map};
 ghost use Rattle.hal_tree.specs.Rows.{expressions};
 ghost use Rattle.hal_tree.specs.SeenExpressions.{seen_expression, seen_reference};
 ghost use Rattle.hal_tree.specs.SeenLeaves.{seen_name};
-ghost use Rattle.hal_referents.specs.SeenReferents.{seen_meant, seen_referent};
+ghost use Rattle.hal_storage.specs.referents.SeenReferents.{seen_meant, seen_referent};
 ghost use Rattle.hal_gen_expr.specs.Emits.{Emits};
 ghost use Rattle.hal_gen_expr.specs.Referents.{referent};
 ghost use Rattle.hal_gen_expr.specs.SeenSites.{seen_site, seen_numbering, IsSite};
@@ -15,7 +15,7 @@ ghost use Rattle.hal_gen.specs.StatementCode as codes;
 use hal_base::Place;
 use hal_code::Instr;
 use hal_gen_expr::{Site, Uncoded, emit_procedure, referent};
-use hal_referents::{Meant, Referent};
+use hal_storage::referents::{Meant, Referent};
 use hal_tree::{Expr, Identifier, Reference};
 use std::alloc::AllocError;
 

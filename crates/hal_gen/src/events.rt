@@ -2,7 +2,7 @@
 
 ghost use Rattle.std.specs.Prelude.{◌≡◌, map, None};
 ghost use Rattle.hal_tree.specs.SeenStatements.{seen_action, seen_event};
-ghost use Rattle.hal_event_expressions.specs.SeenStated.{seen_stated};
+ghost use Rattle.hal_storage.specs.event_expressions.SeenStated.{seen_stated};
 ghost use Rattle.hal_meaning.specs.Events as events;
 ghost use Rattle.hal_meaning.specs.RealTime.{stated_at_mark};
 ghost use Rattle.hal_agreement.specs.PlacedStatements as placed;
@@ -16,8 +16,8 @@ ghost use Rattle.hal_gen.specs.Pausing as pausing;
 
 use hal_base::Place;
 use hal_code::{Delay, Instr};
-use hal_event_expressions::{Stated, event_named};
 use hal_gen_expr::{Site, Uncoded, emit_one};
+use hal_storage::event_expressions::{Stated, event_named};
 use hal_tree::{EventAction, EventChange};
 use hal_words::Name;
 

@@ -6,7 +6,7 @@ ghost use Rattle.hal_grammar.specs.Statements as grammar;
 ghost use Rattle.hal_tree.specs.Rows.{expressions};
 ghost use Rattle.hal_tree.specs.SeenExpressions.{seen_expression};
 ghost use Rattle.hal_tree.specs.SeenStatements.{seen_guard, seen_span};
-ghost use Rattle.hal_referents.specs.SeenReferents.{seen_meant, seen_referent};
+ghost use Rattle.hal_storage.specs.referents.SeenReferents.{seen_meant, seen_referent};
 ghost use Rattle.hal_gen_expr.specs.Emits.{Emits};
 ghost use Rattle.hal_gen_expr.specs.Emitting as emitting;
 ghost use Rattle.hal_gen_expr.specs.Numbering as numbers;
@@ -23,7 +23,7 @@ use hal_code::Instr;
 use hal_gen_expr::{
     Site, Uncoded, element_of, emit_expression, emit_one, emit_two, push, referent,
 };
-use hal_referents::{Meant, Referent};
+use hal_storage::referents::{Meant, Referent};
 use hal_tree::{Expr, Guard, Span};
 use hal_words::Name;
 

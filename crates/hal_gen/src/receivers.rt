@@ -4,8 +4,8 @@ ghost use Rattle.std.specs.Prelude.{◌≡◌, IfOk, map};
 ghost use Rattle.hal_tree.specs.Rows.{subscripts};
 ghost use Rattle.hal_tree.specs.SeenExpressions.{seen_reference, seen_sub, seen_subscript};
 ghost use Rattle.hal_tree.specs.SeenLeaves.{seen_name};
-ghost use Rattle.hal_elements.specs.SeenComponents.{seen_component};
-ghost use Rattle.hal_referents.specs.SeenReferents.{seen_meant, seen_referent};
+ghost use Rattle.hal_storage.specs.elements.SeenComponents.{seen_component};
+ghost use Rattle.hal_storage.specs.referents.SeenReferents.{seen_meant, seen_referent};
 ghost use Rattle.hal_meaning.specs.Elements as elements;
 ghost use Rattle.hal_meaning.specs.Variables as variables;
 ghost use Rattle.hal_code.specs.declared.operand.Places.TheVariants as places;
@@ -21,12 +21,12 @@ ghost use Rattle.hal_gen.specs.Storing as storing;
 
 use hal_base::Place;
 use hal_code::{Choice, Instr, Places};
-use hal_elements::Component;
 use hal_gen_expr::{
     Aim, Site, Uncoded, are_none, emit_chosen, emit_integer, emit_name, emit_one, emit_part,
     is_arrayed, leads, led_by, places_of, push, referent, sizes_led,
 };
-use hal_referents::{Meant, Referent};
+use hal_storage::elements::Component;
+use hal_storage::referents::{Meant, Referent};
 use hal_tree::{Identifier, Reference, Sub, Subscript};
 use hal_values::Kind;
 use std::alloc::AllocError;

@@ -5,7 +5,7 @@ ghost use Rattle.std.specs.Option.{option_map};
 ghost use Rattle.hal_tree.specs.SeenDeclarations.{seen_type};
 ghost use Rattle.hal_tree.specs.SeenExpressions.{seen_expression};
 ghost use Rattle.hal_tree.specs.SeenUnits.{seen_head, seen_returns};
-ghost use Rattle.hal_set.specs.SeenBodies.{seen_body};
+ghost use Rattle.hal_storage.specs.sets.SeenBodies.{seen_body};
 ghost use Rattle.hal_meaning.specs.Sets.{body_at};
 ghost use Rattle.hal_code.specs.declared.instr.Instr.TheVariants as instr;
 ghost use Rattle.hal_gen_expr.specs.Emits.{Emits};
@@ -21,7 +21,7 @@ use hal_base::Place;
 use hal_code::Instr;
 use hal_gen_expr::{Site, Uncoded, emit_expression, emit_one, one, push};
 use hal_operations::Op1;
-use hal_set::Body;
+use hal_storage::sets::Body;
 use hal_tree::{Expr, Head, Returns, Type};
 
 /// Whether a type is CHARACTER.

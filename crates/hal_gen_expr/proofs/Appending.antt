@@ -33,7 +33,7 @@ use Rattle.hal_gen_expr.specs.Numbering.{Numbering, shape_number}
 use Rattle.hal_gen_expr.specs.Shapes.{runs_of}
 use Rattle.hal_gen_expr.specs.Sizes.{size_of_arguments}
 use Rattle.hal_gen_expr.specs.Spans.{places_skipped}
-use Rattle.hal_referents.specs.Referents.{Referent, DataOf, ConstantOf, EventOf, BlockOf, BuiltinOf, Unmeant}
+use Rattle.hal_storage.specs.referents.Referents.{Referent, DataOf, ConstantOf, EventOf, BlockOf, BuiltinOf, Unmeant}
 use Rattle.hal_gen_expr.specs.Referents.{referent}
 use Rattle.hal_gen_expr.proofs.Growing.{append_append}
 

@@ -36,7 +36,7 @@ use Rattle.hal_agreement.specs.Constants.{IsConstant}
 use Rattle.hal_agreement.specs.PlacedExpressions.{IsPosition}
 use Rattle.hal_agreement.specs.Sites.{Site, site_of, here_at}
 use Rattle.hal_agreement.proofs.Expressing.{name_same}
-use Rattle.hal_referents.specs.Referents.{Referent, DataOf, ConstantOf, EventOf, BlockOf, BuiltinOf, Unmeant}
+use Rattle.hal_storage.specs.referents.Referents.{Referent, DataOf, ConstantOf, EventOf, BlockOf, BuiltinOf, Unmeant}
 use Rattle.hal_gen_expr.specs.Referents.{referent}
 use Rattle.hal_gen_expr.specs.Constants as known
 use Rattle.hal_gen_expr.proofs.Referring.{meaning_of, name_means}

@@ -10,7 +10,7 @@ use Rattle.hal_operations.specs.declared.operation.Op2.TheVariants as op2
 use Rattle.hal_meaning.specs.Expressions.{is_size, inputs_at}
 use Rattle.hal_code.specs.declared.instr.Instr.{Instr}
 use Rattle.hal_agreement.specs.Sites.{Site}
-use Rattle.hal_referents.specs.Referents.{Referent, DataOf, ConstantOf, EventOf, BlockOf, BuiltinOf, Unmeant}
+use Rattle.hal_storage.specs.referents.Referents.{Referent, DataOf, ConstantOf, EventOf, BlockOf, BuiltinOf, Unmeant}
 use Rattle.hal_gen_expr.specs.declared.expressions.Form.TheVariants as form
 use Rattle.hal_gen_expr.specs.Called.{built_form, form_of, formed}
 use Rattle.hal_gen_expr.specs.ExpressionCode.{size_code, called_code, expression_code, folded_code, built_code, arguments_code}

@@ -3,7 +3,7 @@ use Rattle.std.specs.Prelude.{ℕ, suc, ◌+◌, ◌==◌, not, nat_lt, List, []
 use Rattle.std.specs.Borrow.{Bor}
 use Rattle.std.specs.List.{position_or_len}
 use Rattle.std.proofs.Common.{◌≡◌, refl, ap, ap₂, cond}
-use Rattle.hal_own_places.specs.declared.place.Place as rust-place
+use Rattle.hal_storage.specs.declared.own_places.place.Place as rust-place
 use Rattle.hal_meaning.specs.Places.{Place}
 use Rattle.hal_meaning.specs.ReportNames.{first_place}
 use Rattle.hal_gen_expr.specs.SeenSites.{lent_place, lent_place_in}

@@ -20,7 +20,7 @@ use Rattle.hal_agreement.specs.PlacedExpressions.{Has, One, pushes, AddressAt, A
 use Rattle.hal_agreement.specs.Sites.{Site, here_at}
 use Rattle.hal_gen_expr.specs.Numbering.{Numbering, below, most, block_number}
 use Rattle.hal_gen_expr.specs.Leaves.{is_nil, is_one, address_of, element_of, alone_of, behind_of, bound_of, binds_of, kept_of, copied_of, stored_of, parameters_of, same_form, passed_to, call_with, call_to, call_of, value_of}
-use Rattle.hal_referents.specs.Referents.{Referent, DataOf, ConstantOf, EventOf, BlockOf, BuiltinOf, Unmeant}
+use Rattle.hal_storage.specs.referents.Referents.{Referent, DataOf, ConstantOf, EventOf, BlockOf, BuiltinOf, Unmeant}
 use Rattle.hal_gen_expr.specs.Standing.{Begins, IsNumbered, Placed}
 use Rattle.hal_gen_expr.proofs.Growing.{append_append, one_by_one, one_placed, none_placed, first_placed}
 use Rattle.hal_gen_expr.proofs.Numbered.{below_is, mapped_is, then_is, given_is, address_at}

@@ -19,7 +19,7 @@ use Rattle.hal_meaning.specs.Events.{event_of}
 use Rattle.hal_meaning.specs.Places.{Storing, storing}
 use Rattle.hal_meaning.specs.Variables.{spot_of, Meant, MeantData, MeantConstant, MeantEvent, MeantBlock, MeantBuiltin, MeantNothing, event_meant, item_meant, head_meant, meant_by, declaration_meant, builtin_meant, name_meant}
 use Rattle.hal_agreement.specs.Sites.{Site, here_at}
-use Rattle.hal_referents.specs.Referents.{Referent, DataOf, ConstantOf, EventOf, BlockOf, BuiltinOf, Unmeant, event_referent, item_referent, head_referent, node_referent, declaration_referent, builtin_referent}
+use Rattle.hal_storage.specs.referents.Referents.{Referent, DataOf, ConstantOf, EventOf, BlockOf, BuiltinOf, Unmeant, event_referent, item_referent, head_referent, node_referent, declaration_referent, builtin_referent}
 use Rattle.hal_gen_expr.specs.Referents.{referent}
 
 -- what something that is referred to means

@@ -3,7 +3,7 @@ use Rattle.std.specs.Prelude.{◌≡◌, List, [], ◌∷◌, ◌++◌, map, if�
 use Rattle.std.proofs.Common.{refl}
 use Rattle.hal_grammar.specs.Expressions.{Subscripts, NoSubscripts, MoreSubscripts, Sub, Every, Range, Portion, One as OnePlace}
 use Rattle.hal_code.specs.declared.row.Dimension.{Dimension as Row}
-use Rattle.hal_elements.proofs.Repeated.{none_behind}
+use Rattle.hal_storage.proofs.elements.Repeated.{none_behind}
 use Rattle.hal_meaning.specs.Variables.{Dimension}
 use Rattle.hal_agreement.specs.PlacedExpressions.{single_dimensions}
 use Rattle.hal_gen_expr.specs.Led.{is_single}

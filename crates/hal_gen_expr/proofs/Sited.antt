@@ -4,10 +4,10 @@ use Rattle.std.proofs.Common.{◌≡◌}
 use Rattle.hal_meaning.specs.Bodies.{processes_of}
 use Rattle.hal_meaning.specs.Events.{declared_events}
 use Rattle.hal_meaning.specs.ReportNames.{first_cell}
-use Rattle.hal_referents.specs.FirstCells.{first_in}
-use Rattle.hal_referents.specs.Referents.{referents}
-use Rattle.hal_referents.specs.SeenReferents.{seen_referent}
-use Rattle.hal_set.specs.SeenSets.{seen_set}
+use Rattle.hal_storage.specs.referents.FirstCells.{first_in}
+use Rattle.hal_storage.specs.referents.Referents.{referents}
+use Rattle.hal_storage.specs.referents.SeenReferents.{seen_referent}
+use Rattle.hal_storage.specs.sets.SeenSets.{seen_set}
 use Rattle.hal_gen_expr.specs.SeenSites.{IsSite, Sited}
 use Rattle.hal_gen_expr.specs.declared.site.Site as rust-site
 

@@ -7,7 +7,7 @@ use Rattle.hal_values.specs.declared.value.Value.TheVariants as value
 use Rattle.hal_states.specs.Spots.{Held}
 use Rattle.hal_meaning.specs.Expressions.{size_value, size_argument}
 use Rattle.hal_agreement.specs.Sites.{Site, here_at}
-use Rattle.hal_referents.specs.Referents.{Referent, DataOf, ConstantOf, EventOf, BlockOf, BuiltinOf, Unmeant}
+use Rattle.hal_storage.specs.referents.Referents.{Referent, DataOf, ConstantOf, EventOf, BlockOf, BuiltinOf, Unmeant}
 use Rattle.hal_gen_expr.specs.Referents.{referent}
 use Rattle.hal_gen_expr.specs.Sizes.{size_referred, size_of_arguments}
 use Rattle.hal_gen_expr.proofs.Referring.{meaning_of, name_means}

@@ -2,7 +2,7 @@
 use Rattle.std.specs.Prelude.{◌≡◌, ℕ, ◌+◌, ◌*◌, min, Option, Some, None, List, [], ◌∷◌}
 use Rattle.std.proofs.Common.{refl, sym, ap, ◌∙◌, arith}
 use Rattle.hal_grammar.specs.Expressions.{Subscripts, NoSubscripts, MoreSubscripts, Sub}
-use Rattle.hal_elements.proofs.Capped.{capped}
+use Rattle.hal_storage.proofs.elements.Capped.{capped}
 use Rattle.hal_code.specs.declared.row.Dimension.{Dimension as Row}
 use Rattle.hal_meaning.specs.Elements.{chosen, offset}
 use Rattle.hal_meaning.specs.Variables.{Dimension, dimension, kind_of_first}

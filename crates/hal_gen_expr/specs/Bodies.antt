@@ -1,8 +1,8 @@
 -- Bodies of a set, as the program finds them.
 use Rattle.std.specs.Prelude.{ℕ, ◌==◌, List, [], ◌∷◌, Option, Some, None, if◌then◌else◌}
 use Rattle.std.specs.Borrow.{Bor}
-use Rattle.hal_set.specs.declared.body.Body as rust-body
-use Rattle.hal_set.specs.SeenBodies.{seen_body}
+use Rattle.hal_storage.specs.declared.sets.body.Body as rust-body
+use Rattle.hal_storage.specs.sets.SeenBodies.{seen_body}
 use Rattle.hal_meaning.specs.Bodies.{Body}
 
 -- a body that is lent

@@ -11,7 +11,7 @@ use Rattle.hal_meaning.specs.Expressions.{is_size, inputs_at, operation_of_sign}
 use Rattle.hal_code.specs.declared.instr.Instr.{Instr}
 use Rattle.hal_agreement.specs.PlacedExpressions.{two}
 use Rattle.hal_agreement.specs.Sites.{Site}
-use Rattle.hal_referents.specs.Referents.{Referent, DataOf, ConstantOf, BlockOf, BuiltinOf}
+use Rattle.hal_storage.specs.referents.Referents.{Referent, DataOf, ConstantOf, BlockOf, BuiltinOf}
 use Rattle.hal_gen_expr.specs.declared.expressions.Form.{Form}
 use Rattle.hal_gen_expr.specs.declared.expressions.Form.TheVariants as form
 use Rattle.hal_gen_expr.specs.Emitting.{Emitted, onwards, emit}

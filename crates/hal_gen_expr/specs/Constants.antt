@@ -21,7 +21,7 @@ use Rattle.hal_constants.specs.declared.operation.Operation.TheVariants as opera
 use Rattle.hal_constants.specs.Naming.{operation_of}
 use Rattle.hal_constants.specs.Operands.{takes_one, takes_two, has_components}
 use Rattle.hal_meaning.specs.Expressions.{literal_value, operation_of_sign, operation_of_conversion}
-use Rattle.hal_referents.specs.Referents.{Referent, ConstantOf, BuiltinOf}
+use Rattle.hal_storage.specs.referents.Referents.{Referent, ConstantOf, BuiltinOf}
 use Rattle.hal_agreement.specs.Sites.{Site}
 use Rattle.hal_gen_expr.specs.Referents.{referent}
 

@@ -32,7 +32,7 @@ use Rattle.hal_gen_expr.specs.Numbering.{Numbering, shape_number}
 use Rattle.hal_gen_expr.specs.Shapes.{runs_of}
 use Rattle.hal_gen_expr.specs.Sizes.{size_of_arguments}
 use Rattle.hal_gen_expr.specs.Spans.{places_skipped}
-use Rattle.hal_referents.specs.Referents.{Referent, DataOf, ConstantOf, BlockOf, BuiltinOf}
+use Rattle.hal_storage.specs.referents.Referents.{Referent, DataOf, ConstantOf, BlockOf, BuiltinOf}
 use Rattle.hal_gen_expr.specs.Referents.{referent}
 
 -- one instruction of a phrase

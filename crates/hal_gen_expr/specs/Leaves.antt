@@ -21,7 +21,7 @@ use Rattle.hal_meaning.specs.Variables.{kind_of_first, is_whole}
 use Rattle.hal_agreement.specs.PlacedExpressions.{pushes}
 use Rattle.hal_agreement.specs.Sites.{Site}
 use Rattle.hal_gen_expr.specs.Numbering.{Numbering, below, most, base_of, view_number, area_number, block_number}
-use Rattle.hal_referents.specs.Referents.{Referent, DataOf, ConstantOf, EventOf, BlockOf, BuiltinOf, Unmeant}
+use Rattle.hal_storage.specs.referents.Referents.{Referent, DataOf, ConstantOf, EventOf, BlockOf, BuiltinOf, Unmeant}
 
 abbrev pub is_nil : {X : Type 0} → List X → Bool
 is_nil [] = true

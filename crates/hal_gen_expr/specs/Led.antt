@@ -11,7 +11,7 @@ use Rattle.hal_meaning.specs.Places.{Storing}
 use Rattle.hal_meaning.specs.Variables.{Dimension, dimensions_of, kind_of_first}
 use Rattle.hal_agreement.specs.PlacedExpressions.{single_dimensions}
 use Rattle.hal_agreement.specs.Sites.{Site}
-use Rattle.hal_referents.specs.Referents.{Referent, DataOf}
+use Rattle.hal_storage.specs.referents.Referents.{Referent, DataOf}
 use Rattle.hal_gen_expr.specs.declared.elements.Element.{Element}
 use Rattle.hal_gen_expr.specs.Elements.{counted, an_element, first_in}
 use Rattle.hal_gen_expr.specs.declared.aims.Aim.{Aim}

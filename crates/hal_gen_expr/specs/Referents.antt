@@ -1,6 +1,6 @@
 -- What names refer to where phrases stand.
 use Rattle.std.specs.Prelude.{ℕ, List}
-use Rattle.hal_referents.specs.Referents.{Referent, referent_in}
+use Rattle.hal_storage.specs.referents.Referents.{Referent, referent_in}
 use Rattle.hal_agreement.specs.Sites.{Site}
 
 abbrev pub referent : Site → List ℕ → Referent

@@ -2,15 +2,15 @@
 use Rattle.std.specs.Prelude.{◌≡◌, ◌≤◌, ◌+◌, ◌==◌, ℕ, List, Option, length, map}
 use Rattle.std.specs.List.{position}
 use Rattle.std.specs.Borrow.{Bor}
-use Rattle.hal_own_places.specs.declared.place.Place as rust-place
-use Rattle.hal_own_places.specs.SeenPlaces.{seen_place}
+use Rattle.hal_storage.specs.declared.own_places.place.Place as rust-place
+use Rattle.hal_storage.specs.own_places.SeenPlaces.{seen_place}
 use Rattle.hal_meaning.specs.Bodies.{processes_of}
 use Rattle.hal_meaning.specs.Events.{declared_events}
 use Rattle.hal_meaning.specs.Places.{Place}
-use Rattle.hal_referents.specs.FirstCells.{AreFirstCells}
-use Rattle.hal_referents.specs.Referents.{referents}
-use Rattle.hal_referents.specs.SeenReferents.{seen_referent}
-use Rattle.hal_set.specs.SeenSets.{seen_set}
+use Rattle.hal_storage.specs.referents.FirstCells.{AreFirstCells}
+use Rattle.hal_storage.specs.referents.Referents.{referents}
+use Rattle.hal_storage.specs.referents.SeenReferents.{seen_referent}
+use Rattle.hal_storage.specs.sets.SeenSets.{seen_set}
 use Rattle.hal_agreement.specs.Sites.{Site}
 use Rattle.hal_gen_expr.specs.Numbering.{Numbering, numbering_with}
 use Rattle.hal_gen_expr.specs.declared.site.Site as rust-site

@@ -4,7 +4,7 @@ use Rattle.hal_grammar.specs.Leaves.{Naming}
 use Rattle.hal_grammar.specs.Expressions.{Expression, Referred, Expressions, MoreExpressions, Reference, Refers}
 use Rattle.hal_meaning.specs.Expressions.{size_of, sizes_reached}
 use Rattle.hal_agreement.specs.Sites.{Site}
-use Rattle.hal_referents.specs.Referents.{Referent, DataOf}
+use Rattle.hal_storage.specs.referents.Referents.{Referent, DataOf}
 use Rattle.hal_gen_expr.specs.Referents.{referent}
 
 -- SIZE of the data to which names lead; of all else it is 0, as no set has it

@@ -2,13 +2,13 @@
 
 ghost use Rattle.std.specs.Prelude.{◌≡◌, map};
 ghost use Rattle.std.specs.Option.{option_map};
-ghost use Rattle.hal_set.specs.SeenBodies.{seen_body};
+ghost use Rattle.hal_storage.specs.sets.SeenBodies.{seen_body};
 ghost use Rattle.hal_gen_expr.specs.Bodies as bodies;
 ghost use Rattle.hal_gen_expr.specs.SeenSites.{seen_site};
 ghost use Rattle.hal_meaning.specs.Sets.{body_at};
 
 use crate::site::Site;
-use hal_set::Body;
+use hal_storage::sets::Body;
 
 /// The first of these bodies whose unit has this number.
 #[tactic(auto, unfolding(crate::specs::Bodies::found_in))]

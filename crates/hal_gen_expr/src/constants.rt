@@ -5,7 +5,7 @@ ghost use Rattle.hal_constants.specs.declared.operation.Operation.TheVariants as
 ghost use Rattle.hal_tree.specs.Rows.{expressions, subscripts, terms};
 ghost use Rattle.hal_tree.specs.SeenExpressions.{seen_expression, seen_position, seen_reference, seen_signed, seen_sub, seen_subscript};
 ghost use Rattle.hal_tree.specs.SeenLeaves.{seen_literal};
-ghost use Rattle.hal_referents.specs.SeenReferents.{seen_meant, seen_referent};
+ghost use Rattle.hal_storage.specs.referents.SeenReferents.{seen_meant, seen_referent};
 ghost use Rattle.hal_gen_expr.specs.Constants as constants;
 ghost use Rattle.hal_gen_expr.specs.SeenSites.{seen_site, IsSite};
 
@@ -17,7 +17,7 @@ use crate::results::{
 use crate::site::Site;
 use hal_constants::{Operation, operation_of};
 use hal_operations::{Op1, Op2, Part, place_count};
-use hal_referents::{Meant, Referent};
+use hal_storage::referents::{Meant, Referent};
 use hal_tree::{Expr, LiteralValue, Position, Reference, SignedTerm, Sub, Subscript};
 use hal_values::{Text, Value};
 use hal_words::{Literal, Name};

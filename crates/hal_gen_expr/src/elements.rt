@@ -2,13 +2,13 @@
 
 ghost use Rattle.std.specs.Prelude.{◌≡◌, map};
 ghost use Rattle.hal_tree.specs.SeenLeaves.{seen_name};
-ghost use Rattle.hal_elements.specs.SeenComponents.{seen_component};
+ghost use Rattle.hal_storage.specs.elements.SeenComponents.{seen_component};
 ghost use Rattle.hal_meaning.specs.Elements as elements;
 ghost use Rattle.hal_meaning.specs.Expressions as meaning;
 ghost use Rattle.hal_meaning.specs.Variables as variables;
 ghost use Rattle.hal_gen_expr.specs.Elements as found;
 
-use hal_elements::{Component, count};
+use hal_storage::elements::{Component, count};
 use hal_tree::Identifier;
 use hal_values::Kind;
 use hal_words::Name;

@@ -5,12 +5,12 @@ ghost use Rattle.std.specs.Option.{option_map};
 ghost use Rattle.hal_tree.specs.Rows.{subscripts};
 ghost use Rattle.hal_tree.specs.SeenExpressions.{seen_sub, seen_subscript};
 ghost use Rattle.hal_tree.specs.SeenLeaves.{seen_name};
-ghost use Rattle.hal_elements.specs.SeenComponents.{seen_shape};
+ghost use Rattle.hal_storage.specs.elements.SeenComponents.{seen_shape};
 ghost use Rattle.hal_meaning.specs.Elements as elements;
 ghost use Rattle.hal_meaning.specs.Expressions.{copies_of};
 ghost use Rattle.hal_meaning.specs.Variables as variables;
 ghost use Rattle.hal_agreement.specs.PlacedExpressions.{single_dimensions};
-ghost use Rattle.hal_referents.specs.SeenReferents.{seen_meant, seen_referent};
+ghost use Rattle.hal_storage.specs.referents.SeenReferents.{seen_meant, seen_referent};
 ghost use Rattle.hal_gen_expr.specs.Emits.{Emits};
 ghost use Rattle.hal_gen_expr.specs.ExpressionCode as codes;
 ghost use Rattle.hal_gen_expr.specs.Led as leading;
@@ -27,10 +27,10 @@ use crate::subscripts::are_none;
 use crate::uncoded::Uncoded;
 use crate::views::{address_of, area_of, element_of};
 use hal_base::Place;
-use hal_cells::Storing;
 use hal_code::{Dimension, Instr};
-use hal_elements::{Shape, copy_size};
-use hal_referents::{Meant, Referent};
+use hal_storage::cells::Storing;
+use hal_storage::elements::{Shape, copy_size};
+use hal_storage::referents::{Meant, Referent};
 use hal_tree::{Identifier, Sub, Subscript};
 use std::alloc::{AllocError, Global};
 
@@ -87,7 +87,7 @@ pub fn sizes_led<'a>(led: Led<'a>) -> &'a [u16]
 }
 
 /// How many elements an array with these sizes has, 4,294,967,295 where it has more: so far is the next place of a dimension before them.
-#[tactic(auto, using(hal_elements::proofs::Capped::capped))]
+#[tactic(auto, using(hal_storage::proofs::elements::Capped::capped))]
 pub(crate) fn stride(sizes: &[u16]) -> u32
     ensures { result ≡ min (elements.product sizes.now) 4294967295 }
 {
@@ -98,7 +98,7 @@ pub(crate) fn stride(sizes: &[u16]) -> u32
 }
 
 /// Adds the dimensions of an array with these sizes.
-#[tactic(auto, using(hal_elements::proofs::Repeated::behind, hal_elements::proofs::Repeated::none_behind))]
+#[tactic(auto, using(hal_storage::proofs::elements::Repeated::behind, hal_storage::proofs::elements::Repeated::none_behind))]
 fn push_sizes(into: &mut Vec<Dimension>, sizes: &[u16]) -> Result<(), AllocError>
     ensures { OnOk result (into.new.items ≡ into.old.items ++ map row_of (variables.dimensions_of sizes.now)) }
 {
@@ -159,7 +159,7 @@ fn push_single(into: &mut Vec<Dimension>, sub: &Sub, row: Dimension) -> Result<(
 }
 
 /// Adds those of an array with these sizes in which subscripts choose one place.
-#[tactic(auto, using(hal_elements::proofs::Repeated::behind, hal_elements::proofs::Repeated::none_behind, crate::proofs::Singled::none_left, crate::proofs::Singled::next_single), unfolding(hal_tree::specs::Rows::subscripts))]
+#[tactic(auto, using(hal_storage::proofs::elements::Repeated::behind, hal_storage::proofs::elements::Repeated::none_behind, crate::proofs::Singled::none_left, crate::proofs::Singled::next_single), unfolding(hal_tree::specs::Rows::subscripts))]
 fn push_singles(into: &mut Vec<Dimension>, subs: &[Sub], sizes: &[u16]) -> Result<(), AllocError>
     ensures { OnOk result (into.new.items ≡ into.old.items ++ map row_of (single_dimensions (variables.dimensions_of sizes.now) (subscripts (map seen_sub subs.now)))) }
 {

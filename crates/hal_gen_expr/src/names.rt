@@ -2,7 +2,7 @@
 
 ghost use Rattle.std.specs.Prelude.{◌≡◌, map};
 ghost use Rattle.hal_tree.specs.SeenLeaves.{seen_name};
-ghost use Rattle.hal_referents.specs.SeenReferents.{seen_meant, seen_referent};
+ghost use Rattle.hal_storage.specs.referents.SeenReferents.{seen_meant, seen_referent};
 ghost use Rattle.hal_gen_expr.specs.Emits.{Emits};
 ghost use Rattle.hal_gen_expr.specs.Emitting as emitting;
 ghost use Rattle.hal_gen_expr.specs.ExpressionCode as codes;
@@ -17,7 +17,7 @@ use crate::uncoded::Uncoded;
 use crate::views::element_of;
 use hal_base::Place;
 use hal_code::Instr;
-use hal_referents::{Meant, Referent, referent_in};
+use hal_storage::referents::{Meant, Referent, referent_in};
 use hal_tree::Identifier;
 use hal_words::Name;
 

@@ -2,9 +2,9 @@
 
 ghost use Rattle.std.specs.Prelude.{◌≡◌, IfOk, map};
 ghost use Rattle.std.specs.Option.{option_map};
-ghost use Rattle.hal_elements.specs.SeenComponents.{seen_component, seen_shape};
+ghost use Rattle.hal_storage.specs.elements.SeenComponents.{seen_component, seen_shape};
 ghost use Rattle.hal_phrases.specs.SeenPhrases.{seen_phrase};
-ghost use Rattle.hal_set.specs.SeenSets.{seen_set};
+ghost use Rattle.hal_storage.specs.sets.SeenSets.{seen_set};
 ghost use Rattle.hal_tree.specs.SeenLeaves.{seen_name};
 ghost use Rattle.hal_meaning.specs.Calls.{parameter_named};
 ghost use Rattle.hal_meaning.specs.Variables as variables;
@@ -13,10 +13,10 @@ ghost use Rattle.hal_gen_expr.specs.Shapes.{runs_of};
 
 use crate::shapes::runs_of;
 use hal_code::Run;
-use hal_elements::{Component, Shape, shape_of};
 use hal_names::{Key, Space};
 use hal_phrases::{Node, Phrase};
-use hal_set::Set;
+use hal_storage::elements::{Component, Shape, shape_of};
+use hal_storage::sets::Set;
 use hal_tree::Identifier;
 use hal_values::Kind;
 use std::alloc::{AllocError, Global};

@@ -5,7 +5,7 @@ ghost use Rattle.hal_tree.specs.SeenExpressions.{seen_reference, seen_subscript}
 ghost use Rattle.hal_tree.specs.SeenLeaves.{seen_name};
 ghost use Rattle.hal_code.specs.declared.instr.Instr.TheVariants as instr;
 ghost use Rattle.hal_meaning.specs.Variables as variables;
-ghost use Rattle.hal_referents.specs.SeenReferents.{seen_meant};
+ghost use Rattle.hal_storage.specs.referents.SeenReferents.{seen_meant};
 ghost use Rattle.hal_gen_expr.specs.declared.aims.Aim.TheVariants as aims;
 ghost use Rattle.hal_gen_expr.specs.Emits.{Emits};
 ghost use Rattle.hal_gen_expr.specs.Emitting.{onwards};
@@ -24,7 +24,7 @@ use crate::uncoded::Uncoded;
 use crate::views::shape_number;
 use hal_base::Place;
 use hal_code::{Instr, Places, Run};
-use hal_referents::Meant;
+use hal_storage::referents::Meant;
 use hal_tree::{Identifier, Reference, Subscript};
 use hal_values::Kind;
 

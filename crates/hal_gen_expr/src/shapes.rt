@@ -2,14 +2,14 @@
 
 ghost use Rattle.std.specs.Prelude.{◌≡◌, IfOk, OnOk, map, unwrap_or};
 ghost use Rattle.hal_code.specs.Sorts.{same_kind};
-ghost use Rattle.hal_elements.specs.SeenComponents.{seen_component, seen_shape};
+ghost use Rattle.hal_storage.specs.elements.SeenComponents.{seen_component, seen_shape};
 ghost use Rattle.hal_meaning.specs.Elements.{times};
 ghost use Rattle.hal_runs.specs.Joined.{with_runs};
 ghost use Rattle.hal_gen_expr.specs.Shapes as shapes;
 
 use hal_code::Run;
-use hal_elements::{Component, Shape, count};
 use hal_runs::push_run;
+use hal_storage::elements::{Component, Shape, count};
 use hal_values::Kind;
 use std::alloc::{AllocError, Global};
 

@@ -1,9 +1,9 @@
 //! Where phrases stand.
 
 use hal_code::{Run, View};
-use hal_own_places::Place;
-use hal_referents::{FirstCells, Referent};
-use hal_set::Set;
+use hal_storage::own_places::Place;
+use hal_storage::referents::{FirstCells, Referent};
+use hal_storage::sets::Set;
 use hal_values::{Kind, Listing};
 use std::alloc::Global;
 

@@ -4,9 +4,9 @@ ghost use Rattle.std.specs.Prelude.{◌≡◌, map};
 ghost use Rattle.hal_tree.specs.Rows.{expressions};
 ghost use Rattle.hal_tree.specs.SeenExpressions.{seen_expression, seen_reference};
 ghost use Rattle.hal_tree.specs.SeenLeaves.{seen_name};
-ghost use Rattle.hal_elements.specs.SeenComponents.{seen_shape};
+ghost use Rattle.hal_storage.specs.elements.SeenComponents.{seen_shape};
 ghost use Rattle.hal_meaning.specs.Expressions as meaning;
-ghost use Rattle.hal_referents.specs.SeenReferents.{seen_meant, seen_referent};
+ghost use Rattle.hal_storage.specs.referents.SeenReferents.{seen_meant, seen_referent};
 ghost use Rattle.hal_gen_expr.specs.Emits.{Emits};
 ghost use Rattle.hal_gen_expr.specs.ExpressionCode as codes;
 ghost use Rattle.hal_gen_expr.specs.SeenSites.{seen_site, IsSite};
@@ -19,8 +19,8 @@ use crate::site::Site;
 use crate::uncoded::Uncoded;
 use hal_base::Place;
 use hal_code::Instr;
-use hal_elements::Shape;
-use hal_referents::{Meant, Referent};
+use hal_storage::elements::Shape;
+use hal_storage::referents::{Meant, Referent};
 use hal_tree::{Expr, Identifier, Reference};
 
 /// SIZE of data of this shape, whose array has these sizes: the size of its first dimension, or how many copies they have.

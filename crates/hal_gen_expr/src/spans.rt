@@ -4,7 +4,7 @@ ghost use Rattle.std.specs.Prelude.{◌≡◌, map, min};
 ghost use Rattle.hal_states.specs.Numbers as numbers;
 ghost use Rattle.hal_tree.specs.Rows.{subscripts};
 ghost use Rattle.hal_tree.specs.SeenExpressions.{seen_sub};
-ghost use Rattle.hal_elements.specs.SeenComponents.{seen_shape};
+ghost use Rattle.hal_storage.specs.elements.SeenComponents.{seen_shape};
 ghost use Rattle.hal_meaning.specs.Expressions.{copies_of};
 ghost use Rattle.hal_meaning.specs.Variables.{dimensions_of};
 ghost use Rattle.hal_gen_expr.specs.SeenSites.{seen_site, IsSite};
@@ -13,7 +13,7 @@ ghost use Rattle.hal_gen_expr.specs.Spans as spans;
 use crate::constants::{integer_of, place_of};
 use crate::led::stride;
 use crate::site::Site;
-use hal_elements::{Shape, copy_size};
+use hal_storage::elements::{Shape, copy_size};
 use hal_tree::Sub;
 
 /// Places of a dimension, from one to another, as they are counted from 1.

@@ -3,8 +3,8 @@
 ghost use Rattle.std.specs.Prelude.{◌≡◌, ◌+◌, [], map};
 ghost use Rattle.std.specs.List.{position};
 ghost use Rattle.hal_tree.specs.SeenLeaves.{seen_name};
-ghost use Rattle.hal_cells.specs.SeenStoring.{seen_storing};
-ghost use Rattle.hal_elements.specs.SeenComponents.{seen_shape};
+ghost use Rattle.hal_storage.specs.cells.SeenStoring.{seen_storing};
+ghost use Rattle.hal_storage.specs.elements.SeenComponents.{seen_shape};
 ghost use Rattle.hal_code.specs.Sorts as sorts;
 ghost use Rattle.hal_meaning.specs.ReportNames.{first_place};
 ghost use Rattle.hal_gen_expr.specs.Leaves as leaves;
@@ -13,10 +13,10 @@ ghost use Rattle.hal_gen_expr.specs.SeenSites.{lent_place, lent_place_in, seen_s
 
 use crate::elements::{Element, element_named};
 use crate::site::Site;
-use hal_cells::Storing;
 use hal_code::{Base, Dimension, Instr, Run, Target, View};
-use hal_elements::Shape;
-use hal_own_places::Place;
+use hal_storage::cells::Storing;
+use hal_storage::elements::Shape;
+use hal_storage::own_places::Place;
 use hal_tree::Identifier;
 use hal_values::{Kind, Listing};
 

@@ -3,7 +3,7 @@ use Rattle.std.proofs.Common.{◌≡◌, ◌∙◌, ℕ, List, [], ◌∷◌, �
 use Rattle.hal_grammar.specs.Expressions.{Subscripts, NoSubscripts, MoreSubscripts}
 use Rattle.hal_phrases.specs.Phrases.{Phrase}
 use Rattle.hal_constants.specs.Known.{Known}
-use Rattle.hal_elements.proofs.Repeated.{behind, none_behind}
+use Rattle.hal_storage.proofs.elements.Repeated.{behind, none_behind}
 use Rattle.hal_views.specs.Views.{Choice, choices, copies_by}
 use Rattle.hal_limits.specs.Choices.{later_subs, with_choices}
 

@@ -3,7 +3,7 @@ use Rattle.std.proofs.Common.{◌≡◌, ◌∙◌, ◌+◌, ◌*◌, ℕ, min, 
 use Rattle.std.specs.Prelude.{sum_by}
 use Rattle.std.proofs.Math.Nat.{mul_comm}
 use Rattle.std.proofs.lemmas.List.Sums.{sum_by-cons}
-use Rattle.hal_elements.proofs.Capped as products
+use Rattle.hal_storage.proofs.elements.Capped as products
 use Rattle.hal_limits.specs.Counts.{capped, counted}
 
 first_of_sum : (n x s : ℕ) → capped ((capped n + capped x) + s) ≡ capped (n + (x + s))

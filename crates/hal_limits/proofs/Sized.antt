@@ -8,7 +8,7 @@ use Rattle.hal_constants.specs.Known.{Known}
 use Rattle.hal_values.specs.declared.value.Kind.{Kind}
 use Rattle.hal_values.specs.declared.value.Value.{Value}
 use Rattle.hal_states.specs.OfKinds.{nothing}
-use Rattle.hal_elements.proofs.Capped as capped
+use Rattle.hal_storage.proofs.elements.Capped as capped
 use Rattle.hal_meaning.specs.Elements.{Component, count, copy_size, times, kinds_of_component}
 use Rattle.hal_meaning.specs.InitialValues.{held, one_each, filled, given, all_values, first_values}
 use Rattle.hal_meaning.specs.Places.{cells_from, places_from}

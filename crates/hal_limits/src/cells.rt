@@ -10,11 +10,11 @@ ghost use Rattle.hal_limits.specs.Sizes as sizes;
 
 use crate::own::places_in;
 use crate::sizes::{capped, size_of_item};
-use hal_cells::{Storing, storing_of};
 use hal_constants::Known;
 use hal_names::Names;
 use hal_phrases::{Node, Phrase};
 use hal_reach::{is_reentrant_at, processes_of, unit_numbers};
+use hal_storage::cells::{Storing, storing_of};
 use std::alloc::{AllocError, Global};
 
 /// How many shared cells a phrase declares.
@@ -53,7 +53,7 @@ fn shared_cells(alloc: Global, names: &Names<'_>, known: &Known) -> Result<u32, 
 }
 
 /// How many cells the own places of a unit are, where a set has so many processes.
-#[tactic(auto, using(hal_elements::proofs::Capped::capped))]
+#[tactic(auto, using(hal_storage::proofs::elements::Capped::capped))]
 fn cells_of_unit(
     alloc: Global,
     names: &Names<'_>,

@@ -136,7 +136,7 @@ fn later_subs<'a>(subs: &'a [Sub]) -> &'a [Sub]
 }
 
 /// Adds what subscripts choose of dimensions of these sizes: all places where there are none.
-#[tactic(auto, using(hal_elements::proofs::Repeated::one_mapped), unfolding(crate::specs::Choices::with_choices))]
+#[tactic(auto, using(hal_storage::proofs::elements::Repeated::one_mapped), unfolding(crate::specs::Choices::with_choices))]
 fn push_choices(
     into: &mut Vec<Choice>,
     names: &Names<'_>,

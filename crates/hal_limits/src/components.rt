@@ -2,13 +2,13 @@
 
 ghost use Rattle.std.specs.Prelude.{◌≡◌, map};
 ghost use Rattle.std.specs.Option.{option_map};
-ghost use Rattle.hal_elements.specs.SeenComponents.{seen_component};
+ghost use Rattle.hal_storage.specs.elements.SeenComponents.{seen_component};
 ghost use Rattle.hal_meaning.specs.Elements as elements;
 ghost use Rattle.hal_views.specs.Views as views;
 ghost use Rattle.hal_limits.specs.Behind as found;
 ghost use Rattle.hal_limits.specs.Counts.{capped, counted};
 
-use hal_elements::{Component, count};
+use hal_storage::elements::{Component, count};
 use hal_words::Name;
 
 /// Whether a component of this path lies behind these names.

@@ -9,9 +9,9 @@ use crate::cells::cell_count;
 use crate::reached::view_cells;
 use hal_base::{CELL_LIMIT, EVENT_LIMIT, Fault, PROCESS_LIMIT, Place, Refusal, Rule};
 use hal_constants::Known;
-use hal_events::declared_events;
 use hal_names::Names;
 use hal_reach::processes_of;
+use hal_storage::events::declared_events;
 use std::alloc::{AllocError, Global};
 
 /// How many cells the views of a set reach at most, each view counted by itself.

@@ -5,16 +5,16 @@ ghost use Rattle.hal_tree.specs.SeenDeclarations.{seen_attribute, seen_declared}
 ghost use Rattle.hal_phrases.specs.SeenPhrases.{seen_node, seen_phrase};
 ghost use Rattle.hal_names.specs.SeenNames.{seen_names};
 ghost use Rattle.hal_constants.specs.SeenKnown.{seen_known};
-ghost use Rattle.hal_cells.specs.SeenStoring.{seen_storing};
+ghost use Rattle.hal_storage.specs.cells.SeenStoring.{seen_storing};
 ghost use Rattle.hal_meaning.specs.Places as places;
 ghost use Rattle.hal_limits.specs.Counts.{capped, counted};
 ghost use Rattle.hal_limits.specs.Sizes as sizes;
 
 use crate::sizes::size_of_item;
-use hal_cells::{Storing, storing_of};
 use hal_constants::Known;
 use hal_names::Names;
 use hal_phrases::{Node, Phrase, Role};
+use hal_storage::cells::{Storing, storing_of};
 use hal_tree::{Attribute, Declared};
 use std::alloc::{AllocError, Global};
 

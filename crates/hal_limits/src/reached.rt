@@ -4,7 +4,7 @@ ghost use Rattle.std.specs.Prelude.{◌≡◌, map, IfOk};
 ghost use Rattle.std.specs.Option.{option_map};
 ghost use Rattle.hal_names.specs.SeenNames.{seen_names};
 ghost use Rattle.hal_constants.specs.SeenKnown.{seen_known};
-ghost use Rattle.hal_elements.specs.SeenComponents.{seen_component, seen_shape};
+ghost use Rattle.hal_storage.specs.elements.SeenComponents.{seen_component, seen_shape};
 ghost use Rattle.hal_views.specs.Views as views;
 ghost use Rattle.hal_limits.specs.Counts.{capped, counted};
 ghost use Rattle.hal_limits.specs.SeenViews.{seen_choice, seen_view};
@@ -15,8 +15,8 @@ use crate::sizes::capped;
 use crate::view::{Choice, View};
 use crate::views::views_of;
 use hal_constants::Known;
-use hal_elements::{Component, Shape};
 use hal_names::Names;
+use hal_storage::elements::{Component, Shape};
 use hal_words::Name;
 use std::alloc::{AllocError, Global};
 

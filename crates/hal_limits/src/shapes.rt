@@ -4,16 +4,16 @@ ghost use Rattle.std.specs.Prelude.{◌≡◌, IfOk};
 ghost use Rattle.hal_phrases.specs.SeenPhrases.{seen_phrase};
 ghost use Rattle.hal_names.specs.SeenNames.{seen_names};
 ghost use Rattle.hal_constants.specs.SeenKnown.{seen_known};
-ghost use Rattle.hal_cells.specs.SeenStoring.{seen_storing};
-ghost use Rattle.hal_elements.specs.SeenComponents.{seen_shape};
+ghost use Rattle.hal_storage.specs.cells.SeenStoring.{seen_storing};
+ghost use Rattle.hal_storage.specs.elements.SeenComponents.{seen_shape};
 ghost use Rattle.hal_views.specs.Views as views;
 ghost use Rattle.hal_limits.specs.Behind.{one_integer};
 
-use hal_cells::{Storing, storing_of};
 use hal_constants::Known;
-use hal_elements::{Component, Shape, shape_of};
 use hal_names::Names;
 use hal_phrases::{Node, Phrase};
+use hal_storage::cells::{Storing, storing_of};
+use hal_storage::elements::{Component, Shape, shape_of};
 use hal_values::Kind;
 use std::alloc::{AllocError, Global};
 

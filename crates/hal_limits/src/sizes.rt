@@ -5,14 +5,14 @@ ghost use Rattle.hal_tree.specs.SeenDeclarations.{seen_attribute, seen_declared}
 ghost use Rattle.hal_phrases.specs.SeenPhrases.{seen_phrase};
 ghost use Rattle.hal_names.specs.SeenNames.{seen_names};
 ghost use Rattle.hal_constants.specs.SeenKnown.{seen_known};
-ghost use Rattle.hal_elements.specs.SeenComponents.{seen_shape};
+ghost use Rattle.hal_storage.specs.elements.SeenComponents.{seen_shape};
 ghost use Rattle.hal_limits.specs.Counts.{capped};
 ghost use Rattle.hal_limits.specs.Sizes as sizes;
 
 use hal_constants::Known;
-use hal_elements::{Shape, copy_size, shape_of};
 use hal_names::Names;
 use hal_phrases::Phrase;
+use hal_storage::elements::{Shape, copy_size, shape_of};
 use hal_tree::{Attribute, Declared};
 use std::alloc::{AllocError, Global};
 

@@ -14,7 +14,7 @@ use Rattle.hal_gen_expr.specs.Emitting.{Emitted, onwards}
 use Rattle.hal_gen_expr.specs.Numbering.{Numbering}
 use Rattle.hal_gen.specs.Sizes.{statement_size, statements_size}
 use Rattle.hal_gen.specs.StatementCode.{direct_code, block_code}
-use Rattle.hal_set.specs.SeenBodies.{head_of, statements_in}
+use Rattle.hal_storage.specs.sets.SeenBodies.{head_of, statements_in}
 use Rattle.hal_link.specs.Members.{after_member, members_code, with_members}
 
 onwards_same : (r : Emitted) (f g : List Instr → Emitted) → ((middle : List Instr) → f middle ≡ g middle) → onwards r f ≡ onwards r g

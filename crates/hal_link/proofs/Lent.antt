@@ -3,9 +3,9 @@ use Rattle.std.specs.Prelude.{ℕ, ◌+◌, List, [], ◌∷◌, ◌++◌, lengt
 use Rattle.std.specs.Borrow.{Bor}
 use Rattle.std.proofs.Common.{◌≡◌, ◌<◌, sym, ap, ◌∙◌, add-one}
 use Rattle.std.proofs.Math.Seq.{drop-cons}
-use Rattle.hal_elements.proofs.Repeated.{behind}
-use Rattle.hal_own_places.specs.declared.place.Place as rust-place
-use Rattle.hal_own_places.specs.SeenPlaces.{seen_place}
+use Rattle.hal_storage.proofs.elements.Repeated.{behind}
+use Rattle.hal_storage.specs.declared.own_places.place.Place as rust-place
+use Rattle.hal_storage.specs.own_places.SeenPlaces.{seen_place}
 use Rattle.hal_meaning.specs.Places.{Place}
 use Rattle.hal_gen_expr.specs.SeenSites.{lent_place}
 

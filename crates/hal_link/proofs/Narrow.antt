@@ -2,7 +2,7 @@
 use Rattle.std.specs.Prelude.{ℕ, suc, nat_le, ◌+◌, Bool, true, false, List, [], ◌∷◌, ◌++◌, length, Some, None, if◌then◌else◌}
 use Rattle.std.proofs.Common.{◌≡◌, refl, sym, ap, ◌∙◌, append-nil, append_assoc, arith, le-leb, subst}
 use Rattle.hal_code.specs.declared.row.Process.{Process}
-use Rattle.hal_layout.specs.Layouts.{AreShort}
+use Rattle.hal_storage.specs.layout.Layouts.{AreShort}
 use Rattle.hal_meaning.specs.Sets.{Set}
 use Rattle.hal_link.specs.Linking.{processes_from}
 use Rattle.hal_link.specs.Outlines.{Outline}

@@ -3,15 +3,15 @@ use Rattle.std.specs.Prelude.{ℕ, List, [], ◌++◌, Option, Some, None, map, 
 use Rattle.std.specs.Option.{option_map}
 use Rattle.std.proofs.Common.{◌≡◌, refl, ap, ◌∙◌}
 use Rattle.std.proofs.lemmas.Option.{slice_get-map}
-use Rattle.hal_own_places.specs.declared.place.OwnPlaces as rust-own
-use Rattle.hal_own_places.specs.Owned.{own_places}
-use Rattle.hal_own_places.specs.SeenPlaces.{seen_places, seen_own}
+use Rattle.hal_storage.specs.declared.own_places.place.OwnPlaces as rust-own
+use Rattle.hal_storage.specs.own_places.Owned.{own_places}
+use Rattle.hal_storage.specs.own_places.SeenPlaces.{seen_places, seen_own}
 use Rattle.hal_phrases.specs.Phrases.{Phrase}
 use Rattle.hal_constants.specs.Known.{Known}
 use Rattle.hal_meaning.specs.Bodies.{processes_of}
 use Rattle.hal_meaning.specs.Places.{Place, common_places, sole_places, places_of}
-use Rattle.hal_set.specs.declared.set.Set as rust-set
-use Rattle.hal_set.specs.SeenSets.{seen_set}
+use Rattle.hal_storage.specs.declared.sets.set.Set as rust-set
+use Rattle.hal_storage.specs.sets.SeenSets.{seen_set}
 use Rattle.hal_meaning.specs.Runs.{places_of_process}
 use Rattle.hal_link.specs.Placing.{places_in}
 use Rattle.hal_link.specs.SeenLinking.{IsLaid}

@@ -6,10 +6,10 @@ use Rattle.hal_gen_expr.specs.declared.uncoded.Uncoded.{Uncoded}
 use Rattle.hal_gen_expr.specs.declared.uncoded.Uncoded.TheVariants as uncoded
 use Rattle.hal_link.specs.declared.unlinked.Unlinked.{Unlinked}
 use Rattle.hal_link.specs.declared.unlinked.Unlinked.TheVariants as unlinked
-use Rattle.hal_layout.specs.Layouts.{IsNarrow}
-use Rattle.hal_layout.specs.SeenLayout.{seen_layout}
-use Rattle.hal_set.specs.declared.set.Set as rust-set
-use Rattle.hal_set.specs.SeenSets.{seen_set}
+use Rattle.hal_storage.specs.layout.Layouts.{IsNarrow}
+use Rattle.hal_storage.specs.layout.SeenLayout.{seen_layout}
+use Rattle.hal_storage.specs.declared.sets.set.Set as rust-set
+use Rattle.hal_storage.specs.sets.SeenSets.{seen_set}
 use Rattle.hal_code.specs.declared.image.ImageParts.{ImageParts}
 use Rattle.hal_link.specs.Linking.{linked, Linking, image_of}
 use Rattle.hal_link.specs.CalledViews.{views_of}

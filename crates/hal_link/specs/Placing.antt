@@ -1,7 +1,7 @@
 -- The own places of a process, by its number.
 use Rattle.std.specs.Prelude.{ℕ, List, [], ◌++◌, None, Some, slice_get}
 use Rattle.hal_meaning.specs.Places.{Place}
-use Rattle.hal_own_places.specs.Owned.{OwnPlaces}
+use Rattle.hal_storage.specs.own_places.Owned.{OwnPlaces}
 
 -- the common ones and then its others; none where there is no such process
 abbrev pub places_in : OwnPlaces → ℕ → List Place

@@ -2,10 +2,10 @@
 use Rattle.std.specs.Prelude.{◌≡◌, ℕ, nat_le, List, [], ◌∷◌, ◌++◌, ◌+◌, length, Option, Some, None, map, if◌then◌else◌}
 use Rattle.std.specs.declared.alloc.Global.{Global}
 use Rattle.std.specs.declared.vec.Vec.{Vec}
-use Rattle.hal_own_places.specs.Owned.{own_places}
-use Rattle.hal_own_places.specs.SeenPlaces.{seen_own}
-use Rattle.hal_set.specs.declared.set.Set as rust-set
-use Rattle.hal_set.specs.SeenSets.{seen_set}
+use Rattle.hal_storage.specs.own_places.Owned.{own_places}
+use Rattle.hal_storage.specs.own_places.SeenPlaces.{seen_own}
+use Rattle.hal_storage.specs.declared.sets.set.Set as rust-set
+use Rattle.hal_storage.specs.sets.SeenSets.{seen_set}
 use Rattle.hal_code.specs.declared.row.Process.{Process}
 use Rattle.hal_meaning.specs.Sets.{Set}
 use Rattle.hal_meaning.specs.Runs.{places_of_process}

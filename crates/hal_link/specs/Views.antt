@@ -22,7 +22,7 @@ use Rattle.hal_meaning.specs.Expressions.{inputs_at, outputs_at}
 use Rattle.hal_meaning.specs.Sets.{Set, body_at}
 use Rattle.hal_meaning.specs.Variables.{is_whole}
 use Rattle.hal_agreement.specs.Sites.{Site, within_block}
-use Rattle.hal_referents.specs.Referents.{Referent, DataOf, BlockOf}
+use Rattle.hal_storage.specs.referents.Referents.{Referent, DataOf, BlockOf}
 use Rattle.hal_gen_expr.specs.declared.elements.Element.{Element}
 use Rattle.hal_gen_expr.specs.Elements.{element_in}
 use Rattle.hal_gen_expr.specs.ExpressionCode.{is_plain}

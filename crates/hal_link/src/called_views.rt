@@ -1,7 +1,7 @@
 //! The views that the code of called units names.
 
 ghost use Rattle.std.specs.Prelude.{◌≡◌, OnOk, map};
-ghost use Rattle.hal_set.specs.SeenSets.{seen_set};
+ghost use Rattle.hal_storage.specs.sets.SeenSets.{seen_set};
 ghost use Rattle.hal_tree.specs.SeenLeaves.{seen_name};
 ghost use Rattle.hal_gen_expr.specs.SeenSites.{lent_place, seen_site, IsSite};
 ghost use Rattle.hal_meaning.specs.Calls.{parameter_named};
@@ -15,10 +15,10 @@ use crate::linking::{site_in, uncalled};
 use crate::outlines::Outline;
 use crate::places::places_of;
 use crate::views::{push_cell, push_phrases};
-use hal_cells::Storing;
 use hal_code::View;
 use hal_gen_expr::{Site, base_of, body_at, inputs_in, parameter_named};
-use hal_own_places::Place;
+use hal_storage::cells::Storing;
+use hal_storage::own_places::Place;
 use hal_tree::Identifier;
 use std::alloc::AllocError;
 

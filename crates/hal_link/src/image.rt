@@ -2,13 +2,13 @@
 
 ghost use Rattle.std.specs.Prelude.{◌≡◌, ◌≤◌, ◌+◌, [], IfOk, length, map};
 ghost use Rattle.std.specs.Option.{option_map};
-ghost use Rattle.hal_processes.specs.SeenPaths.{seen_path};
-ghost use Rattle.hal_layout.specs.Layouts.{layout_of};
-ghost use Rattle.hal_layout.specs.SeenLayout.{seen_layout};
-ghost use Rattle.hal_referents.specs.FirstCells.{AreFirstCells};
-ghost use Rattle.hal_referents.specs.Referents as naming;
-ghost use Rattle.hal_referents.specs.SeenReferents.{seen_referent};
-ghost use Rattle.hal_set.specs.SeenSets.{seen_set};
+ghost use Rattle.hal_storage.specs.processes.SeenPaths.{seen_path};
+ghost use Rattle.hal_storage.specs.layout.Layouts.{layout_of};
+ghost use Rattle.hal_storage.specs.layout.SeenLayout.{seen_layout};
+ghost use Rattle.hal_storage.specs.referents.FirstCells.{AreFirstCells};
+ghost use Rattle.hal_storage.specs.referents.Referents as naming;
+ghost use Rattle.hal_storage.specs.referents.SeenReferents.{seen_referent};
+ghost use Rattle.hal_storage.specs.sets.SeenSets.{seen_set};
 ghost use Rattle.hal_meaning.specs.Bodies.{processes_of};
 ghost use Rattle.hal_meaning.specs.Events.{declared_events};
 ghost use Rattle.hal_gen_expr.specs.SeenSites.{IsSite};
@@ -28,12 +28,12 @@ use crate::rows::{cell_rows, event_rows, place_rows};
 use crate::shapes::shapes_of;
 use crate::unlinked::Unlinked;
 use hal_code::{Block, ImageParts, Instr, Process, Run, View};
-use hal_events::declared_events;
 use hal_gen_expr::{Events, Site};
-use hal_layout::items_of;
 use hal_reach::processes_of;
-use hal_referents::{FirstCells, Referent, referents_of};
-use hal_set::Set;
+use hal_storage::events::declared_events;
+use hal_storage::layout::items_of;
+use hal_storage::referents::{FirstCells, Referent, referents_of};
+use hal_storage::sets::Set;
 use hal_values::{Kind, Listing, ReportName, Text};
 use std::alloc::{AllocError, Global};
 
@@ -148,7 +148,7 @@ fn copied_name(alloc: Global, name: &ReportName) -> Result<ReportName, AllocErro
 }
 
 /// The names of the report, once more.
-#[tactic(auto, using(hal_elements::proofs::Repeated::behind, hal_elements::proofs::Repeated::none_behind))]
+#[tactic(auto, using(hal_storage::proofs::elements::Repeated::behind, hal_storage::proofs::elements::Repeated::none_behind))]
 fn copied_names(alloc: Global, names: &[ReportName]) -> Result<Listing<ReportName>, AllocError>
     ensures { IfOk result (λ copies. copies ≡ names.now) }
 {

@@ -1,8 +1,8 @@
 //! The code of a set of files.
 
 ghost use Rattle.std.specs.Prelude.{◌≡◌, ◌≤◌, ◌<◌, ◌+◌, [], length, map, IfOk, OnOk};
-ghost use Rattle.hal_set.specs.SeenBodies.{seen_body};
-ghost use Rattle.hal_set.specs.SeenSets.{seen_set};
+ghost use Rattle.hal_storage.specs.sets.SeenBodies.{seen_body};
+ghost use Rattle.hal_storage.specs.sets.SeenSets.{seen_set};
 ghost use Rattle.hal_gen_expr.specs.SeenSites.{lent_place, seen_site, seen_numbering, IsSite};
 ghost use Rattle.hal_gen_expr.specs.Numbering.{numbering_with};
 ghost use Rattle.hal_meaning.specs.LockGroups.{groups_of};
@@ -26,8 +26,8 @@ use hal_code::{Block, Instr, View};
 use hal_gen::Locks;
 use hal_gen_expr::{Calls, Site, body_at};
 use hal_lock_groups::groups_of;
-use hal_own_places::Place;
-use hal_set::{Body, Set};
+use hal_storage::own_places::Place;
+use hal_storage::sets::{Body, Set};
 use std::alloc::{AllocError, Global};
 
 /// The calls of code that calls no unit.
@@ -70,7 +70,7 @@ pub(crate) fn site_in<'a>(
 }
 
 /// The lock groups of the UPDATE blocks of a unit, by its marks.
-#[tactic(auto, using(hal_elements::proofs::Repeated::behind, hal_elements::proofs::Repeated::none_behind))]
+#[tactic(auto, using(hal_storage::proofs::elements::Repeated::behind, hal_storage::proofs::elements::Repeated::none_behind))]
 fn locks_of(alloc: Global, set: &Set<'_>, marks: &[usize]) -> Result<Vec<u16>, AllocError>
     ensures { IfOk result (λ list. list.items ≡ map (groups_of (seen_set set.now).phrases (seen_set set.now).constants) marks.now) }
 {

@@ -1,14 +1,14 @@
 //! The blocks of processes, and of the units that they call.
 
 ghost use Rattle.std.specs.Prelude.{◌≡◌, ◌≤◌, ◌+◌, ◌++◌, IfOk, OnOk, length, map};
-ghost use Rattle.hal_set.specs.SeenSets.{seen_set};
+ghost use Rattle.hal_storage.specs.sets.SeenSets.{seen_set};
 ghost use Rattle.hal_meaning.specs.Bodies.{processes_of};
 ghost use Rattle.hal_link.specs.Outlines as outlines;
 ghost use Rattle.hal_link.specs.SeenOutlines.{seen_outline, seen_rank};
 
 use crate::ranks::{Rank, ranks_of};
 use hal_reach::{is_among, reached_of};
-use hal_set::Set;
+use hal_storage::sets::Set;
 use std::alloc::{AllocError, Global};
 
 /// A process and its blocks.
@@ -48,7 +48,7 @@ fn push_called_at(
 }
 
 /// The units that it calls, those first that more units reach.
-#[tactic(auto, using(hal_elements::proofs::Repeated::behind, hal_elements::proofs::Repeated::none_behind), unfolding(crate::specs::Outlines::called_from))]
+#[tactic(auto, using(hal_storage::proofs::elements::Repeated::behind, hal_storage::proofs::elements::Repeated::none_behind), unfolding(crate::specs::Outlines::called_from))]
 fn called_by(alloc: Global, process: usize, ranks: &[Rank<'_>]) -> Result<Vec<usize>, AllocError>
     ensures { IfOk result (λ list. list.items ≡ outlines.called_from process (length ranks.now) (map seen_rank ranks.now)) }
 {

@@ -1,15 +1,15 @@
 //! The own places of processes.
 
 ghost use Rattle.std.specs.Prelude.{◌≡◌, ◌++◌, ◌∷◌, [], map, IfOk, OnOk};
-ghost use Rattle.hal_own_places.specs.SeenPlaces.{seen_own, seen_place};
+ghost use Rattle.hal_storage.specs.own_places.SeenPlaces.{seen_own, seen_place};
 ghost use Rattle.hal_gen_expr.specs.SeenSites.{lent_place};
 ghost use Rattle.hal_link.specs.Placing.{places_in};
 
-use hal_own_places::{OwnPlaces, Place};
+use hal_storage::own_places::{OwnPlaces, Place};
 use std::alloc::{AllocError, Global};
 
 /// Adds a place.
-#[tactic(auto, using(hal_elements::proofs::Repeated::one_mapped))]
+#[tactic(auto, using(hal_storage::proofs::elements::Repeated::one_mapped))]
 fn push_place<'a>(into: &mut Vec<&'a Place>, place: &'a Place) -> Result<(), AllocError>
     ensures { OnOk result (map lent_place into.new.items ≡ map lent_place into.old.items ++ (seen_place place.now ∷ [])) }
 {
@@ -18,7 +18,7 @@ fn push_place<'a>(into: &mut Vec<&'a Place>, place: &'a Place) -> Result<(), All
 }
 
 /// Adds places.
-#[tactic(auto, using(hal_elements::proofs::Repeated::none_behind))]
+#[tactic(auto, using(hal_storage::proofs::elements::Repeated::none_behind))]
 fn push_places<'a>(into: &mut Vec<&'a Place>, places: &'a [Place]) -> Result<(), AllocError>
     ensures { OnOk result (map lent_place into.new.items ≡ map lent_place into.old.items ++ map seen_place places.now) }
 {

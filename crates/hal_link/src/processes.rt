@@ -2,7 +2,7 @@
 
 ghost use Rattle.std.specs.Prelude.{◌≡◌, ◌++◌, ◌∷◌, [], IfOk, OnOk};
 ghost use Rattle.hal_tree.specs.SeenUnits.{seen_head};
-ghost use Rattle.hal_set.specs.SeenBodies.{seen_body};
+ghost use Rattle.hal_storage.specs.sets.SeenBodies.{seen_body};
 ghost use Rattle.hal_gen_expr.specs.Emits.{Emits};
 ghost use Rattle.hal_gen_expr.specs.SeenSites.{lent_place, seen_site, seen_numbering, IsSite};
 ghost use Rattle.hal_gen.specs.SeenLocks.{AreGroups};
@@ -16,7 +16,7 @@ use crate::unlinked::Unlinked;
 use hal_code::{Block, Choice, Instr, ResultKind};
 use hal_gen::{Exits, Leaving, Locks};
 use hal_gen_expr::{Site, Uncoded, push};
-use hal_set::Body;
+use hal_storage::sets::Body;
 use hal_tree::Head;
 use std::alloc::AllocError;
 

@@ -1,8 +1,8 @@
 //! The rows of an image's tables.
 
 ghost use Rattle.std.specs.Prelude.{◌≡◌, ◌∷◌, ◌++◌, [], IfOk, OnOk, map};
-ghost use Rattle.hal_own_places.specs.SeenPlaces.{seen_place};
-ghost use Rattle.hal_set.specs.SeenSets.{seen_set};
+ghost use Rattle.hal_storage.specs.own_places.SeenPlaces.{seen_place};
+ghost use Rattle.hal_storage.specs.sets.SeenSets.{seen_set};
 ghost use Rattle.hal_gen_expr.specs.SeenSites.{lent_place};
 ghost use Rattle.hal_runs.specs.Joined.{rows_joined};
 ghost use Rattle.hal_runs.specs.Same.{same_cell, same_place};
@@ -10,9 +10,9 @@ ghost use Rattle.hal_link.specs.Linking as linking;
 
 use crate::shapes::reference_shape;
 use hal_code::{Choice, OwnPlace, Run};
-use hal_own_places::Place;
 use hal_runs::push_run;
-use hal_set::Set;
+use hal_storage::own_places::Place;
+use hal_storage::sets::Set;
 use hal_values::{Cell, EventStart, Kind, Listing};
 use std::alloc::{AllocError, Global};
 
@@ -41,7 +41,7 @@ pub(crate) fn cell_rows(alloc: Global, cells: &[Cell]) -> Result<Listing<Run<Cel
 }
 
 /// The rows of declared events.
-#[tactic(auto, using(hal_elements::proofs::Repeated::behind, hal_elements::proofs::Repeated::none_behind))]
+#[tactic(auto, using(hal_storage::proofs::elements::Repeated::behind, hal_storage::proofs::elements::Repeated::none_behind))]
 pub(crate) fn event_rows(
     alloc: Global,
     events: &[EventStart],

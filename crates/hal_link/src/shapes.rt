@@ -2,8 +2,8 @@
 
 ghost use Rattle.std.specs.Prelude.{◌≡◌, IfOk, OnOk, map};
 ghost use Rattle.std.specs.List.{list_any};
-ghost use Rattle.hal_set.specs.SeenBodies.{seen_body};
-ghost use Rattle.hal_set.specs.SeenSets.{seen_set};
+ghost use Rattle.hal_storage.specs.sets.SeenBodies.{seen_body};
+ghost use Rattle.hal_storage.specs.sets.SeenSets.{seen_set};
 ghost use Rattle.hal_tree.specs.SeenLeaves.{seen_name};
 ghost use Rattle.hal_gen_expr.specs.Numbering.{same_runs};
 ghost use Rattle.hal_meaning.specs.Calls.{parameter_named};
@@ -13,7 +13,7 @@ use hal_code::Run;
 use hal_gen_expr::{
     has_runs, inputs_in, outputs_in, parameter_named, parameter_runs, runs_at, shape_in,
 };
-use hal_set::{Body, Set};
+use hal_storage::sets::{Body, Set};
 use hal_tree::Identifier;
 use hal_values::{Kind, Listing};
 use std::alloc::{AllocError, Global};

@@ -2,9 +2,9 @@
 
 ghost use Rattle.std.specs.Prelude.{◌≡◌, OnOk, Some, map};
 ghost use Rattle.std.specs.List.{list_any};
-ghost use Rattle.hal_cells.specs.SeenStoring.{seen_storing};
+ghost use Rattle.hal_storage.specs.cells.SeenStoring.{seen_storing};
 ghost use Rattle.hal_phrases.specs.SeenPhrases.{seen_node, seen_phrase};
-ghost use Rattle.hal_referents.specs.SeenReferents.{seen_meant, seen_referent};
+ghost use Rattle.hal_storage.specs.referents.SeenReferents.{seen_meant, seen_referent};
 ghost use Rattle.hal_tree.specs.Rows.{expressions};
 ghost use Rattle.hal_tree.specs.SeenExpressions.{seen_expression, seen_reference, seen_subscript};
 ghost use Rattle.hal_tree.specs.SeenLeaves.{seen_name};
@@ -15,7 +15,6 @@ ghost use Rattle.hal_gen_expr.specs.SeenLed.{seen_led};
 ghost use Rattle.hal_gen_expr.specs.SeenSites.{seen_site, IsSite};
 ghost use Rattle.hal_link.specs.Views as views;
 
-use hal_cells::Storing;
 use hal_code::{Base, Dimension, Run, Target, View};
 use hal_gen::within_block;
 use hal_gen_expr::{
@@ -24,7 +23,8 @@ use hal_gen_expr::{
     rows_left, shape_in,
 };
 use hal_phrases::{Node, Phrase, Role};
-use hal_referents::{Meant, Referent};
+use hal_storage::cells::Storing;
+use hal_storage::referents::{Meant, Referent};
 use hal_tree::{Expr, Identifier, Reference, Subscript};
 use hal_values::{Kind, Listing};
 use std::alloc::AllocError;

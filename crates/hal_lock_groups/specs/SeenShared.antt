@@ -1,6 +1,6 @@
 -- What the program finds lock groups by.
 use Rattle.std.specs.Prelude.{map}
-use Rattle.hal_cells.specs.SeenStoring.{seen_storing}
+use Rattle.hal_storage.specs.cells.SeenStoring.{seen_storing}
 use Rattle.hal_lock_groups.specs.declared.shared.Shared as rust-shared
 use Rattle.hal_lock_groups.specs.Shared.{Shared}
 

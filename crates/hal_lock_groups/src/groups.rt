@@ -3,16 +3,16 @@
 ghost use Rattle.std.specs.Prelude.{◌≡◌};
 ghost use Rattle.hal_phrases.specs.SeenPhrases.{seen_phrase};
 ghost use Rattle.hal_names.specs.SeenNames.{seen_names};
-ghost use Rattle.hal_cells.specs.SeenStoring.{seen_storing};
+ghost use Rattle.hal_storage.specs.cells.SeenStoring.{seen_storing};
 ghost use Rattle.hal_meaning.specs.LockGroups as locks;
 ghost use Rattle.hal_lock_groups.specs.Groups as groups;
 ghost use Rattle.hal_lock_groups.specs.SeenShared.{seen_shared};
 
 use crate::naming::storing_named;
 use crate::shared::{Shared, calls_one};
-use hal_cells::Storing;
 use hal_names::Names;
 use hal_phrases::Phrase;
+use hal_storage::cells::Storing;
 
 /// The bit of a lock group, 0 where there is no such group.
 #[tactic(auto, using(crate::proofs::Bits::one_bit))]

@@ -4,14 +4,14 @@ ghost use Rattle.std.specs.Prelude.{◌≡◌, IfOk, map};
 ghost use Rattle.hal_phrases.specs.SeenPhrases.{seen_node, seen_phrase};
 ghost use Rattle.hal_names.specs.SeenNames.{seen_names};
 ghost use Rattle.hal_constants.specs.SeenKnown.{seen_known};
-ghost use Rattle.hal_cells.specs.SeenStoring.{seen_storing};
+ghost use Rattle.hal_storage.specs.cells.SeenStoring.{seen_storing};
 ghost use Rattle.hal_lock_groups.specs.Naming as naming;
 
-use hal_cells::{Storing, storing_of};
 use hal_constants::Known;
 use hal_names::Names;
 use hal_phrases::{Node, Phrase};
 use hal_reach::meant;
+use hal_storage::cells::{Storing, storing_of};
 use hal_words::Name;
 use std::alloc::{AllocError, Global};
 

@@ -3,15 +3,15 @@
 ghost use Rattle.std.specs.Prelude.{◌≡◌, IfOk, OnOk, map};
 ghost use Rattle.hal_phrases.specs.SeenPhrases.{seen_phrase};
 ghost use Rattle.hal_names.specs.SeenNames.{seen_names};
-ghost use Rattle.hal_cells.specs.SeenStoring.{seen_storing};
+ghost use Rattle.hal_storage.specs.cells.SeenStoring.{seen_storing};
 ghost use Rattle.hal_meaning.specs.LockGroups as locks;
 ghost use Rattle.hal_lock_groups.specs.Shared as shared;
 
 use crate::naming::storing_named;
-use hal_cells::Storing;
 use hal_names::Names;
 use hal_phrases::Phrase;
 use hal_reach::is_among;
+use hal_storage::cells::Storing;
 use std::alloc::{AllocError, Global};
 
 /// Whether data that are stored so are plain shared data or an ASSIGN parameter.

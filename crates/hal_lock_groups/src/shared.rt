@@ -9,11 +9,11 @@ ghost use Rattle.hal_lock_groups.specs.SeenShared.{seen_shared};
 
 use crate::naming::all_storings;
 use crate::plain::plain_homes;
-use hal_cells::Storing;
 use hal_constants::Known;
 use hal_names::Names;
 use hal_phrases::Phrase;
 use hal_reach::{callee, is_among, reaching_any};
+use hal_storage::cells::Storing;
 use std::alloc::{AllocError, Global};
 
 /// How the data of a set of files are stored, and who uses the plain ones.

@@ -11,12 +11,12 @@ ghost use Rattle.hal_locks.specs.Placed as placed;
 
 use crate::lockable::Lockable;
 use hal_base::Place;
-use hal_cells::parameter;
 use hal_constants::{Constant, Known, constant_of, size_of_integer};
 use hal_kinds::is_event_type;
 use hal_names::Names;
 use hal_phrases::{Node, Phrase};
 use hal_scope::{type_of, unless};
+use hal_storage::cells::parameter;
 use hal_tree::{Attribute, Declared, Expr, Head};
 use hal_values::Value;
 

@@ -4,7 +4,7 @@ use Rattle.std.specs.String.{string_bytes}
 use Rattle.std.specs.declared.alloc.Global.{Global}
 use Rattle.hal_base.specs.declared.limits.TheConstants.{UNIT_LIMIT}
 use Rattle.hal_base.specs.Files.{File}
-use Rattle.hal_elements.proofs.Repeated.{behind, none_behind}
+use Rattle.hal_storage.proofs.elements.Repeated.{behind, none_behind}
 use Rattle.std.proofs.lemmas.List.{drop_more, length-map}
 use Rattle.hal_top.specs.CommandLine.{IsUnitCount, Wanted, texts, text_named}
 use Rattle.hal_top.specs.declared.fetch.NoFile.{NoFile}

@@ -1,6 +1,6 @@
 use Rattle.std.proofs.Common.{◌≡◌, map, drop}
 use Rattle.std.specs.List.{list_all}
-use Rattle.hal_processes.specs.SeenPaths.{seen_path}
+use Rattle.hal_storage.specs.processes.SeenPaths.{seen_path}
 use Rattle.hal_compile.specs.Fitness.{is_short}
 use Rattle.hal_compile.proofs.fitness.are_short.Given as goal
 

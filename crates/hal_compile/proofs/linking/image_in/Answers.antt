@@ -2,8 +2,8 @@ use Rattle.std.proofs.Common.{◌∙◌, ap₂, List, map}
 use Rattle.hal_phrases.specs.Phrases.{Phrase}
 use Rattle.hal_constants.specs.Known.{Known}
 use Rattle.hal_tree.specs.SeenUnits.{seen_file}
-use Rattle.hal_layout.specs.Layouts.{layout_of}
-use Rattle.hal_layout.specs.SeenLayout.{seen_layout}
+use Rattle.hal_storage.specs.layout.Layouts.{layout_of}
+use Rattle.hal_storage.specs.layout.SeenLayout.{seen_layout}
 use Rattle.hal_compile.proofs.Running.{image_found, room_for}
 use Rattle.hal_compile.proofs.linking.image_in.Goals as goal
 

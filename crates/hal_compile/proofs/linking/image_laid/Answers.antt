@@ -2,8 +2,8 @@ use Rattle.std.proofs.Common.{map}
 use Rattle.hal_tree.specs.SeenUnits.{seen_file}
 use Rattle.hal_names.specs.SeenNames.{seen_names}
 use Rattle.hal_constants.specs.SeenKnown.{seen_known}
-use Rattle.hal_layout.specs.SeenLayout.{seen_layout}
-use Rattle.hal_set.specs.SeenBodies.{seen_body}
+use Rattle.hal_storage.specs.layout.SeenLayout.{seen_layout}
+use Rattle.hal_storage.specs.sets.SeenBodies.{seen_body}
 use Rattle.hal_compile.proofs.Running.{linked_set, set_as, the_set}
 use Rattle.hal_compile.proofs.linking.image_laid.Goals as goal
 

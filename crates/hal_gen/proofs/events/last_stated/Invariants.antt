@@ -1,5 +1,5 @@
 use Rattle.std.proofs.Common.{◌≡◌, map, drop, None}
-use Rattle.hal_event_expressions.specs.SeenStated.{seen_stated}
+use Rattle.hal_storage.specs.event_expressions.SeenStated.{seen_stated}
 use Rattle.hal_gen.specs.Pausing as pausing
 use Rattle.hal_gen.proofs.events.last_stated.Given as goal
 

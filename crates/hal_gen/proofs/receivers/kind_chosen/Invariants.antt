@@ -1,6 +1,6 @@
 use Rattle.std.proofs.Common.{◌≡◌, map, drop}
 use Rattle.hal_tree.specs.SeenLeaves.{seen_name}
-use Rattle.hal_elements.specs.SeenComponents.{seen_component}
+use Rattle.hal_storage.specs.elements.SeenComponents.{seen_component}
 use Rattle.hal_meaning.specs.Elements as elements
 use Rattle.hal_meaning.specs.Variables as variables
 use Rattle.hal_gen.proofs.receivers.kind_chosen.Given as goal

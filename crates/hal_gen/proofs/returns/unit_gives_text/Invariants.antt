@@ -1,5 +1,5 @@
 use Rattle.std.proofs.Common.{◌≡◌, map, drop}
-use Rattle.hal_set.specs.SeenBodies.{seen_body}
+use Rattle.hal_storage.specs.sets.SeenBodies.{seen_body}
 use Rattle.hal_gen.specs.Returning as returning
 use Rattle.hal_gen.proofs.returns.unit_gives_text.Given as goal
 

@@ -1,5 +1,5 @@
 use Rattle.std.proofs.Common.{◌≡◌, map, drop}
-use Rattle.hal_set.specs.SeenBodies.{seen_body}
+use Rattle.hal_storage.specs.sets.SeenBodies.{seen_body}
 use Rattle.hal_gen_expr.specs.Bodies.{found_in}
 use Rattle.hal_gen_expr.proofs.bodies.body_in.Given as goal
 

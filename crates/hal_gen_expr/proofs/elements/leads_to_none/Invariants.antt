@@ -1,6 +1,6 @@
 use Rattle.std.proofs.Common.{◌≡◌, map, drop}
 use Rattle.hal_tree.specs.SeenLeaves.{seen_name}
-use Rattle.hal_elements.specs.SeenComponents.{seen_component}
+use Rattle.hal_storage.specs.elements.SeenComponents.{seen_component}
 use Rattle.hal_gen_expr.specs.Elements.{leads_to_none}
 use Rattle.hal_gen_expr.proofs.elements.leads_to_none.Given as goal
 

@@ -1,6 +1,6 @@
 use Rattle.std.proofs.Common.{◌≡◌, map, drop}
 use Rattle.hal_tree.specs.SeenLeaves.{seen_name}
-use Rattle.hal_elements.specs.SeenComponents.{seen_component}
+use Rattle.hal_storage.specs.elements.SeenComponents.{seen_component}
 use Rattle.hal_meaning.specs.Expressions as meaning
 use Rattle.hal_gen_expr.proofs.elements.sizes_reached.Given as goal
 

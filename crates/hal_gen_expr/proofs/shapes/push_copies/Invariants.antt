@@ -1,6 +1,6 @@
 use Rattle.std.proofs.Common.{◌≡◌, map}
 use Rattle.hal_code.specs.Sorts.{same_kind}
-use Rattle.hal_elements.specs.SeenComponents.{seen_component}
+use Rattle.hal_storage.specs.elements.SeenComponents.{seen_component}
 use Rattle.hal_meaning.specs.Elements.{times}
 use Rattle.hal_runs.specs.Joined.{with_runs}
 use Rattle.hal_gen_expr.specs.Shapes.{run_of}

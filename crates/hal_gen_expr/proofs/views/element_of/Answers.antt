@@ -1,8 +1,8 @@
 use Rattle.std.proofs.Common.{rules, ◌≡◌, ◌∙◌, sym, ap, map, Bool, false, Option, Some, None, if◌then◌else◌}
 use Rattle.std.specs.Option.{is_some}
 use Rattle.hal_tree.specs.SeenLeaves.{seen_name}
-use Rattle.hal_cells.specs.SeenStoring.{seen_storing}
-use Rattle.hal_elements.specs.SeenComponents.{seen_component, seen_shape}
+use Rattle.hal_storage.specs.cells.SeenStoring.{seen_storing}
+use Rattle.hal_storage.specs.elements.SeenComponents.{seen_component, seen_shape}
 use Rattle.hal_gen_expr.specs.Elements.{element_in}
 use Rattle.hal_gen_expr.specs.SeenSites.{seen_site, seen_numbering}
 use Rattle.hal_gen_expr.specs.declared.elements.Element.{Element}

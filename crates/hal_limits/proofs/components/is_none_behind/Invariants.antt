@@ -1,5 +1,5 @@
 use Rattle.std.proofs.Common.{◌≡◌, map, drop}
-use Rattle.hal_elements.specs.SeenComponents.{seen_component}
+use Rattle.hal_storage.specs.elements.SeenComponents.{seen_component}
 use Rattle.hal_limits.specs.Behind.{is_none_behind}
 use Rattle.hal_limits.proofs.components.is_none_behind.Given as goal
 

@@ -1,5 +1,5 @@
 use Rattle.std.proofs.Common.{◌≡◌, map, length}
-use Rattle.hal_elements.specs.SeenComponents.{seen_component}
+use Rattle.hal_storage.specs.elements.SeenComponents.{seen_component}
 use Rattle.hal_limits.specs.Behind.{sole_behind}
 use Rattle.hal_limits.proofs.components.sole_behind.Given as goal
 

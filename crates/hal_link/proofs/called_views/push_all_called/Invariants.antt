@@ -1,5 +1,5 @@
 use Rattle.std.proofs.Common.{◌≡◌, drop}
-use Rattle.hal_set.specs.SeenSets.{seen_set}
+use Rattle.hal_storage.specs.sets.SeenSets.{seen_set}
 use Rattle.hal_link.specs.CalledViews.{with_all_called}
 use Rattle.hal_link.proofs.called_views.push_all_called.Given as goal
 

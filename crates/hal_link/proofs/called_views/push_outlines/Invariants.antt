@@ -1,5 +1,5 @@
 use Rattle.std.proofs.Common.{◌≡◌, map, drop}
-use Rattle.hal_set.specs.SeenSets.{seen_set}
+use Rattle.hal_storage.specs.sets.SeenSets.{seen_set}
 use Rattle.hal_link.specs.CalledViews.{with_outlines}
 use Rattle.hal_link.specs.SeenOutlines.{seen_outline}
 use Rattle.hal_link.proofs.called_views.push_outlines.Given as goal

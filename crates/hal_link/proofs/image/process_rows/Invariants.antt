@@ -1,6 +1,6 @@
 use Rattle.std.proofs.Common.{◌≡◌, [], map, drop}
-use Rattle.hal_processes.specs.SeenPaths.{seen_path}
-use Rattle.hal_set.specs.SeenSets.{seen_set}
+use Rattle.hal_storage.specs.processes.SeenPaths.{seen_path}
+use Rattle.hal_storage.specs.sets.SeenSets.{seen_set}
 use Rattle.hal_link.specs.SeenLinking.{rows_if}
 use Rattle.hal_link.specs.SeenOutlines.{seen_outline}
 use Rattle.hal_link.proofs.image.process_rows.Given as goal

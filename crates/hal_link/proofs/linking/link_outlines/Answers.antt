@@ -1,6 +1,6 @@
 use Rattle.std.proofs.Common.{rules, ◌≡◌, ◌+◌, ◌∷◌, Err, drop, map, ap}
 use Rattle.std.proofs.lemmas.Result.{err_from_is_err_and}
-use Rattle.hal_set.specs.SeenSets.{seen_set}
+use Rattle.hal_storage.specs.sets.SeenSets.{seen_set}
 use Rattle.hal_link.specs.Linking.{linked, with_outlines}
 use Rattle.hal_link.specs.SeenOutlines.{seen_outline}
 use Rattle.hal_link.proofs.Following.{outlines_stopped}

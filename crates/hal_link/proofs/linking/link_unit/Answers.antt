@@ -1,7 +1,7 @@
 use Rattle.std.proofs.Common.{◌≡◌, ◌∙◌, map, Some, sym, ap}
 use Rattle.std.specs.Option.{option_map}
-use Rattle.hal_set.specs.SeenBodies.{seen_body}
-use Rattle.hal_set.specs.SeenSets.{seen_set}
+use Rattle.hal_storage.specs.sets.SeenBodies.{seen_body}
+use Rattle.hal_storage.specs.sets.SeenSets.{seen_set}
 use Rattle.hal_meaning.specs.Sets.{body_at}
 use Rattle.hal_gen_expr.specs.Bodies.{lent_body}
 use Rattle.hal_gen_expr.specs.Numbering.{numbering_with}

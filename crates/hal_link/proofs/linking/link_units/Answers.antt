@@ -1,6 +1,6 @@
 use Rattle.std.proofs.Common.{rules, ◌≡◌, ◌∙◌, ◌+◌, ◌<◌, ◌∷◌, Err, drop, drop-cons, get_or, length, sym, ap, add-one}
 use Rattle.std.proofs.lemmas.Result.{err_from_is_err_and}
-use Rattle.hal_set.specs.SeenSets.{seen_set}
+use Rattle.hal_storage.specs.sets.SeenSets.{seen_set}
 use Rattle.hal_link.specs.Linking.{linked, with_units}
 use Rattle.hal_link.specs.Outlines.{numbering_of}
 use Rattle.hal_link.specs.SeenOutlines.{seen_outline}

@@ -1,5 +1,5 @@
 use Rattle.std.proofs.Common.{◌≡◌, drop}
-use Rattle.hal_set.specs.SeenSets.{seen_set}
+use Rattle.hal_storage.specs.sets.SeenSets.{seen_set}
 use Rattle.hal_link.specs.Linking.{linked, with_units}
 use Rattle.hal_link.specs.Outlines.{numbering_of}
 use Rattle.hal_link.specs.SeenOutlines.{seen_outline}

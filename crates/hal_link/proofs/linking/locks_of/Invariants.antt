@@ -1,6 +1,6 @@
 use Rattle.std.proofs.Common.{◌≡◌, ◌++◌, map, drop}
 use Rattle.hal_meaning.specs.LockGroups.{groups_of}
-use Rattle.hal_set.specs.SeenSets.{seen_set}
+use Rattle.hal_storage.specs.sets.SeenSets.{seen_set}
 use Rattle.hal_link.proofs.linking.locks_of.Given as goal
 
 abbrev pub invariant-loop-mark : goal.invariant-loop-mark

@@ -1,5 +1,5 @@
 use Rattle.std.proofs.Common.{◌≡◌, ◌++◌, map, drop}
-use Rattle.hal_own_places.specs.SeenPlaces.{seen_place}
+use Rattle.hal_storage.specs.own_places.SeenPlaces.{seen_place}
 use Rattle.hal_gen_expr.specs.SeenSites.{lent_place}
 use Rattle.hal_link.proofs.places.push_places.Given as goal
 

@@ -3,7 +3,7 @@ use Rattle.std.proofs.lemmas.Result.{err_from_is_err_and}
 use Rattle.hal_tree.specs.Rows.{elements}
 use Rattle.hal_tree.specs.SeenUnits.{seen_element, seen_unit}
 use Rattle.hal_meaning.specs.Bodies.{statements_of}
-use Rattle.hal_set.specs.SeenBodies.{statements_in}
+use Rattle.hal_storage.specs.sets.SeenBodies.{statements_in}
 use Rattle.hal_gen_expr.specs.SeenSites.{seen_site, seen_numbering}
 use Rattle.hal_gen_expr.proofs.Chained.{after, stopped}
 use Rattle.hal_gen.specs.SeenExits.{seen_exits}

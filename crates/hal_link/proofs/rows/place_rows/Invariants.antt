@@ -1,5 +1,5 @@
 use Rattle.std.proofs.Common.{◌≡◌, [], map, drop}
-use Rattle.hal_set.specs.SeenSets.{seen_set}
+use Rattle.hal_storage.specs.sets.SeenSets.{seen_set}
 use Rattle.hal_gen_expr.specs.SeenSites.{lent_place}
 use Rattle.hal_runs.specs.Joined.{with_rows}
 use Rattle.hal_runs.specs.Same.{same_place}

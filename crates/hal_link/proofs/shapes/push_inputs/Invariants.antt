@@ -1,5 +1,5 @@
 use Rattle.std.proofs.Common.{◌≡◌, map, drop}
-use Rattle.hal_set.specs.SeenSets.{seen_set}
+use Rattle.hal_storage.specs.sets.SeenSets.{seen_set}
 use Rattle.hal_tree.specs.SeenLeaves.{seen_name}
 use Rattle.hal_link.specs.Shapes.{with_inputs}
 use Rattle.hal_link.proofs.shapes.push_inputs.Given as goal

@@ -1,6 +1,6 @@
 use Rattle.std.proofs.Common.{◌≡◌, [], map, drop}
-use Rattle.hal_set.specs.SeenBodies.{seen_body}
-use Rattle.hal_set.specs.SeenSets.{seen_set}
+use Rattle.hal_storage.specs.sets.SeenBodies.{seen_body}
+use Rattle.hal_storage.specs.sets.SeenSets.{seen_set}
 use Rattle.hal_link.specs.Shapes.{with_bodies}
 use Rattle.hal_link.proofs.shapes.shapes_of.Given as goal
 

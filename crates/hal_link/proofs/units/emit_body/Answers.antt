@@ -4,7 +4,7 @@ use Rattle.hal_tree.specs.declared.unit.Unit.{out-Unit}
 use Rattle.hal_tree.specs.Rows.{elements}
 use Rattle.hal_tree.specs.SeenUnits.{seen_element, seen_head, seen_unit}
 use Rattle.hal_meaning.specs.Bodies.{statements_of}
-use Rattle.hal_set.specs.SeenBodies.{head_of, statements_in}
+use Rattle.hal_storage.specs.sets.SeenBodies.{head_of, statements_in}
 use Rattle.hal_gen_expr.specs.SeenSites.{seen_site, seen_numbering}
 use Rattle.hal_gen_expr.proofs.Chained.{after, stopped}
 use Rattle.hal_gen.specs.SeenExits.{seen_exits}

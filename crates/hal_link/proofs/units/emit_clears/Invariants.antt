@@ -1,6 +1,6 @@
 use Rattle.std.proofs.Common.{◌≡◌, map, drop}
 use Rattle.hal_gen_expr.specs.SeenSites.{lent_place}
-use Rattle.hal_set.specs.SeenSets.{seen_set}
+use Rattle.hal_storage.specs.sets.SeenSets.{seen_set}
 use Rattle.hal_link.specs.UnitCode.{clears_behind}
 use Rattle.hal_link.proofs.units.emit_clears.Given as goal
 

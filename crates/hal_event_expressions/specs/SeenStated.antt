@@ -1,6 +1,0 @@
--- What each event expression of the program is.
-use Rattle.hal_event_expressions.specs.declared.stated.Stated as rust-stated
-use Rattle.hal_meaning.specs.Events.{Stated}
-
-abbrev pub seen_stated : rust-stated.Stated → Stated
-seen_stated one = record { statement = one.statement; items = one.items.items }

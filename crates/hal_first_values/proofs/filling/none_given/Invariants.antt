@@ -1,7 +1,0 @@
-use Rattle.std.proofs.Common.{◌≡◌, ◌++◌, drop}
-use Rattle.hal_first_values.specs.Filling.{none_given}
-use Rattle.hal_first_values.proofs.filling.none_given.Given as goal
-
-abbrev pub invariant-loop-kind : goal.invariant-loop-kind
-invariant-loop-kind l =
-    l.values.items ++ none_given (drop l.kind-index l.kinds) ≡ none_given l.kinds

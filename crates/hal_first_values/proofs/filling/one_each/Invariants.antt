@@ -1,7 +1,0 @@
-use Rattle.std.proofs.Common.{◌≡◌, ◌++◌, drop}
-use Rattle.hal_meaning.specs.InitialValues.{one_each}
-use Rattle.hal_first_values.proofs.filling.one_each.Given as goal
-
-abbrev pub invariant-loop-kind : goal.invariant-loop-kind
-invariant-loop-kind l =
-    l.values.items ++ one_each (drop l.kind-index l.kinds) l.rest ≡ one_each l.kinds l.given

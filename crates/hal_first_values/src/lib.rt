@@ -1,9 +1,0 @@
-//! What elements of data hold at first.
-#![tactic(auto)]
-
-mod filling;
-mod given;
-mod holding;
-
-pub use filling::first_values;
-pub use holding::{held, nothing};

@@ -1,6 +1,0 @@
-use Rattle.std.proofs.Common.{◌≡◌, drop}
-use Rattle.hal_meaning.specs.ReportNames.{with_path}
-use Rattle.hal_report_names.proofs.paths.with_path.Given as goal
-
-abbrev pub invariant-loop-part : goal.invariant-loop-part
-invariant-loop-part l = with_path l.whole.items (drop l.part-index l.path) ≡ with_path l.name l.path

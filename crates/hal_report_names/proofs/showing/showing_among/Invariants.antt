@@ -1,8 +1,0 @@
-use Rattle.std.proofs.Common.{◌≡◌, map, drop}
-use Rattle.hal_reach.specs.SeenUnits.{seen_reached}
-use Rattle.hal_report_names.specs.Rows.{showing_among}
-use Rattle.hal_report_names.proofs.showing.showing_among.Given as goal
-
-abbrev pub invariant-loop-unit : goal.invariant-loop-unit
-invariant-loop-unit l =
-    showing_among l.all (map seen_reached (drop l.unit-index l.units)) l.number ≡ showing_among l.all (map seen_reached l.units) l.number

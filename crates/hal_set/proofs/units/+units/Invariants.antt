@@ -1,9 +1,0 @@
-use Rattle.std.proofs.Common.{◌≡◌, map, drop}
-use Rattle.hal_tree.specs.SeenUnits.{seen_element}
-use Rattle.hal_set.specs.SeenBodies.{lent_unit}
-use Rattle.hal_set.specs.Units.{with_members}
-use Rattle.hal_set.proofs.units.+units.Given as goal
-
-abbrev pub invariant-push_elements-loop-tree : goal.invariant-push_elements-loop-tree
-invariant-push_elements-loop-tree l =
-    with_members (map lent_unit l.into.items) (map seen_element (drop l.tree-index l.trees)) ≡ with_members (map lent_unit l.fn.into.items) (map seen_element l.trees)

@@ -1,8 +1,0 @@
-use Rattle.std.proofs.Common.{◌≡◌, [], map, drop}
-use Rattle.hal_tree.specs.SeenUnits.{seen_file}
-use Rattle.hal_set.specs.SeenBodies.{lent_unit}
-use Rattle.hal_set.specs.Units.{with_files}
-use Rattle.hal_set.proofs.units.units_of.Given as goal
-
-abbrev pub invariant-loop-file : goal.invariant-loop-file
-invariant-loop-file l = with_files (map lent_unit l.list.items) (map seen_file (drop l.file-index l.files)) ≡ with_files [] (map seen_file l.files)

@@ -1,0 +1,11 @@
+pub mod elements
+pub mod first_values
+pub mod cells
+pub mod own_places
+pub mod processes
+pub mod events
+pub mod event_expressions
+pub mod referents
+pub mod report_names
+pub mod layout
+pub mod sets

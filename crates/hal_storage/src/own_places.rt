@@ -1,0 +1,10 @@
+//! The own places of the processes of a set of files.
+
+mod owning;
+mod place;
+mod places;
+mod sole;
+
+pub use owning::own_places;
+pub use place::{OwnPlaces, Place};
+pub use sole::is_sole;
