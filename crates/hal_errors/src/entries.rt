@@ -23,11 +23,12 @@ pub(crate) fn are_same(one: Selector, other: Selector) -> bool
 pub(crate) fn entry_for(selector: Selector, entries: &[Entry]) -> Option<Entry>
     ensures { result ≡ searching.entry_for selector entries.now }
 {
-    match entries {
-        [] => None,
-        [entry, ..] if are_same(selector, entry.selector) => Some(*entry),
-        [_, rest @ ..] => entry_for(selector, rest),
+    for entry in entries {
+        if are_same(selector, entry.selector) {
+            return Some(*entry);
+        }
     }
+    None
 }
 
 /// From this place on, the entries with this selector go.

@@ -2,7 +2,7 @@
 
 use crate::block::{Block, first_latest};
 use crate::entries::{put, remove};
-use crate::found::{Found, found_from};
+use crate::found::{Found, found_in};
 use hal_values::{Entry, ErrNo, Selector};
 use std::alloc::{AllocError, Global};
 use std::marker::Model;
@@ -93,9 +93,8 @@ impl Environments {
     pub fn find(&self, spent: bool, error: ErrNo) -> Found
         ensures { found_seen result ≡ search spent self.now.entered error }
     {
-        found_from(
+        found_in(
             spent,
-            0,
             self.blocks.as_slice(),
             self.entries.as_slice(),
             error,

@@ -1,6 +1,6 @@
 //! What an error meets.
 
-ghost use Rattle.std.specs.Prelude.{◌≡◌, ◌<◌, ◌+◌, ◌^◌, length, reverse};
+ghost use Rattle.std.specs.Prelude.{◌≡◌, length, reverse};
 ghost use Rattle.std.specs.Option.{option_map};
 ghost use Rattle.hal_values.specs.Searching as searching;
 ghost use Rattle.hal_errors.specs.Found.{found_seen};
@@ -55,26 +55,24 @@ fn met_in(passing: bool, level: usize, entries: &[Entry], error: ErrNo) -> Optio
     met(passing, level, entries, Selector::All)
 }
 
-/// What an error meets in blocks, the latest at the end, of which there are so many later ones.
-pub(crate) fn found_from(
-    passing: bool,
-    level: usize,
-    blocks: &[Block],
-    entries: &[Entry],
-    error: ErrNo,
-) -> Found
-    requires few { level + length blocks.now < 2 ^ 64 }
-    requires runs { AreRuns (reverse blocks.now) (length entries.now) }
-    ensures { found_seen result ≡ searching.found_from passing level (blocks_seen (reverse blocks.now) entries.now) error }
+/// What an error meets in blocks, the latest at the end; statements are passed over where the turns of the UPDATE block are used up.
+pub(crate) fn found_in(spent: bool, blocks: &[Block], entries: &[Entry], error: ErrNo) -> Found
+    requires { AreRuns (reverse blocks.now) (length entries.now) }
+    ensures { found_seen result ≡ searching.search spent (blocks_seen (reverse blocks.now) entries.now) error }
 {
-    match blocks {
-        [] => Found::BySystem(Side::Nothing),
-        [below @ .., block] => {
-            let (lower, own) = entries.split_at(block.first);
-            match met_in(passing, level, own, error) {
-                Some(found) => found,
-                None => found_from(passing && !block.update, level + 1, below, lower, error),
-            }
+    let mut passing = spent;
+    let mut level = 0;
+    let mut lower = blocks;
+    let mut rest = entries;
+    'block: while let [below @ .., block] = lower {
+        let (others, own) = rest.split_at(block.first);
+        if let Some(found) = met_in(passing, level, own, error) {
+            return found;
         }
+        passing = passing && !block.update;
+        level += 1;
+        lower = below;
+        rest = others;
     }
+    Found::BySystem(Side::Nothing)
 }
