@@ -43,22 +43,22 @@ same_part_next n instr.Close part on = absurd (cc)
 same_part_next n other part on = refl
 
 -- the stack behind it
-next_is : (away operands : Bool) (o : Option Sorts) (next : Sorts) → away ≡ false → operands ≡ true → o ≡ Some next
+pub next_is : (away operands : Bool) (o : Option Sorts) (next : Sorts) → away ≡ false → operands ≡ true → o ≡ Some next
     → (if away then [] else (if operands then elim o [ None ↦ [] | Some after ↦ after ] else [])) ≡ next
 next_is true operands o next a b e = absurd (cc)
 next_is false false o next a b e = absurd (cc)
 next_is false true None next a b e = absurd (cc)
 next_is false true (Some one) next a b e = cc
 
-fits_stack : (o : Option Sorts) (next : Sorts) → o ≡ Some next → elim o [ None ↦ false | Some after ↦ true ] ≡ true
+pub fits_stack : (o : Option Sorts) (next : Sorts) → o ≡ Some next → elim o [ None ↦ false | Some after ↦ true ] ≡ true
 fits_stack None next e = absurd (cc)
 fits_stack (Some one) next e = refl
 
-all_six : (a b c d e f : Bool) → a ≡ true → b ≡ true → c ≡ true → d ≡ true → e ≡ true → f ≡ true → (((a && b) && (c && d)) && (e && f)) ≡ true
+pub all_six : (a b c d e f : Bool) → a ≡ true → b ≡ true → c ≡ true → d ≡ true → e ≡ true → f ≡ true → (((a && b) && (c && d)) && (e && f)) ≡ true
 all_six true true true true true true ia ib ic id ie if_ = refl
 all_six a b c d e f ia ib ic id ie if_ = absurd (cc)
 
-not_last : (b c : Bool) → b ≡ false → (if b then c else true) ≡ true
+pub not_last : (b c : Bool) → b ≡ false → (if b then c else true) ≡ true
 not_last true c e = absurd (cc)
 not_last false c e = refl
 
@@ -90,11 +90,11 @@ pub of_block : (image : ImageParts) (block : Block) (k : ℕ) → k < length (co
 of_block image block k low = taken_there (block.end - block.first) (drop block.first image.code) k low ∙ dropped_there block.first image.code k
 
 -- where what fits ends
-not_before : (image : ImageParts) (g : Ground) (is : List Instr) (from to : ℕ) (stack after : Sorts) → FitsBy image g is from stack to after → from ≤ to
+pub not_before : (image : ImageParts) (g : Ground) (is : List Instr) (from to : ℕ) (stack after : Sorts) → FitsBy image g is from stack to after → from ≤ to
 not_before image g [] from to stack after fits = omega (arith, fits.0)
 not_before image g (i ∷ is) from to stack after fits = let late = not_before image g is (suc from) to fits.2.0 after fits.2.2 in omega (arith, late)
 
-part_read : (o : Option (Option ℕ)) → part_of o ≡ elim o [ None ↦ None | Some part ↦ part ]
+pub part_read : (o : Option (Option ℕ)) → part_of o ≡ elim o [ None ↦ None | Some part ↦ part ]
 part_read None = refl
 part_read (Some part) = refl
 

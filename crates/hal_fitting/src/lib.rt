@@ -4,4 +4,4 @@
 
 mod laws;
 
-pub use laws::code_that_fits_is_right;
+pub use laws::{an_image_is_right_where_its_instructions_are, code_that_fits_is_right};
