@@ -1,0 +1,4 @@
+pub mod Given
+pub mod Leaves
+pub mod Calls
+pub mod Expressed
