@@ -1,24 +1,22 @@
 -- The code of calls fits behind arguments that fit, and so does that of names.
-use Rattle.std.specs.Prelude.{◌≡◌, ℕ, suc, pos, nat_lt, length, Bool, true, false, ◌&&◌, List, [], ◌∷◌, Option, Some, None, slice_get, if◌then◌else◌}
-use Rattle.std.specs.Option.{option_and_then}
+use Rattle.std.specs.Prelude.{◌≡◌, ℕ, suc, pos, nat_lt, Bool, true, false, ◌&&◌, List, [], ◌∷◌, Option, Some, None, slice_get, if◌then◌else◌}
 use Rattle.std.proofs.Common.{refl, sym, ap, subst, ◌∙◌}
 use Rattle.std.proofs.lemmas.Bool.{and_parts}
 use Rattle.hal_grammar.specs.Leaves.{Naming}
-use Rattle.hal_grammar.specs.Units.{Head, Program, Compool, Task, Procedure, Function}
+use Rattle.hal_grammar.specs.Units.{Head, Function}
 use Rattle.hal_values.specs.declared.value.Value.{Value}
 use Rattle.hal_values.specs.declared.value.Value.TheVariants as value
 use Rattle.hal_states.specs.Spots.{Own, Held}
 use Rattle.hal_meaning.specs.Bodies.{Body}
-use Rattle.hal_meaning.specs.Calls.{Parameter, parameter_named, inputs_of, outputs_of, is_function, zero_of}
-use Rattle.hal_meaning.specs.Elements.{Shape, chosen, kinds_of}
+use Rattle.hal_meaning.specs.Calls.{Parameter, inputs_of, outputs_of, is_function, zero_of}
+use Rattle.hal_meaning.specs.Elements.{chosen, kinds_of}
 use Rattle.hal_meaning.specs.Expressions.{inputs_at}
 use Rattle.hal_meaning.specs.ReportNames.{first_place}
 use Rattle.hal_meaning.specs.Sets.{body_at}
-use Rattle.hal_meaning.specs.Variables.{Meant, MeantData, MeantConstant, MeantEvent, MeantBlock, MeantBuiltin, MeantNothing, name_meant, kind_of_first, is_whole}
+use Rattle.hal_meaning.specs.Variables.{Meant, MeantData, MeantConstant, MeantEvent, MeantBlock, MeantBuiltin, MeantNothing, name_meant, kind_of_first}
 use Rattle.hal_code.specs.declared.choice.Choice.{Choice}
 use Rattle.hal_code.specs.declared.choice.Choice.TheVariants as choice
 use Rattle.hal_code.specs.declared.instr.Instr.TheVariants as instr
-use Rattle.hal_code.specs.declared.row.Block.{Block}
 use Rattle.hal_code.specs.declared.row.ResultKind.{ResultKind}
 use Rattle.hal_code.specs.declared.row.ResultKind.TheVariants as result
 use Rattle.hal_code.specs.Blocks.{block_places}
@@ -29,12 +27,12 @@ use Rattle.hal_code.specs.Memory.{own_memory, lies_from}
 use Rattle.hal_code.specs.Sorts.{Sort, I, B, T, A, R, sort_of, sort_of_result, takes}
 use Rattle.hal_agreement.specs.Codes.{Code}
 use Rattle.hal_agreement.specs.Sites.{Site, here_at}
-use Rattle.hal_agreement.specs.PlacedExpressions.{Has, One, pushes, AddressAt, BoundAt, EitherAt, ParametersAt, ParameterAt, CallAt, ValueAt, NameAt}
+use Rattle.hal_agreement.specs.PlacedExpressions.{One, AddressAt, BoundAt, EitherAt, ParametersAt, CallAt, ValueAt, NameAt}
 use Rattle.hal_fitting.specs.Fitting.{Ground, Fits}
 use Rattle.hal_fitting.proofs.Joining.{nothing_fits, one_fits, suits_there, modest_fits, both_fit, fits_to}
 use Rattle.hal_fit_expr.specs.Uses.{Uses}
 use Rattle.hal_fit_expr.specs.Sorted.{sort_of_value, sort_of_body, sort_of_call, sort_of_meant, sort_of_name, passed_fits}
-use Rattle.hal_fit_expr.specs.Serving.{HasPlaces, MayCall, Serves}
+use Rattle.hal_fit_expr.specs.Serving.{HasPlaces, Serves}
 use Rattle.hal_fit_expr.proofs.Given.{then_is, given_then, one_value, number_same}
 use Rattle.hal_fit_expr.proofs.Leaves.{value_fits, fetch_fits, address_fits, event_fits, alone_fits}
 

@@ -1,5 +1,5 @@
 -- The code of an expression that has a sort fits.
-use Rattle.std.specs.Prelude.{◌≡◌, ℕ, suc, ◌+◌, pos, length, Bool, true, false, not, ◌&&◌, ◌||◌, List, [], ◌∷◌, ◌++◌, Option, Some, None, slice_get, if◌then◌else◌}
+use Rattle.std.specs.Prelude.{◌≡◌, ℕ, suc, ◌+◌, pos, length, Bool, true, false, ◌&&◌, ◌||◌, List, [], ◌∷◌, ◌++◌, Option, Some, None, if◌then◌else◌}
 use Rattle.std.specs.Option.{option_and_then}
 use Rattle.std.proofs.Common.{refl, sym, ap, subst, ◌∙◌}
 use Rattle.std.proofs.lemmas.Bool.{and_parts}
@@ -28,16 +28,16 @@ use Rattle.hal_code.specs.declared.row.Target.{Target}
 use Rattle.hal_code.specs.declared.row.Target.TheVariants as target
 use Rattle.hal_code.specs.Effects.{Sorts, sorts_after, sort_of_target, has_places, places_taken}
 use Rattle.hal_code.specs.Images as images
-use Rattle.hal_code.specs.Sorts.{Sort, I, B, T, A, R, sort_of, one_gives, two_give, takes}
+use Rattle.hal_code.specs.Sorts.{Sort, I, B, A, R, sort_of, one_gives, two_give, takes}
 use Rattle.hal_agreement.specs.Codes.{Code}
 use Rattle.hal_agreement.specs.Sites.{Site, here_at}
-use Rattle.hal_agreement.specs.PlacedExpressions.{Has, One, pushes, two, picks, places_of, EitherAt, ParametersAt, ParameterAt, ValueAt, NameAt, ElementAt, PlaceAt, ArrayAt, single_dimensions, single_places, SpanAt, DataAt, SubscriptedAt, SignAt, OperandAt, CalledAt, ExpressionAt, JoinedAt, FoldedAt, TermsAt, BuiltAt, ArgumentsAt, WholeArgumentAt, WholeAt, ReferenceAt, ChosenAt, IndexesAt, PositionAt, ComponentAt, PartsAt, PartAt}
+use Rattle.hal_agreement.specs.PlacedExpressions.{Has, One, pushes, two, places_of, EitherAt, ValueAt, NameAt, ElementAt, PlaceAt, ArrayAt, single_dimensions, single_places, DataAt, SubscriptedAt, SignAt, OperandAt, CalledAt, ExpressionAt, JoinedAt, FoldedAt, TermsAt, BuiltAt, ArgumentsAt, WholeArgumentAt, ReferenceAt, ChosenAt, IndexesAt, PositionAt, ComponentAt, PartsAt, PartAt}
 use Rattle.hal_fitting.specs.Fitting.{Ground, suits, Fits}
-use Rattle.hal_fitting.proofs.Joining.{nothing_fits, one_fits, modest_fits, modest_suits, both_fit, fits_to}
+use Rattle.hal_fitting.proofs.Joining.{nothing_fits, one_fits, modest_suits, both_fit, fits_to}
 use Rattle.hal_fit_expr.specs.Uses.{Uses}
-use Rattle.hal_fit_expr.specs.Sorted.{is_integer, is_bits, sort_of_value, sort_of_call, sort_of_meant, sort_of_name, chosen_sort, subscripted_sort, called_sort, is_taken, passed_fits, data_fits, sort_of_expression, all_bits, folded_sort, terms_fit, built_sort, arguments_fit, whole_fits, area_fits, sort_of_reference, places_fit, indexes_fit, position_fits, parts_fit, components_fit, part_fits}
-use Rattle.hal_fit_expr.specs.Serving.{HasPlaces, HavePlaces, Serves}
-use Rattle.hal_fit_expr.proofs.Given.{then_is, given_is, given_then, integer_is, bits_is, one_value, integers, taken, one_below, some_below}
+use Rattle.hal_fit_expr.specs.Sorted.{is_integer, is_bits, sort_of_value, sort_of_call, sort_of_meant, sort_of_name, chosen_sort, subscripted_sort, called_sort, is_taken, passed_fits, data_fits, sort_of_expression, all_bits, folded_sort, terms_fit, built_sort, arguments_fit, whole_fits, sort_of_reference, places_fit, indexes_fit, position_fits, parts_fit, components_fit, part_fits}
+use Rattle.hal_fit_expr.specs.Serving.{HavePlaces, Serves}
+use Rattle.hal_fit_expr.proofs.Given.{then_is, given_is, given_then, integer_is, bits_is, one_value, integers, one_below, some_below}
 use Rattle.hal_fit_expr.proofs.Leaves.{value_fits, one_op_fits, two_op_fits, pick_fits, fetch_fits, element_fits}
 use Rattle.hal_fit_expr.proofs.Calls.{may_be_called, Stores, call_fits, meant_fits, name_fits, Passed, passed_by}
 
@@ -51,11 +51,11 @@ no_places NoSubscripts arrays = refl
 no_places (MoreSubscripts first others) arrays = refl
 
 -- so many integers do the places leave that a subscript of a component chooses
-abbrev places_left : Sub → ℕ
+abbrev pub places_left : Sub → ℕ
 places_left (OnePlace one) = 1
 places_left other = 2
 
-places_there : (one : Sub) (stack : Sorts) → places_taken (choice.Known (places_of one)) (integers (places_left one) stack) ≡ Some stack
+pub places_there : (one : Sub) (stack : Sorts) → places_taken (choice.Known (places_of one)) (integers (places_left one) stack) ≡ Some stack
 places_there (Every place) stack = refl
 places_there (OnePlace one) stack = refl
 places_there (Range first last) stack = refl

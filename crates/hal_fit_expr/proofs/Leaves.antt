@@ -1,8 +1,7 @@
 -- The code of leaves fits: of values, of addresses, of names that call nothing.
-use Rattle.std.specs.Prelude.{◌≡◌, ℕ, suc, nat_lt, length, map, Bool, true, false, not, ◌&&◌, List, [], ◌∷◌, Option, Some, None, slice_get, if◌then◌else◌}
+use Rattle.std.specs.Prelude.{◌≡◌, ℕ, suc, nat_lt, length, Bool, true, false, not, ◌&&◌, List, [], ◌∷◌, Option, Some, None, slice_get, if◌then◌else◌}
 use Rattle.std.specs.Option.{option_and_then}
-use Rattle.std.proofs.Common.{refl, sym, ap, subst, ◌∙◌}
-use Rattle.std.proofs.lemmas.Bool.{and_parts}
+use Rattle.std.proofs.Common.{refl, ap, ◌∙◌}
 use Rattle.std.proofs.lemmas.List.{length-map}
 use Rattle.hal_scope.specs.declared.builtin.Builtin.{Builtin}
 use Rattle.hal_scope.specs.declared.builtin.Builtin.TheVariants as builtin
@@ -17,7 +16,6 @@ use Rattle.hal_code.specs.declared.choice.Choice.TheVariants as choice
 use Rattle.hal_code.specs.declared.instr.Instr.{Instr}
 use Rattle.hal_code.specs.declared.instr.Instr.TheVariants as instr
 use Rattle.hal_code.specs.declared.operand.Places.{Places}
-use Rattle.hal_code.specs.declared.row.Block.{Block}
 use Rattle.hal_code.specs.declared.row.Target.{Target}
 use Rattle.hal_code.specs.declared.row.Target.TheVariants as target
 use Rattle.hal_code.specs.declared.row.View.{View}
@@ -28,13 +26,11 @@ use Rattle.hal_code.specs.Operands.{operands_right, holds_of, is_view_for, event
 use Rattle.hal_code.specs.Right.{stands_right}
 use Rattle.hal_code.specs.Sorts.{Sort, I, B, T, A, R, sort_of, one_gives, two_give}
 use Rattle.hal_agreement.specs.Codes.{Code}
-use Rattle.hal_agreement.specs.Sites.{Site}
-use Rattle.hal_agreement.specs.PlacedExpressions.{Has, One, pushes, two, picks, dimension_of, IsViewed, AddressAt, addresses, ElementAt, AloneAt}
+use Rattle.hal_agreement.specs.PlacedExpressions.{Has, One, pushes, two, picks, dimension_of, AddressAt, addresses, ElementAt, AloneAt}
 use Rattle.hal_fitting.specs.Fitting.{Ground, suits, Fits}
-use Rattle.hal_fitting.proofs.Joining.{one_fits, suits_there, modest_fits, both_fit, fits_to}
+use Rattle.hal_fitting.proofs.Joining.{one_fits, modest_fits, fits_to}
 use Rattle.hal_fit_expr.specs.Uses.{Uses}
 use Rattle.hal_fit_expr.specs.Sorted.{are_bits, sort_of_value, sort_of_builtin}
-use Rattle.hal_fit_expr.specs.Serving.{Serves}
 use Rattle.hal_fit_expr.proofs.Given.{given_is, integers, taken}
 
 holds_there : {X : Type 0} (test : X → Bool) (o : Option X) (x : X) → o ≡ Some x → test x ≡ true → holds_of test o ≡ true

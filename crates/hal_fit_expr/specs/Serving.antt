@@ -1,5 +1,5 @@
 -- What an image has for the expressions that stand in one of its blocks.
-use Rattle.std.specs.Prelude.{◌≡◌, ℕ, nat_lt, length, Bool, true, false, List, [], ◌∷◌, Some, None, slice_get}
+use Rattle.std.specs.Prelude.{◌≡◌, ℕ, nat_lt, length, true, false, List, [], ◌∷◌, Some, None, slice_get}
 use Rattle.hal_grammar.specs.Leaves.{Naming}
 use Rattle.hal_meaning.specs.Bodies.{Body}
 use Rattle.hal_meaning.specs.Calls.{Parameter, parameter_named, is_function, zero_of}

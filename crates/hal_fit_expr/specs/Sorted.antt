@@ -17,11 +17,11 @@ use Rattle.hal_values.specs.declared.value.Value.{Value}
 use Rattle.hal_values.specs.declared.value.Value.TheVariants as value
 use Rattle.hal_meaning.specs.Bodies.{Body}
 use Rattle.hal_meaning.specs.Calls.{parameter_named, is_function, zero_of}
-use Rattle.hal_meaning.specs.Elements.{Shape, chosen}
+use Rattle.hal_meaning.specs.Elements.{chosen}
 use Rattle.hal_meaning.specs.Expressions.{literal_value, exponent_of, operation_of_relation, operation_of_conversion, is_size, size_argument, inputs_at, sizes_named}
 use Rattle.hal_meaning.specs.Sets.{body_at}
 use Rattle.hal_meaning.specs.Variables.{Meant, MeantData, MeantConstant, MeantEvent, MeantBlock, MeantBuiltin, MeantNothing, name_meant, kind_of_first, is_arrayed, is_whole}
-use Rattle.hal_code.specs.Sorts.{Sort, I, B, T, A, R, sort_of, one_gives, two_give, takes}
+use Rattle.hal_code.specs.Sorts.{Sort, I, B, T, sort_of, one_gives, two_give, takes}
 use Rattle.hal_code.specs.Effects.{has_places}
 use Rattle.hal_agreement.specs.Sites.{Site, here_at}
 use Rattle.hal_fit_expr.specs.Uses.{Uses}
