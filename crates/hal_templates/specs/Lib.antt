@@ -14,3 +14,5 @@ pub mod Heads
 pub mod Templates
 pub mod Rules
 pub mod Faults
+pub mod Agreeing
+pub mod Giving

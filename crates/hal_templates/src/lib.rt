@@ -8,6 +8,7 @@ mod entries;
 mod heads;
 mod items;
 mod kinds;
+mod laws;
 mod leaves;
 mod locks;
 mod meanings;
@@ -21,3 +22,6 @@ mod traits;
 mod values;
 
 pub use checking::match_templates;
+pub use laws::{
+    a_written_template_gives_what_its_unit_shows, an_included_template_gives_what_its_unit_shows,
+};
