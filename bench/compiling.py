@@ -1,12 +1,12 @@
 #!/usr/bin/env python3
 """How fast sets of units are compiled, and how the time grows. Run it by hand, from anywhere: bench/compiling.py
 
-The proved program builds sets of units, of 128 KiB to 1 MiB of source: a PROGRAM that calls PROCEDUREs, each a unit of its own with declarations, loops,
+The proved program builds sets of units, of 16 KiB to 1 MiB of source: a PROGRAM that calls PROCEDUREs, each a unit of its own with declarations, loops,
 conditions, expressions, subscripts and texts. The first table has a row for each size: the processor time of `build` (the least of three), the megabytes a second, and the ratio
-to half the size. 1 MiB is to be built at 2 MB a second at least, and no ratio is to be above 2.5.
+to half the size. 1 MiB is to be built at 2 MB a second at least, and no ratio is to be above 2.5. A size that takes longer than 10 seconds ends the table.
 
-The second table says which share each stage has of it. The set of 1 MiB is given a fault in its last statement, which a stage finds when it has done all its work, so that no
-later stage begins. A row is a stage: the time until the set is refused by it, and the time that it adds to the one before.
+The second table says which share each stage has of the set of 32 KiB, which is given a fault in its last statement, which a
+stage finds when it has done all its work, so that no later stage begins. A row is a stage: the time until the set is refused by it, and the time that it adds to the one before.
 
 It ends with status 1 where a bar isn't met.
 """
@@ -19,8 +19,9 @@ import tempfile
 ROOT = pathlib.Path(__file__).resolve().parent.parent
 PROGRAM = ROOT / 'crates/hal_cli/out/hal_cli'
 KIB = 1024
-SIZES = (128 * KIB, 256 * KIB, 512 * KIB, 1024 * KIB)
-LEAST, HIGHEST = 2.0, 2.5
+SIZES = (16 * KIB, 32 * KIB, 64 * KIB, 128 * KIB, 256 * KIB, 512 * KIB, 1024 * KIB)
+SHARED = 32 * KIB
+LEAST, HIGHEST, LONGEST = 2.0, 2.5, 10.0
 # A unit keeps below the limit of words.
 UNIT = 128 * KIB
 
@@ -38,7 +39,7 @@ DECLARED = """ LAST{unit}: PROCEDURE(X) ASSIGN(Y);
   DECLARE N INTEGER DOUBLE, K INTEGER, A ARRAY(100) INTEGER, T CHARACTER(40), B BIT(16);
 """
 # Statements of many kinds; those of a number have a name of their own.
-STATEMENTS = """  N = N + K * (X - {one}) - ABS(Y);
+STATEMENTS = """  N = N + K X - {one} ABS(Y);
   IF N > {one} AND K < 7 THEN A$K = N; ELSE T = T CAT 'UNIT {one}';
   DO FOR K = 1 TO 100; A$K = A$(K) + {one}; END;
   DO WHILE N > 0; N = N - 1; IF A$(1) = N THEN N = 0; END;
@@ -98,20 +99,22 @@ def growing(folder):
         print(f'{length:10}{took:10.3f}{length / took / 1e6:8.2f}{ratio:>8}', flush=True)
         met = met and (half is None or took / half <= HIGHEST) and (size < SIZES[-1] or length / took / 1e6 >= LEAST)
         half = took
+        if took > LONGEST:
+            return False
     return met
 
 
 def shares(folder):
-    """What each stage takes of the largest set."""
+    """What each stage takes of a set."""
     print(f'{"stage":>18}{"seconds":>10}{"adds":>10}')
     before = 0.0
     for stage, last, rule in STAGES:
-        took, status, said = build(set_of(folder, SIZES[-1], last))
+        took, status, said = build(set_of(folder, SHARED, last))
         if status != 5 or not said.endswith(f'rule {rule}\n'.encode()):
             sys.exit(f'{stage}: status {status}, {said[:200]!r}')
         print(f'{stage:>18}{took:10.3f}{took - before:10.3f}', flush=True)
         before = took
-    took, _, _ = build(set_of(folder, SIZES[-1]))
+    took, _, _ = build(set_of(folder, SHARED))
     print(f'{"code and image":>18}{took:10.3f}{took - before:10.3f}')
 
 
