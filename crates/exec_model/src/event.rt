@@ -1,7 +1,7 @@
 use hal_values::Listing;
 
 /// What the executive does at once. Processes are given by their numbers.
-#[derive(Clone, Copy, Debug, PartialEq, Eq)]
+#[derive(Clone, Copy, PartialEq, Eq)]
 pub enum Event {
     /// A request of the process is answered.
     Act(u8),

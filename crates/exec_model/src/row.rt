@@ -2,7 +2,7 @@ use crate::status::Status;
 use hal_values::{Cycle, Guard};
 
 /// What the executive keeps of a process.
-#[derive(Clone, Copy, Debug, PartialEq, Eq)]
+#[derive(Clone, Copy, PartialEq, Eq)]
 pub struct Row {
     pub status: Status,
     /// 0 to 255, and the greater goes first.

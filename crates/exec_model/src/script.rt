@@ -5,7 +5,7 @@ use std::marker::Model;
 pub type Datum = Listing<u8>;
 
 /// A line of a script.
-#[derive(Debug, Drop)]
+#[derive(Drop)]
 pub enum ScriptLine {
     /// At most so many events.
     Run(u32),
@@ -19,7 +19,7 @@ pub enum ScriptLine {
 
 /// The lines of a script in order, the empty ones left out. They keep the limits of scripts. A contract
 /// sees the list of lines.
-#[derive(Debug, Drop)]
+#[derive(Drop)]
 pub struct Script {
     lines: Vec<ScriptLine>,
 }

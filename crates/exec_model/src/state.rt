@@ -4,7 +4,6 @@ use crate::status::End;
 use hal_values::{Listing, Value};
 
 /// The executive at a moment, but for the answers, which the processes have.
-#[derive(Debug)]
 pub struct State {
     /// What the shared cells hold.
     pub store: Listing<Value>,

@@ -1,7 +1,7 @@
 use hal_values::ErrNo;
 
 /// How a process ends.
-#[derive(Clone, Copy, Debug, PartialEq, Eq)]
+#[derive(Clone, Copy, PartialEq, Eq)]
 pub enum How {
     /// Its last cycle is done.
     Closed,
@@ -15,7 +15,7 @@ pub enum How {
 
 /// What a process waits for. Times are milliseconds of the clock, and an event expression is given by
 /// its number.
-#[derive(Clone, Copy, Debug, PartialEq, Eq)]
+#[derive(Clone, Copy, PartialEq, Eq)]
 pub enum Status {
     /// For a SCHEDULE: it isn't active.
     Idle,
@@ -38,7 +38,7 @@ pub enum Status {
 }
 
 /// The end of a process.
-#[derive(Clone, Copy, Debug, PartialEq, Eq)]
+#[derive(Clone, Copy, PartialEq, Eq)]
 pub struct End {
     pub process: u8,
     /// The time of the clock, in milliseconds.

@@ -2,7 +2,6 @@ use crate::checking::{are_right_bodies, are_right_tables};
 use hal_values::{Listing, Load, Request, Tables, Value};
 
 /// What a process of a scripted load asks in a cycle, between Begin and Finish.
-#[derive(Debug)]
 pub enum Ask {
     /// A request, but none of Begin, Update, Finish, Look and Close.
     Plain(Request),
@@ -23,7 +22,6 @@ impl Drop for Ask {
 /// A load whose processes ask what lists say, whatever they are answered: for each process its cycles
 /// in order. Further cycles ask nothing, and a process that is killed goes on with its next cycle.
 /// Where the tables or a list aren't right it is the smallest load.
-#[derive(Debug)]
 pub struct Scripted {
     pub tables: Tables,
     pub bodies: Listing<Listing<Listing<Ask>>>,

@@ -3,15 +3,46 @@
 use crate::loads::Unit;
 use crate::plays::{Line, play, started, step};
 use crate::row_loads::{HELD, PREEMPTED, TERMINATED};
-use exec_model::{Event, Plain, Procs};
+use exec_model::{Event, Plain, Procs, Row};
 use std::alloc::{AllocError, Global};
 
-/// The events, the state, and what may come next.
-fn picture<P: Procs + Drop>(alloc: Global, plain: &mut Plain<P>) -> Result<String, AllocError> {
+/// What is seen of the executive: how many events there were, the moment, and what may come next.
+#[derive(Drop, PartialEq, Eq)]
+struct Picture {
+    events: usize,
+    clock: u64,
+    stamp: u64,
+    rows: Vec<Row>,
+    declared: Vec<bool>,
+    output: usize,
+    ends: usize,
+    next: Option<Event>,
+}
+
+/// These, each copied.
+fn copied<T: Copy>(alloc: Global, all: &[T]) -> Result<Vec<T>, AllocError> {
+    let mut copies = Vec::new(alloc);
+    for one in all {
+        copies.push(*one)?;
+    }
+    Ok(copies)
+}
+
+/// What is seen now.
+fn seen<P: Procs + Drop>(alloc: Global, plain: &mut Plain<P>) -> Result<Picture, AllocError> {
     let next = plain.next_event()?;
-    let journal = plain.journal();
+    let events = plain.journal().as_slice().len();
     let state = plain.state();
-    format!(in alloc; "{journal:?} {state:?} {next:?}")
+    Ok(Picture {
+        events,
+        clock: state.clock,
+        stamp: state.stamp,
+        rows: copied(alloc, state.rows.as_slice())?,
+        declared: copied(alloc, state.events.as_slice())?,
+        output: state.output.as_slice().len(),
+        ends: state.ends.as_slice().len(),
+        next,
+    })
 }
 
 /// Whether none of these events is made.
@@ -44,10 +75,10 @@ fn stays<P: Procs + Drop>(
     row: &Refused,
 ) -> Result<bool, AllocError> {
     let allowed = play(plain, row.lines)?;
-    let before = picture(alloc, plain)?;
+    let before = seen(alloc, plain)?;
     let none = makes_none(plain, row.events)?;
-    let after = picture(alloc, plain)?;
-    Ok(allowed && none && before.as_bytes() == after.as_bytes())
+    let after = seen(alloc, plain)?;
+    Ok(allowed && none && before == after)
 }
 
 impl Refused {

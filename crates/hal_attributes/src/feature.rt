@@ -1,7 +1,7 @@
 //! What attributes say.
 
 /// What an attribute says, without its numbers.
-#[derive(Clone, Copy, Debug, PartialEq, Eq)]
+#[derive(Clone, Copy, PartialEq, Eq)]
 pub enum Feature {
     Array,
     Integer,

@@ -8,7 +8,7 @@ use std::alloc::{AllocError, Global};
 use thiserror::Error;
 
 /// What a shelf has under a name.
-#[derive(Clone, Copy, Debug, PartialEq, Eq)]
+#[derive(Clone, Copy, PartialEq, Eq)]
 pub enum Found {
     /// The file, and all its bytes were handed out.
     All,

@@ -3,7 +3,7 @@ ghost use Rattle.std.specs.Prelude.{◌≡◌, length, None, Ok};
 use crate::sink::{Sink, SinkFault};
 
 /// A sink that takes each piece whole, keeps nothing and never fails.
-#[derive(Clone, Copy, Debug, PartialEq, Eq)]
+#[derive(Clone, Copy, PartialEq, Eq)]
 pub struct SureSink;
 
 impl SureSink {

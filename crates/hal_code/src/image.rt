@@ -4,7 +4,7 @@ use crate::row::{Block, OwnPlace, Process, Run, View};
 use hal_values::{Cell, EventStart, Item, Kind, Listing, ReportName};
 
 /// The parts of an image: its tables, and its code.
-#[derive(Debug, Drop)]
+#[derive(Drop)]
 pub struct ImageParts {
     /// The shared cells.
     pub cells: Listing<Run<Cell>>,

@@ -5,7 +5,7 @@ use hal_values::{Kind, Text};
 
 /// An instruction, in the order of the codes. Targets are the numbers of instructions, counted from 0 over the whole code; views, blocks, places,
 /// events and processes are given by their numbers. In a process's place 255 is the process itself.
-#[derive(Debug, Drop, PartialEq, Eq)]
+#[derive(Drop, PartialEq, Eq)]
 pub enum Instr {
     /// An integer is put on the stack.
     Int(i32),

@@ -1,7 +1,7 @@
 //! The operands of instructions that are no plain numbers.
 
 /// A time.
-#[derive(Clone, Copy, Debug, PartialEq, Eq)]
+#[derive(Clone, Copy, PartialEq, Eq)]
 pub enum Time {
     /// None; no image that is right has one.
     Absent,
@@ -12,7 +12,7 @@ pub enum Time {
 }
 
 /// When a process starts.
-#[derive(Clone, Copy, Debug, PartialEq, Eq)]
+#[derive(Clone, Copy, PartialEq, Eq)]
 pub enum Start {
     Now,
     /// At a time of the clock.
@@ -24,7 +24,7 @@ pub enum Start {
 }
 
 /// How a process goes on after a cycle.
-#[derive(Clone, Copy, Debug, PartialEq, Eq)]
+#[derive(Clone, Copy, PartialEq, Eq)]
 pub enum Round {
     Once,
     /// At once.
@@ -36,7 +36,7 @@ pub enum Round {
 }
 
 /// What cancels a process. An event expression is given by its number.
-#[derive(Clone, Copy, Debug, PartialEq, Eq)]
+#[derive(Clone, Copy, PartialEq, Eq)]
 pub enum Limit {
     Free,
     /// The event expression is FALSE.
@@ -48,7 +48,7 @@ pub enum Limit {
 }
 
 /// What a process waits for.
-#[derive(Clone, Copy, Debug, PartialEq, Eq)]
+#[derive(Clone, Copy, PartialEq, Eq)]
 pub enum Delay {
     /// So long from now on.
     For(Time),
@@ -61,7 +61,7 @@ pub enum Delay {
 }
 
 /// Which places of a bit string or a text are chosen by integers on the stack.
-#[derive(Clone, Copy, Debug, PartialEq, Eq)]
+#[derive(Clone, Copy, PartialEq, Eq)]
 pub enum Places {
     /// One place.
     One,
@@ -72,7 +72,7 @@ pub enum Places {
 }
 
 /// What is done about an error.
-#[derive(Clone, Copy, Debug, PartialEq, Eq)]
+#[derive(Clone, Copy, PartialEq, Eq)]
 pub enum Response {
     /// The process ends.
     System,
@@ -83,7 +83,7 @@ pub enum Response {
 }
 
 /// What is done to an event.
-#[derive(Clone, Copy, Debug, PartialEq, Eq)]
+#[derive(Clone, Copy, PartialEq, Eq)]
 pub enum EventChange {
     Nothing,
     Signal,

@@ -4,14 +4,14 @@ use crate::choice::Choice;
 use hal_values::{Kind, Listing, Text, Value};
 
 /// So many equal rows, one after another.
-#[derive(Debug, Drop)]
+#[derive(Drop)]
 pub struct Run<T> {
     pub repeat: u32,
     pub row: T,
 }
 
 /// An own place.
-#[derive(Debug, Drop, PartialEq, Eq)]
+#[derive(Drop, PartialEq, Eq)]
 pub enum OwnPlace {
     /// It holds values of a kind, and this one at first.
     Data { kind: Kind, initial: Value },
@@ -20,7 +20,7 @@ pub enum OwnPlace {
 }
 
 /// A process.
-#[derive(Debug, Drop)]
+#[derive(Drop)]
 pub struct Process {
     pub name: Text,
     /// The number of its block.
@@ -30,7 +30,7 @@ pub struct Process {
 }
 
 /// Where a view begins.
-#[derive(Clone, Copy, Debug, PartialEq, Eq)]
+#[derive(Clone, Copy, PartialEq, Eq)]
 pub enum Base {
     /// At a shared cell.
     Shared(u32),
@@ -43,14 +43,14 @@ pub enum Base {
 }
 
 /// A dimension of a view: how many places it has, and how many cells further on the next one is.
-#[derive(Clone, Copy, Debug, PartialEq, Eq)]
+#[derive(Clone, Copy, PartialEq, Eq)]
 pub struct Dimension {
     pub size: u32,
     pub stride: u32,
 }
 
 /// What a view gives.
-#[derive(Clone, Copy, Debug, PartialEq, Eq)]
+#[derive(Clone, Copy, PartialEq, Eq)]
 pub enum Target {
     /// A cell of this kind.
     Cell(Kind),
@@ -59,7 +59,7 @@ pub enum Target {
 }
 
 /// A way to cells, by one integer for each dimension.
-#[derive(Debug, Drop)]
+#[derive(Drop)]
 pub struct View {
     pub base: Base,
     pub dimensions: Listing<Dimension>,
@@ -67,7 +67,7 @@ pub struct View {
 }
 
 /// What a block's RETURN gives.
-#[derive(Clone, Copy, Debug, PartialEq, Eq)]
+#[derive(Clone, Copy, PartialEq, Eq)]
 pub enum ResultKind {
     Nothing,
     Integer,
@@ -76,7 +76,7 @@ pub enum ResultKind {
 }
 
 /// A block of code: the process that has it, or 255 for a common one, its first instruction, and the one behind its last.
-#[derive(Clone, Copy, Debug, PartialEq, Eq)]
+#[derive(Clone, Copy, PartialEq, Eq)]
 pub struct Block {
     pub process: u8,
     pub first: u64,

@@ -3,7 +3,7 @@
 use hal_values::Value;
 
 /// What an expression comes to where a constant is wanted.
-#[derive(Debug, Drop)]
+#[derive(Drop)]
 pub enum Constant {
     /// A value.
     Worth(Value),

@@ -3,7 +3,7 @@
 use hal_operations::{Op1, Op2};
 
 /// What a built-in function computes.
-#[derive(Clone, Copy, Debug)]
+#[derive(Clone, Copy)]
 pub enum Operation {
     /// Of one argument.
     One(Op1),

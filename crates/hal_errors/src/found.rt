@@ -11,7 +11,7 @@ use crate::entries::entry_for;
 use hal_values::{Act, Entry, ErrNo, Selector, Side};
 
 /// What an error meets.
-#[derive(Clone, Copy, Debug, PartialEq, Eq)]
+#[derive(Clone, Copy, PartialEq, Eq)]
 pub enum Found {
     /// The process ends.
     BySystem(Side),

@@ -1,7 +1,7 @@
 //! What a subscript chooses.
 
 /// How many subscripts choose copies, array places and places of a component, and whether one of the first two sorts chooses several.
-#[derive(Clone, Copy, Debug)]
+#[derive(Clone, Copy)]
 pub struct Choice {
     pub copies: usize,
     pub places: usize,

@@ -1,7 +1,7 @@
 //! The classes of values.
 
 /// What kind of value an expression has, without its length and precision (language document, Kinds).
-#[derive(Clone, Copy, Debug, PartialEq, Eq)]
+#[derive(Clone, Copy, PartialEq, Eq)]
 pub enum Class {
     Integer,
     Bits,

@@ -3,7 +3,7 @@
 use crate::class::Class;
 
 /// What kind of data a name is, before subscripts.
-#[derive(Clone, Copy, Debug)]
+#[derive(Clone, Copy)]
 pub struct Data {
     /// That of one element.
     pub class: Class,

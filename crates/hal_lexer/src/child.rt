@@ -5,7 +5,7 @@ use std::alloc::{AllocError, Global};
 
 /// A part of what stands in place of a name: a word, or the parts of another name, which has this
 /// number and at least two of them.
-#[derive(Debug, Drop)]
+#[derive(Drop)]
 pub(crate) enum Child {
     Word(Word),
     Name(usize),

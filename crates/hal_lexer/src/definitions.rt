@@ -5,7 +5,7 @@ use std::alloc::{AllocError, Global};
 use std::marker::Model;
 
 /// The text that stands in place of a name.
-#[derive(Debug, Drop)]
+#[derive(Drop)]
 pub(crate) struct Definition<'a> {
     name: Name,
     text: Text<'a>,

@@ -5,7 +5,7 @@ use std::alloc::{AllocError, Global};
 use std::marker::Model;
 
 /// What is left of a text, and the children that stand for what was read of it.
-#[derive(Debug, Drop)]
+#[derive(Drop)]
 pub(crate) struct Part<'a> {
     pub(crate) rest: &'a [u8],
     pub(crate) children: Vec<Child>,

@@ -3,7 +3,7 @@ use hal_words::Word;
 use std::alloc::{AllocError, Global};
 
 /// What is known of the name that has a slot.
-#[derive(Clone, Copy, Debug, Drop)]
+#[derive(Clone, Copy, Drop)]
 struct Noted {
     /// Where the definitions have its text.
     index: usize,

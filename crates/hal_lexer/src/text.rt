@@ -24,7 +24,7 @@ const SOMEWHERE: Place = Place {
 };
 
 /// A word of a text, and the slot that its name has, if it is one.
-#[derive(Debug, Drop)]
+#[derive(Drop)]
 pub(crate) struct Part {
     pub(crate) word: Word,
     pub(crate) slot: usize,
@@ -32,7 +32,7 @@ pub(crate) struct Part {
 
 /// The text of a definition, cut into its words once; it has none where a rule is broken in it. A
 /// contract sees the text.
-#[derive(Debug, Drop)]
+#[derive(Drop)]
 pub(crate) struct Text<'a> {
     bytes: &'a [u8],
     parts: Option<Vec<Part>>,

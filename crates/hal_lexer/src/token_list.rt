@@ -5,7 +5,7 @@ use std::alloc::{AllocError, Global};
 use std::marker::Model;
 
 /// The words of a file in order, at most `TOKEN_LIMIT`, which a contract sees as a list.
-#[derive(Debug, Drop)]
+#[derive(Drop)]
 pub struct Tokens {
     items: Vec<Token>,
 }

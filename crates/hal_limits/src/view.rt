@@ -3,7 +3,7 @@
 use hal_words::Name;
 
 /// What a subscript chooses of copies, or of a dimension of an array (language document, Views).
-#[derive(Clone, Copy, Debug)]
+#[derive(Clone, Copy)]
 pub enum Choice {
     /// One place, whichever it may be.
     OnePlace,

@@ -1,7 +1,7 @@
 //! UPDATE blocks with their lock groups.
 
 /// An UPDATE block, and the lock groups that it uses.
-#[derive(Clone, Copy, Debug, PartialEq, Eq)]
+#[derive(Clone, Copy, PartialEq, Eq)]
 pub struct UpdateGroups {
     /// The number of its phrase.
     pub update: usize,

@@ -1,7 +1,7 @@
 //! Where LOCK may stand.
 
 /// Which LOCK a name that is declared may have.
-#[derive(Clone, Copy, Debug, PartialEq, Eq)]
+#[derive(Clone, Copy, PartialEq, Eq)]
 pub enum Lockable {
     /// A number: data of a COMPOOL, or directly in a PROGRAM.
     Number,

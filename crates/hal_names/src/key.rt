@@ -3,7 +3,7 @@
 use hal_words::Name;
 
 /// What a name is the name of.
-#[derive(Clone, Copy, Debug, PartialEq, Eq, Hash)]
+#[derive(Clone, Copy, PartialEq, Eq, Hash)]
 pub enum Space {
     /// The unit of a file, found from any file of the set.
     Unit,
@@ -16,7 +16,7 @@ pub enum Space {
 }
 
 /// A name among those that one phrase owns.
-#[derive(Clone, Copy, Debug, PartialEq, Eq, Hash)]
+#[derive(Clone, Copy, PartialEq, Eq, Hash)]
 pub struct Key {
     pub space: Space,
     /// The number of the phrase that owns the name: of the block, of the group, of the structure or part; 0 for a unit.

@@ -1,7 +1,7 @@
 //! What is wanted of operands.
 
 /// What is wanted of an operand.
-#[derive(Clone, Copy, Debug, PartialEq, Eq)]
+#[derive(Clone, Copy, PartialEq, Eq)]
 pub enum Want {
     Integer,
     Bits,

@@ -1,7 +1,7 @@
 //! The operations of expressions, in the order of their codes.
 
 /// An operation with one operand.
-#[derive(Clone, Copy, Debug, PartialEq, Eq)]
+#[derive(Clone, Copy, PartialEq, Eq)]
 pub enum Op1 {
     Minus,
     Abs,
@@ -16,7 +16,7 @@ pub enum Op1 {
 }
 
 /// An operation with two operands.
-#[derive(Clone, Copy, Debug, PartialEq, Eq)]
+#[derive(Clone, Copy, PartialEq, Eq)]
 pub enum Op2 {
     Plus,
     Minus,

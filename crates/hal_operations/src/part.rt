@@ -1,5 +1,5 @@
 /// The component of a bit string or a text that a subscript chooses. Places count from 1, the leftmost.
-#[derive(Clone, Copy, Debug, PartialEq, Eq)]
+#[derive(Clone, Copy, PartialEq, Eq)]
 pub enum Part {
     /// One place.
     One(i32),
@@ -10,7 +10,7 @@ pub enum Part {
 }
 
 /// The places of a part that lies in a value: so many before it, and so many through its end.
-#[derive(Clone, Copy, Debug)]
+#[derive(Clone, Copy)]
 pub(crate) struct Span {
     pub(crate) from: u8,
     pub(crate) to: u8,

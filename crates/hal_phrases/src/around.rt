@@ -4,7 +4,7 @@ ghost use Rattle.std.specs.Prelude.{◌≡◌};
 ghost use Rattle.hal_phrases.specs.Surroundings as surroundings;
 
 /// What stands around a phrase. Phrases are named by their numbers.
-#[derive(Clone, Copy, Debug)]
+#[derive(Clone, Copy)]
 pub struct Around {
     /// The phrase that this one is a part of.
     pub parent: usize,

@@ -7,7 +7,7 @@ ghost use Rattle.hal_tree.specs.SeenLeaves.{seen_conversion};
 use hal_tree::Conversion;
 
 /// What an expression or a reference is for, where it stands.
-#[derive(Clone, Copy, Debug, PartialEq, Eq)]
+#[derive(Clone, Copy, PartialEq, Eq)]
 pub enum Role {
     /// Beside OR.
     Disjunct,

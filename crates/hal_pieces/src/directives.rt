@@ -18,7 +18,7 @@ use hal_words::{Name, Reserved, Word};
 use std::alloc::AllocError;
 
 /// What a directive gives.
-#[derive(Clone, Copy, Debug)]
+#[derive(Clone, Copy)]
 pub enum Directive {
     /// Nothing.
     Other,

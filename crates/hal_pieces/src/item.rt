@@ -10,7 +10,7 @@ use hal_base::{Fault, Place, Refusal, Rule};
 use hal_words::{Reserved, Word};
 
 /// A piece and the place of its first byte.
-#[derive(Debug, Drop)]
+#[derive(Drop)]
 pub struct Item<'a> {
     pub piece: Piece<'a>,
     pub place: Place,

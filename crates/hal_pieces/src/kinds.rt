@@ -4,7 +4,7 @@ ghost use Rattle.hal_pieces.specs.Kinds.{kind_of};
 use crate::bytes::{capital, is_blank};
 
 /// What a line is, by its first byte.
-#[derive(Clone, Copy, Debug, PartialEq, Eq)]
+#[derive(Clone, Copy, PartialEq, Eq)]
 pub enum Kind {
     Comment,
     Directive,

@@ -19,7 +19,7 @@ use std::alloc::AllocError;
 
 /// What was read at the front of a line's rest: how many bytes, and where the comment began that goes
 /// on behind them.
-#[derive(Clone, Copy, Debug)]
+#[derive(Clone, Copy)]
 struct Step {
     size: usize,
     comment: Option<Place>,

@@ -11,7 +11,7 @@ use hal_base::Rule;
 use hal_words::{Literal, Word};
 
 /// What a line begins with.
-#[derive(Debug, Drop)]
+#[derive(Drop)]
 pub enum Piece<'a> {
     /// The longest word, if it is no text literal.
     Word(Word),

@@ -12,7 +12,7 @@ pub struct Unit {
 }
 
 /// A unit, and the processes that reach it.
-#[derive(Debug, Drop)]
+#[derive(Drop)]
 pub struct Reached {
     /// The number of its phrase.
     pub unit: usize,

@@ -8,7 +8,7 @@ ghost use Rattle.hal_scope.specs.Builtins.{builtin_named, builtins, form_of};
 use hal_words::Name;
 
 /// A built-in function.
-#[derive(Clone, Copy, Debug, PartialEq, Eq)]
+#[derive(Clone, Copy, PartialEq, Eq)]
 pub enum Builtin {
     Abs,
     Div,
@@ -35,7 +35,7 @@ pub enum Builtin {
 }
 
 /// How a built-in function is named.
-#[derive(Clone, Copy, Debug, PartialEq, Eq)]
+#[derive(Clone, Copy, PartialEq, Eq)]
 pub enum Form {
     /// With a list of arguments.
     Listed,

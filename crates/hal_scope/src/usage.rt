@@ -1,7 +1,7 @@
 //! What a name is used for.
 
 /// What a name is used for.
-#[derive(Clone, Copy, Debug, PartialEq, Eq)]
+#[derive(Clone, Copy, PartialEq, Eq)]
 pub enum Usage {
     /// As an operand.
     Value,

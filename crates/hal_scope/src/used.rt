@@ -5,7 +5,7 @@ use hal_base::Place;
 use hal_words::Name;
 
 /// A name that is used, where, and what for.
-#[derive(Clone, Copy, Debug)]
+#[derive(Clone, Copy)]
 pub struct Use {
     pub place: Place,
     pub name: Name,

@@ -7,7 +7,7 @@ use hal_values::Listing;
 use std::alloc::{AllocError, Global};
 
 /// What the text of an INPUT line gives.
-#[derive(Debug, Drop)]
+#[derive(Drop)]
 pub enum Given {
     /// These data, in order.
     Data(Listing<Datum>),

@@ -8,7 +8,7 @@ use hal_values::Listing;
 use std::alloc::{AllocError, Global};
 
 /// What the text of an INPUT line begins with.
-#[derive(Debug, Drop)]
+#[derive(Drop)]
 pub enum Piece {
     /// A blank or a comma.
     Gap,

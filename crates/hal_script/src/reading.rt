@@ -13,7 +13,7 @@ use hal_values::Listing;
 use std::alloc::{AllocError, Global};
 
 /// How far a script has come before a line.
-#[derive(Clone, Copy, Debug)]
+#[derive(Clone, Copy)]
 pub struct SoFar {
     /// How many lines stand before.
     pub line_count: u32,
@@ -26,7 +26,7 @@ pub struct SoFar {
 }
 
 /// What a line's first word says that it is.
-#[derive(Clone, Copy, Debug)]
+#[derive(Clone, Copy)]
 pub enum Keyword {
     Runs,
     Ticks,
@@ -35,7 +35,7 @@ pub enum Keyword {
 }
 
 /// What a line is.
-#[derive(Debug, Drop)]
+#[derive(Drop)]
 pub enum Reading {
     /// It asks for this, or for nothing where it is blank.
     Good(Option<ScriptLine>),

@@ -1,7 +1,7 @@
 //! What a subscript of copies or of an array chooses.
 
 /// What one subscript chooses among the copies or the places of a dimension.
-#[derive(Clone, Copy, Debug, PartialEq, Eq)]
+#[derive(Clone, Copy, PartialEq, Eq)]
 pub enum Reach {
     /// One place.
     One,

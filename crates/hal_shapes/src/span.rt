@@ -1,7 +1,7 @@
 //! What is chosen of a dimension.
 
 /// What is chosen of a dimension.
-#[derive(Clone, Copy, Debug, PartialEq, Eq)]
+#[derive(Clone, Copy, PartialEq, Eq)]
 pub struct Span {
     /// The size of the dimension.
     pub size: u16,

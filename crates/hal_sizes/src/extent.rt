@@ -1,7 +1,7 @@
 //! The dimensions of an array.
 
 /// The sizes of up to three dimensions; 0 where there is no such dimension.
-#[derive(Clone, Copy, Debug, PartialEq, Eq)]
+#[derive(Clone, Copy, PartialEq, Eq)]
 pub struct Extent {
     pub first: u16,
     pub second: u16,

@@ -4,7 +4,7 @@ use hal_values::Kind;
 
 /// What the attributes of a name mean; sizes, values behind CONSTANT and the name of a structure template stand beside it. A kind or a group that no constant
 /// tells is None.
-#[derive(Clone, Copy, Debug)]
+#[derive(Clone, Copy)]
 pub struct Traits {
     /// Whether there is a type.
     pub typed: bool,

@@ -9,7 +9,7 @@ use std::alloc::Global;
 pub const IMAGE_LIMIT: u64 = 67_108_864;
 
 /// Why a file's bytes aren't there.
-#[derive(Clone, Copy, Debug, PartialEq, Eq)]
+#[derive(Clone, Copy, PartialEq, Eq)]
 pub enum NoFile {
     Absent,
     TooLong,

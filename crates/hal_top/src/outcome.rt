@@ -3,7 +3,7 @@ use hal_base::Refusal;
 use hal_script::ScriptFault;
 
 /// What a call of `hal` came to.
-#[derive(Debug, Drop)]
+#[derive(Drop)]
 pub struct Outcome {
     /// 0, or why there is no report (docs/EXECUTIVE.md lists the statuses).
     pub status: u8,

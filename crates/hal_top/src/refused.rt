@@ -2,7 +2,7 @@ use hal_base::Refusal;
 use hal_script::ScriptFault;
 
 /// Why nothing is done.
-#[derive(Clone, Copy, Debug, PartialEq, Eq)]
+#[derive(Clone, Copy, PartialEq, Eq)]
 pub enum Refused {
     /// The words have no form.
     Usage,

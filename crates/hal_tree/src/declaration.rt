@@ -6,7 +6,7 @@ use hal_base::Place;
 use hal_words::Name;
 
 /// An attribute of one word: SINGLE, DOUBLE, LATCHED, STATIC, AUTOMATIC, DENSE, ALIGNED.
-#[derive(Clone, Copy, Debug, PartialEq, Eq)]
+#[derive(Clone, Copy, PartialEq, Eq)]
 pub enum Mark {
     Single,
     Double,

@@ -4,21 +4,21 @@ use hal_base::Place;
 use hal_words::{Literal, Name};
 
 /// A name where it stands.
-#[derive(Clone, Copy, Debug, PartialEq, Eq)]
+#[derive(Clone, Copy, PartialEq, Eq)]
 pub struct Identifier {
     pub place: Place,
     pub name: Name,
 }
 
 /// The sign of a term.
-#[derive(Clone, Copy, Debug, PartialEq, Eq)]
+#[derive(Clone, Copy, PartialEq, Eq)]
 pub enum Sign {
     Plus,
     Minus,
 }
 
 /// How two values are compared; the last three are `NOT =`, `NOT <`, `NOT >`.
-#[derive(Clone, Copy, Debug, PartialEq, Eq)]
+#[derive(Clone, Copy, PartialEq, Eq)]
 pub enum Relation {
     Equal,
     Less,
@@ -31,7 +31,7 @@ pub enum Relation {
 }
 
 /// What a conversion makes: `INTEGER(x)`, `BIT(x)`, `CHARACTER(x)`.
-#[derive(Clone, Copy, Debug, PartialEq, Eq)]
+#[derive(Clone, Copy, PartialEq, Eq)]
 pub enum Conversion {
     Integer,
     Bit,
@@ -39,7 +39,7 @@ pub enum Conversion {
 }
 
 /// A literal.
-#[derive(Clone, Copy, Debug, PartialEq, Eq)]
+#[derive(Clone, Copy, PartialEq, Eq)]
 pub enum LiteralValue {
     /// 0 to 2147483647.
     Integer(u32),

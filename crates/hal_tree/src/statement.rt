@@ -55,7 +55,7 @@ impl Drop for Span {
 }
 
 /// The errors that are meant. `place` is that of `$`, the others are those of the numbers.
-#[derive(Clone, Copy, Debug, PartialEq, Eq)]
+#[derive(Clone, Copy, PartialEq, Eq)]
 pub enum Selector {
     /// Nothing after ERROR.
     Every,
@@ -76,7 +76,7 @@ pub enum Selector {
 }
 
 /// What happens to an event: SIGNAL, SET, RESET.
-#[derive(Clone, Copy, Debug, PartialEq, Eq)]
+#[derive(Clone, Copy, PartialEq, Eq)]
 pub enum EventAction {
     Signal,
     Set,
@@ -84,7 +84,7 @@ pub enum EventAction {
 }
 
 /// An event and what happens to it: `SET E`.
-#[derive(Clone, Copy, Debug, PartialEq, Eq)]
+#[derive(Clone, Copy, PartialEq, Eq)]
 pub struct EventChange {
     pub place: Place,
     pub action: EventAction,
@@ -92,7 +92,7 @@ pub struct EventChange {
 }
 
 /// What answers an error: SYSTEM or IGNORE.
-#[derive(Clone, Copy, Debug, PartialEq, Eq)]
+#[derive(Clone, Copy, PartialEq, Eq)]
 pub enum Response {
     System,
     Ignore,

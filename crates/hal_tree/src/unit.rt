@@ -6,14 +6,14 @@ use crate::statement::Statement;
 use hal_base::Place;
 
 /// How a block is shared: REENTRANT or EXCLUSIVE.
-#[derive(Clone, Copy, Debug, PartialEq, Eq)]
+#[derive(Clone, Copy, PartialEq, Eq)]
 pub enum Mode {
     Reentrant { place: Place },
     Exclusive { place: Place },
 }
 
 /// The precision of a FUNCTION's result: SINGLE or DOUBLE.
-#[derive(Clone, Copy, Debug, PartialEq, Eq)]
+#[derive(Clone, Copy, PartialEq, Eq)]
 pub enum Precision {
     Single { place: Place },
     Double { place: Place },

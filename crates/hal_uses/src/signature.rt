@@ -7,7 +7,7 @@ use hal_operands::Want;
 use hal_scope::Builtin;
 
 /// What a built-in function with a list takes: one argument, or two.
-#[derive(Clone, Copy, Debug)]
+#[derive(Clone, Copy)]
 pub struct Signature {
     pub first: Want,
     pub second: Option<Want>,

@@ -2,7 +2,7 @@ use crate::environment::ErrNo;
 use crate::value::Value;
 
 /// What the executive answers.
-#[derive(Debug, Drop, PartialEq, Eq)]
+#[derive(Drop, PartialEq, Eq)]
 pub enum Answer {
     /// To Begin.
     Begun,

@@ -2,7 +2,7 @@ use arrayvec::ArrayVec;
 use std::marker::Model;
 
 /// The items of a WRITE, a blank before each: at most 1,000 bytes. A contract sees the list of bytes.
-#[derive(Debug, Drop)]
+#[derive(Drop)]
 pub struct Line {
     bytes: ArrayVec<u8, 1000>,
 }

@@ -2,7 +2,7 @@
 //! expression is given by its number.
 
 /// When a process starts.
-#[derive(Clone, Copy, Debug, PartialEq, Eq)]
+#[derive(Clone, Copy, PartialEq, Eq)]
 pub enum When {
     Now,
     /// At this time of the clock.
@@ -14,7 +14,7 @@ pub enum When {
 }
 
 /// How a process goes on after a cycle.
-#[derive(Clone, Copy, Debug, PartialEq, Eq)]
+#[derive(Clone, Copy, PartialEq, Eq)]
 pub enum Cycle {
     Once,
     /// The next cycle begins at once.
@@ -26,7 +26,7 @@ pub enum Cycle {
 }
 
 /// What cancels a process.
-#[derive(Clone, Copy, Debug, PartialEq, Eq)]
+#[derive(Clone, Copy, PartialEq, Eq)]
 pub enum Guard {
     Free,
     /// The event expression is FALSE.
@@ -38,7 +38,7 @@ pub enum Guard {
 }
 
 /// What a SCHEDULE asks for.
-#[derive(Clone, Copy, Debug, PartialEq, Eq)]
+#[derive(Clone, Copy, PartialEq, Eq)]
 pub struct Plan {
     pub process: u8,
     pub when: When,
@@ -49,7 +49,7 @@ pub struct Plan {
 }
 
 /// What a WAIT waits for.
-#[derive(Clone, Copy, Debug, PartialEq, Eq)]
+#[derive(Clone, Copy, PartialEq, Eq)]
 pub enum Pause {
     /// So long from now on.
     For(i64),

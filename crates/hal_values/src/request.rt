@@ -4,7 +4,7 @@ use crate::plan::{Pause, Plan};
 use crate::value::{Kind, Value};
 
 /// What is read outside UPDATE blocks.
-#[derive(Clone, Copy, Debug, PartialEq, Eq)]
+#[derive(Clone, Copy, PartialEq, Eq)]
 pub enum Spot {
     /// A shared cell.
     Cell(u16),
@@ -13,7 +13,7 @@ pub enum Spot {
 }
 
 /// What a process asks of the executive.
-#[derive(Debug, Drop, PartialEq, Eq)]
+#[derive(Drop, PartialEq, Eq)]
 pub enum Request {
     /// A cycle begins.
     Begin,

@@ -8,7 +8,7 @@ use crate::load::Load;
 
 /// The smallest load: its one process asks Begin, Pass and Finish, and then begins again. It shows
 /// that what is said of every load can be met.
-#[derive(Clone, Copy, Debug)]
+#[derive(Clone, Copy)]
 pub struct SmallestLoad;
 
 impl Load for SmallestLoad {

@@ -3,7 +3,7 @@ use crate::text::Text;
 use crate::value::{Kind, Value};
 
 /// A shared cell.
-#[derive(Debug, Drop, PartialEq, Eq)]
+#[derive(Drop, PartialEq, Eq)]
 pub struct Cell {
     pub kind: Kind,
     /// The lock group, 0 for data without LOCK.
@@ -12,7 +12,7 @@ pub struct Cell {
 }
 
 /// How a declared event begins.
-#[derive(Clone, Copy, Debug, PartialEq, Eq)]
+#[derive(Clone, Copy, PartialEq, Eq)]
 pub enum EventStart {
     /// It is FALSE but while it is signalled.
     Unlatched,
@@ -21,7 +21,7 @@ pub enum EventStart {
 }
 
 /// An item of an event expression, which is written with its operands first.
-#[derive(Clone, Copy, Debug, PartialEq, Eq)]
+#[derive(Clone, Copy, PartialEq, Eq)]
 pub enum Item {
     /// The value of the event.
     Event(u16),
@@ -31,7 +31,7 @@ pub enum Item {
 }
 
 /// Where the elements of a report's name lie.
-#[derive(Clone, Copy, Debug, PartialEq, Eq)]
+#[derive(Clone, Copy, PartialEq, Eq)]
 pub enum ReportBase {
     /// Among the shared cells.
     Shared,
@@ -42,7 +42,7 @@ pub enum ReportBase {
 }
 
 /// A variable or a latched event that the report shows.
-#[derive(Debug, Drop)]
+#[derive(Drop)]
 pub struct ReportName {
     pub name: Listing<u8>,
     pub base: ReportBase,
@@ -58,7 +58,7 @@ pub struct ReportName {
 
 /// What the executive knows of a load. Event p is the name of process p, and the declared events
 /// follow.
-#[derive(Debug, Drop)]
+#[derive(Drop)]
 pub struct Tables {
     pub cells: Listing<Cell>,
     /// The processes' names.

@@ -2,7 +2,7 @@ use arrayvec::ArrayVec;
 use std::marker::Model;
 
 /// A text of at most 255 bytes. A contract sees the list of its bytes.
-#[derive(Debug, Drop)]
+#[derive(Drop)]
 pub struct Text {
     bytes: ArrayVec<u8, 255>,
 }

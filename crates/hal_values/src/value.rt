@@ -1,7 +1,7 @@
 use crate::text::Text;
 
 /// The kind of a cell.
-#[derive(Clone, Copy, Debug, PartialEq, Eq)]
+#[derive(Clone, Copy, PartialEq, Eq)]
 pub enum Kind {
     /// An integer of 16 bits.
     Single,
@@ -14,7 +14,7 @@ pub enum Kind {
 }
 
 /// What an expression comes to, and what a cell holds.
-#[derive(Debug, Drop, PartialEq, Eq)]
+#[derive(Drop, PartialEq, Eq)]
 pub enum Value {
     Int(i32),
     /// The last `len` bits of the word, whose other bits are zeros.

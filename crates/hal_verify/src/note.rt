@@ -1,5 +1,5 @@
 /// What is noted of an instruction before the jumps of its block are looked at.
-#[derive(Clone, Copy, Debug, PartialEq, Eq)]
+#[derive(Clone, Copy, PartialEq, Eq)]
 pub(crate) struct Note {
     /// Whether its own operands are right and the stack before it fits.
     pub fits: bool,

@@ -1,7 +1,7 @@
 use hal_values::Kind;
 
 /// What stands at a place of memory.
-#[derive(Clone, Copy, Debug, PartialEq, Eq)]
+#[derive(Clone, Copy, PartialEq, Eq)]
 pub(crate) enum Room {
     /// Values of this kind.
     Of(Kind),

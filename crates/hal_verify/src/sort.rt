@@ -1,7 +1,7 @@
 use hal_values::Kind;
 
 /// What an operand is.
-#[derive(Clone, Copy, Debug, PartialEq, Eq)]
+#[derive(Clone, Copy, PartialEq, Eq)]
 pub(crate) enum Sort {
     Integer,
     Bits,

@@ -4,7 +4,7 @@ use std::marker::Model;
 
 /// A text literal on the heap, which a contract sees as the list of its bytes. So a word is small: a file has words by the
 /// ten thousand, and few of them are texts.
-#[derive(Debug, Drop)]
+#[derive(Drop)]
 pub struct BoxedLiteral {
     inner: Box<Literal>,
 }

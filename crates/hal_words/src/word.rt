@@ -28,7 +28,7 @@ pub enum Symbol {
 }
 
 /// A word of the source.
-#[derive(Debug, Drop)]
+#[derive(Drop)]
 pub enum Word {
     Reserved(Reserved),
     Name(Name),
@@ -65,7 +65,7 @@ impl Word {
 }
 
 /// A word and the place of its first byte; of a word that stands in place of a name, the name's place.
-#[derive(Debug, Drop)]
+#[derive(Drop)]
 pub struct Token {
     pub word: Word,
     pub place: Place,

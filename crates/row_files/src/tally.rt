@@ -3,7 +3,7 @@
 use std::io;
 
 /// The rows of a file so far.
-#[derive(Clone, Copy, Debug)]
+#[derive(Clone, Copy)]
 pub struct Tally {
     rows: u64,
     kept: u64,

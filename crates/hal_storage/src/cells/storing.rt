@@ -1,7 +1,7 @@
 //! How a declaration is stored.
 
 /// How a declaration is stored (language document, Places).
-#[derive(Clone, Copy, Debug, PartialEq, Eq)]
+#[derive(Clone, Copy, PartialEq, Eq)]
 pub enum Storing {
     /// In shared cells of this lock group, 0 for data without LOCK.
     InCells(u8),

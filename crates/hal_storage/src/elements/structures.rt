@@ -23,7 +23,7 @@ use hal_words::Name;
 use std::alloc::{AllocError, Global};
 
 /// A part that has parts of its own.
-#[derive(Clone, Copy, Debug)]
+#[derive(Clone, Copy)]
 pub struct Above {
     pub level: u32,
     pub name: Name,

@@ -9,7 +9,7 @@ use std::alloc::{AllocError, Global};
 const MOST: usize = 150;
 
 /// What a row repeats, and what stands around it.
-#[derive(Clone, Copy, Debug)]
+#[derive(Clone, Copy)]
 struct Nest<'a> {
     before: &'a str,
     opening: &'a str,

@@ -11,7 +11,7 @@ pub(crate) const UNIT: u32 = 7;
 
 /// A text that grows part by part. Where memory is wanting, the pen notes it and writes on, and there is no text in the end: so what writes a
 /// tree has nothing to ask after each part.
-#[derive(Debug, Drop)]
+#[derive(Drop)]
 pub(crate) struct Pen {
     alloc: Global,
     text: String,

@@ -12,7 +12,7 @@ use hal_tree::{Basic, Element, Expr, File, Statement};
 use std::alloc::{AllocError, Global};
 
 /// Which file a row's source makes, and how much of the file's tree the row holds.
-#[derive(Clone, Copy, Debug)]
+#[derive(Clone, Copy)]
 pub(crate) enum Source {
     /// It is the file.
     File,

@@ -7,7 +7,7 @@ use hal_operations::{Op2, apply2};
 use hal_values::{ErrNo, Text, Value};
 
 /// What rounds do.
-#[derive(Clone, Copy, Debug)]
+#[derive(Clone, Copy)]
 pub(crate) enum Kind {
     /// They add 7 to -6 and to 7 in turn.
     Sum,

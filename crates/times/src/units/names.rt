@@ -3,7 +3,7 @@
 use std::alloc::{AllocError, Global};
 
 /// What the names of a unit are.
-#[derive(Clone, Copy, Debug)]
+#[derive(Clone, Copy)]
 pub(crate) enum Naming {
     /// Data of one block, each named once more.
     Declarations,

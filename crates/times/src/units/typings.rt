@@ -3,7 +3,7 @@
 use std::alloc::{AllocError, Global};
 
 /// What a unit is full of.
-#[derive(Clone, Copy, Debug)]
+#[derive(Clone, Copy)]
 pub(crate) enum Typing {
     /// One sum of many terms.
     Terms,

@@ -3,7 +3,7 @@
 use std::alloc::{AllocError, Global};
 
 /// What a text is full of.
-#[derive(Clone, Copy, Debug)]
+#[derive(Clone, Copy)]
 pub(crate) enum Kind {
     /// Assignments with comments behind them.
     Ordinary,
