@@ -17,7 +17,7 @@ use Rattle.hal_kinds.specs.declared.class.Class.{Class}
 use Rattle.hal_kinds.specs.declared.class.Class.TheVariants as class
 use Rattle.hal_kinds.specs.declared.data.Data.{Data}
 use Rattle.hal_kinds.specs.Data.{class_of_type, data_at}
-use Rattle.hal_kinds.specs.Subscripts.{chosen, class_in}
+use Rattle.hal_kinds.specs.Subscripts.{chosen, class_left}
 
 -- a result of this type; a function gives no event and no structure
 unfoldable pub class_of_result : Kind → Option Class
@@ -48,7 +48,7 @@ class_of_builtin (Some b) = class_of_form (form_of b)
 
 -- a reference to data that a phrase declares
 abbrev pub class_of_data : List Phrase → Phrase → List Naming → Subscript → Node → Option Class
-class_of_data ps p path subscript node = option_and_then (λ (d : Data). Some (class_in d (chosen d subscript))) (data_at ps p path node)
+class_of_data ps p path subscript node = option_and_then (λ (d : Data). class_left d (chosen d subscript)) (data_at ps p path node)
 
 -- a reference to what a phrase declares
 unfoldable pub class_at : List Phrase → Phrase → List Naming → Subscript → Node → Option Class

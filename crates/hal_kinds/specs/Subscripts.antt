@@ -1,5 +1,5 @@
 -- What a subscript chooses of data.
-use Rattle.std.specs.Prelude.{ℕ, zero, suc, ◌==◌, nat_lt, Bool, true, false, ◌||◌, ◌&&◌, not, if◌then◌else◌}
+use Rattle.std.specs.Prelude.{ℕ, zero, suc, ◌==◌, nat_lt, Bool, true, false, ◌||◌, ◌&&◌, not, Option, Some, None, if◌then◌else◌}
 use Rattle.hal_grammar.specs.Expressions.{Subscript, Unsubscripted, ByName, ByInteger, ByParts, Subscripts, NoSubscripts, MoreSubscripts, Sub, Every, One, Range, Portion}
 use Rattle.hal_kinds.specs.declared.class.Class.{Class}
 use Rattle.hal_kinds.specs.declared.class.Class.TheVariants as class
@@ -70,6 +70,18 @@ has_copies_left d c = d.copies && are_left c.copies c.many_copies
 abbrev pub has_places_left : Data → Choice → Bool
 has_places_left d c = is_arrayed d && are_left c.places c.many_places
 
+-- whether copies are chosen where there are none, or by several subscripts
+abbrev pub miscopied : Data → Choice → Bool
+miscopied d c = nat_lt 0 c.copies && (not d.copies || nat_lt 1 c.copies)
+
+-- whether array places are chosen by another number of subscripts than there are dimensions
+abbrev pub misplaced : Data → Choice → Bool
+misplaced d c = nat_lt 0 c.places && not (c.places == d.dimensions)
+
+-- whether copies or array places are chosen by a wrong number of subscripts
+abbrev pub is_miscounted : Data → Choice → Bool
+is_miscounted d c = miscopied d c || misplaced d c
+
 -- whether a class is that of structures
 unfoldable pub is_structure_class : Class → Bool
 is_structure_class class.Structure = true
@@ -78,3 +90,7 @@ is_structure_class other = false
 -- the class of what is chosen
 abbrev pub class_in : Data → Choice → Class
 class_in d c = if is_structure_class d.class then class.Structure else if has_copies_left d c || has_places_left d c then class.Array else d.class
+
+-- the class of what a reference chooses; a wrong number of subscripts chooses nothing that has a class
+abbrev pub class_left : Data → Choice → Option Class
+class_left d c = if is_miscounted d c then None else Some (class_in d c)

@@ -119,6 +119,27 @@ pub fn has_places_left(whole: Data, choice: Choice) -> bool
     0 < whole.dimensions && (choice.places == 0 || choice.many_places)
 }
 
+/// Whether copies are chosen where there are none, or by several subscripts.
+fn miscopied(whole: Data, choice: Choice) -> bool
+    ensures { result ≡ chosen.miscopied whole choice }
+{
+    0 < choice.copies && (!whole.copies || 1 < choice.copies)
+}
+
+/// Whether array places are chosen by another number of subscripts than there are dimensions.
+fn misplaced(whole: Data, choice: Choice) -> bool
+    ensures { result ≡ chosen.misplaced whole choice }
+{
+    0 < choice.places && !(choice.places == whole.dimensions)
+}
+
+/// Whether copies or array places are chosen by a wrong number of subscripts.
+pub fn is_miscounted(whole: Data, choice: Choice) -> bool
+    ensures { result ≡ chosen.is_miscounted whole choice }
+{
+    miscopied(whole, choice) || misplaced(whole, choice)
+}
+
 /// The class of what is chosen.
 #[tactic(auto, unfolding(crate::specs::Subscripts::is_structure_class))]
 pub fn class_in(whole: Data, choice: Choice) -> Class
@@ -133,5 +154,16 @@ pub fn class_in(whole: Data, choice: Choice) -> Class
                 class
             }
         }
+    }
+}
+
+/// The class of what a reference chooses; a wrong number of subscripts chooses nothing that has a class.
+pub(crate) fn class_left(whole: Data, choice: Choice) -> Option<Class>
+    ensures { result ≡ chosen.class_left whole choice }
+{
+    if is_miscounted(whole, choice) {
+        None
+    } else {
+        Some(class_in(whole, choice))
     }
 }

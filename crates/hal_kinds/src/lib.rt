@@ -16,7 +16,7 @@ pub use attributes::{
     sizes_of,
 };
 pub use choice::Choice;
-pub use choosing::{chosen, class_in, has_copies_left, has_places_left};
+pub use choosing::{chosen, class_in, has_copies_left, has_places_left, is_miscounted};
 pub use class::Class;
 pub use classes::{beside, class_of, class_of_literal, joined};
 pub use data::Data;

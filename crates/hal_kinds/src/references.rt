@@ -9,7 +9,7 @@ ghost use Rattle.hal_phrases.specs.SeenPhrases.{seen_phrase};
 ghost use Rattle.hal_names.specs.SeenNames.{seen_names};
 ghost use Rattle.hal_kinds.specs.Classes as classes;
 
-use crate::choosing::{chosen, class_in};
+use crate::choosing::{chosen, class_left};
 use crate::class::Class;
 use crate::named::{class_of_type, data_at};
 use hal_names::Names;
@@ -79,7 +79,7 @@ fn class_of_data(
     ensures { result ≡ classes.class_of_data (seen_names names.now) (seen_phrase phrase.now) (map seen_name path.now) (seen_subscript subscript.now) (seen_phrase phrase.now).node }
 {
     let found = data_at(names, phrase, path)?;
-    Some(class_in(found, chosen(found, subscript)))
+    class_left(found, chosen(found, subscript))
 }
 
 /// A reference to what a phrase declares.

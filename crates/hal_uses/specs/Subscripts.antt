@@ -16,7 +16,7 @@ use Rattle.hal_kinds.specs.declared.choice.Choice.{Choice}
 use Rattle.hal_kinds.specs.declared.data.Data.{Data}
 use Rattle.hal_kinds.specs.Classes.{class_of_head}
 use Rattle.hal_kinds.specs.Data.{data_at, data_with, is_event_type}
-use Rattle.hal_kinds.specs.Subscripts.{chosen}
+use Rattle.hal_kinds.specs.Subscripts.{chosen, is_miscounted}
 
 -- whether a class has components that subscripts choose
 unfoldable pub is_string : Class → Bool
@@ -24,21 +24,13 @@ is_string class.Bits = true
 is_string class.Text = true
 is_string other = false
 
--- whether copies are chosen where there are none, or by several subscripts
-abbrev pub miscopied : Data → Choice → Bool
-miscopied d c = nat_lt 0 c.copies && (not d.copies || nat_lt 1 c.copies)
-
--- whether array places are chosen by another number of subscripts than there are dimensions
-abbrev pub misplaced : Data → Choice → Bool
-misplaced d c = nat_lt 0 c.places && not (c.places == d.dimensions)
-
 -- the rule that subscripts of a component break, of data that have components or not
 abbrev pub component_fault : Bool → Choice → Option ℕ
 component_fault has c = if has then (if nat_lt 1 c.components then Some 707 else None) else if nat_lt 0 c.components then Some 721 else None
 
 -- the rule that subscripts break of data, which may be an event
 abbrev pub choice_fault : Bool → Data → Choice → Option ℕ
-choice_fault eventful d c = if miscopied d c || misplaced d c then Some 707 else component_fault (is_string d.class && not eventful) c
+choice_fault eventful d c = if is_miscounted d c then Some 707 else component_fault (is_string d.class && not eventful) c
 
 -- a single value of this class
 abbrev pub single : Class → Data

@@ -9,7 +9,9 @@ ghost use Rattle.hal_names.specs.SeenNames.{seen_names};
 ghost use Rattle.hal_uses.specs.Subscripts as subscripts;
 
 use hal_base::Place;
-use hal_kinds::{Choice, Class, Data, chosen, class_of_head, data_at, is_event_type};
+use hal_kinds::{
+    Choice, Class, Data, chosen, class_of_head, data_at, is_event_type, is_miscounted,
+};
 use hal_names::Names;
 use hal_phrases::{Node, Phrase};
 use hal_scope::{builtin_named, type_of};
@@ -25,20 +27,6 @@ fn is_string(class: Class) -> bool
         Class::Bits | Class::Text => true,
         _ => false,
     }
-}
-
-/// Whether copies are chosen where there are none, or by several subscripts.
-fn miscopied(found: Data, choice: Choice) -> bool
-    ensures { result ≡ subscripts.miscopied found choice }
-{
-    0 < choice.copies && (!found.copies || 1 < choice.copies)
-}
-
-/// Whether array places are chosen by another number of subscripts than there are dimensions.
-fn misplaced(found: Data, choice: Choice) -> bool
-    ensures { result ≡ subscripts.misplaced found choice }
-{
-    0 < choice.places && !(choice.places == found.dimensions)
 }
 
 /// The rule that subscripts of a component break, of data that have components or not.
@@ -62,7 +50,7 @@ fn component_fault(has: bool, choice: Choice) -> Option<u16>
 fn choice_fault(eventful: bool, found: Data, choice: Choice) -> Option<u16>
     ensures { result ≡ subscripts.choice_fault eventful found choice }
 {
-    if miscopied(found, choice) || misplaced(found, choice) {
+    if is_miscounted(found, choice) {
         return Some(707);
     }
     component_fault(is_string(found.class) && !eventful, choice)
