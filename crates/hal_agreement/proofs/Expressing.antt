@@ -37,7 +37,7 @@ use Rattle.hal_meaning.specs.Access.{Here, ask, read}
 use Rattle.hal_meaning.specs.Calls.{Parameter, parameter_named, Passed, Plain, Whole, call}
 use Rattle.hal_meaning.specs.Bodies.{meant}
 use Rattle.hal_meaning.specs.Variables.{Meant, MeantData, MeantConstant, MeantEvent, MeantBlock, MeantBuiltin, MeantNothing, meant_by, declaration_meant, builtin_meant, name_meant, spot_meant, spot_named, kind_of_first, Index, Single, Several, Dimension, dimensions_of, is_arrayed, is_whole}
-use Rattle.hal_meaning.specs.Expressions.{literal_value, is_condition, are_conditions, becomes_condition, as_condition, as_operand, apply_one, apply_two, signed, exponent_of, operation_of_relation, operation_of_sign, operation_of_conversion, event_value, alone_value, plain_value, built, is_size, size_value, size_argument, inputs_at, call_form, subscripted, meant_chosen, expression, joined, folded, summed, values, argument, passed, chosen_by, referred, chosen_data, data_chosen, component, Located, located, named_value, sizes_named, copies_of, spoken, array_indexes, indexes, index, position, part_of, parts_of, part_chosen}
+use Rattle.hal_meaning.specs.Expressions.{literal_value, is_condition, becomes_condition, makes_condition, as_condition, as_operand, apply_one, apply_two, signed, exponent_of, operation_of_relation, operation_of_sign, operation_of_conversion, event_value, alone_value, plain_value, built, is_size, size_value, size_argument, inputs_at, call_form, subscripted, meant_chosen, expression, joined, folded, summed, values, argument, passed, chosen_by, referred, chosen_data, data_chosen, component, Located, located, named_value, sizes_named, copies_of, spoken, array_indexes, indexes, index, position, part_of, parts_of, part_chosen}
 use Rattle.hal_meaning.specs.Tasks.{Meaning}
 use Rattle.hal_code.specs.declared.choice.Choice.TheVariants as choice
 use Rattle.hal_code.specs.declared.instr.Instr.{Instr}
@@ -181,15 +181,6 @@ module _ (code : Code) (begin : ℕ) (rec : Meaning) (sound : Sound code begin r
       acts (setting code begin h) n _ (core_at from (Val v ∷ stack) line n st) st.left (instr.Bits 1 0) _ here.0
       (subst (λ r. ValuesAt to stack line (From (suc from) (Val (value.Bits 1 0) ∷ Val v ∷ stack) line st) st.left r) (zero_compared h v st) (two_reaches op2.NotEqual (suc from) to v (value.Bits 1 0) stack line st here.1))
   operand_reaches false from to v stack line st same = subst (λ end. ValuesAt end stack line (From from (Val v ∷ stack) line st) st.left (Gives v st)) same (gives from stack line v st)
-
-  -- the first operand of AND or OR, and those behind it
-  joining_reaches : (op : Op2) (condition : Bool) (first : Expression) (list : Expressions) (from middle to : ℕ) (v : Value) (stack : List Operand) (line : List ℕ) (st : State)
-      → OperandAt code (becomes_condition condition first) from middle
-      → ((w : Value) (after : State) → ValuesAt to stack line (From middle (Val w ∷ stack) line after) after.left (joined rec h op condition w list after))
-      → ValuesAt to stack line (From from (Val v ∷ stack) line st) st.left (joined rec h op condition (as_operand (becomes_condition condition first) v) list st)
-  joining_reaches op condition first list from middle to v stack line st at others =
-      then_reaches middle to stack stack line _ st.left (Gives (as_operand (becomes_condition condition first) v) st) (λ w after. joined rec h op condition w list after)
-      (operand_reaches (becomes_condition condition first) from middle v stack line st at) others
 
   -- the value of data
   data_reaches : (k : Kind) (spot : Spot) (from to : ℕ) (stack : List Operand) (line : List ℕ) (st : State) → AddressAt code st.kept.places k spot from → One code (suc from) instr.Fetch to
@@ -548,13 +539,11 @@ module _ (code : Code) (begin : ℕ) (rec : Meaning) (sound : Sound code begin r
     pub expression_reaches : (e : Expression) (from to : ℕ) (stack : List Operand) (line : List ℕ) (st : State) → ExpressionAt code (site_of h) e from to
         → ValuesAt to stack line (From from stack line st) st.left (expression rec h e st)
     expression_reaches (Or place first others) from to stack line st here =
-        then_reaches here.0 to stack stack line _ _ _ _ (expression_reaches first from here.0 stack line st here.2)
-        (λ v after. joining_reaches op2.Or (is_condition first || are_conditions others) first others here.0 here.1 to v stack line after here.3
-        (λ w later. joined_reaches op2.Or (is_condition first || are_conditions others) others here.1 to w stack line later here.4))
+        then_reaches here.0 to stack stack line _ _ _ _ (expression_reaches first from here.0 stack line st here.1)
+        (λ v after. joined_reaches op2.Or (is_condition first) others here.0 to v stack line after here.2)
     expression_reaches (And place first others) from to stack line st here =
-        then_reaches here.0 to stack stack line _ _ _ _ (expression_reaches first from here.0 stack line st here.2)
-        (λ v after. joining_reaches op2.And (is_condition first || are_conditions others) first others here.0 here.1 to v stack line after here.3
-        (λ w later. joined_reaches op2.And (is_condition first || are_conditions others) others here.1 to w stack line later here.4))
+        then_reaches here.0 to stack stack line _ _ _ _ (expression_reaches first from here.0 stack line st here.1)
+        (λ v after. joined_reaches op2.And (is_condition first) others here.0 to v stack line after here.2)
     expression_reaches (Compare place left relation right) from to stack line st here =
         then_reaches here.0 to stack stack line _ _ _ _ (expression_reaches left from here.0 stack line st here.2)
         (λ v after. then_reaches here.1 to (Val v ∷ stack) stack line _ _ _ _ (expression_reaches right here.0 here.1 (Val v ∷ stack) line after here.3)
@@ -593,11 +582,15 @@ module _ (code : Code) (begin : ℕ) (rec : Meaning) (sound : Sound code begin r
         → ValuesAt to stack line (From from (Val v ∷ stack) line st) st.left (joined rec h op condition v list st)
     joined_reaches op condition NoExpressions from to v stack line st here = done from to v stack line st here
     joined_reaches op condition (MoreExpressions first others) from to v stack line st here =
-        then_reaches here.0 to (Val v ∷ stack) stack line _ _ _ _ (expression_reaches first from here.0 (Val v ∷ stack) line st here.2)
-        (λ w after. then_reaches here.1 to (Val v ∷ stack) stack line _ after.left (Gives (as_operand (becomes_condition condition first) w) after) (λ x later. bind (apply_two h op v x later) (λ y last. joined rec h op condition y others last))
-        (operand_reaches (becomes_condition condition first) here.0 here.1 w (Val v ∷ stack) line after here.3)
-        (λ x later. then_reaches (suc here.1) to stack stack line _ _ _ _ (two_reaches op here.1 (suc here.1) v x stack line later (here.4, refl))
-        (λ y last. joined_reaches op condition others (suc here.1) to y stack line last here.5)))
+        then_reaches here.0 to stack stack line _ st.left (Gives (as_operand (makes_condition condition first) v) st)
+        (λ u before. bind (expression rec h first before) (λ w after. bind (apply_two h op u (as_operand (becomes_condition condition first) w) after) (λ y last. joined rec h op (condition || is_condition first) y others last)))
+        (operand_reaches (makes_condition condition first) from here.0 v stack line st here.3)
+        (λ u before. then_reaches here.1 to (Val u ∷ stack) stack line _ _ _ _ (expression_reaches first here.0 here.1 (Val u ∷ stack) line before here.4)
+        (λ w after. then_reaches here.2 to (Val u ∷ stack) stack line _ after.left (Gives (as_operand (becomes_condition condition first) w) after)
+        (λ x later. bind (apply_two h op u x later) (λ y last. joined rec h op (condition || is_condition first) y others last))
+        (operand_reaches (becomes_condition condition first) here.1 here.2 w (Val u ∷ stack) line after here.5)
+        (λ x later. then_reaches (suc here.2) to stack stack line _ _ _ _ (two_reaches op here.2 (suc here.2) u x stack line later (here.6, refl))
+        (λ y last. joined_reaches op (condition || is_condition first) others (suc here.2) to y stack line last here.7))))
 
     -- operands of an operation behind a value
     folded_reaches : (op : Op2) (list : Expressions) (from to : ℕ) (v : Value) (stack : List Operand) (line : List ℕ) (st : State) → FoldedAt code (site_of h) op list from to

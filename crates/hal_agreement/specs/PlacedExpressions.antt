@@ -26,7 +26,7 @@ use Rattle.hal_meaning.specs.Tasks.{Meaning}
 use Rattle.hal_meaning.specs.Elements.{Shape, chosen, offset, kinds_of}
 use Rattle.hal_meaning.specs.Variables as tree
 use Rattle.hal_meaning.specs.Variables.{dimensions_of, is_arrayed, Meant, MeantData, MeantConstant, MeantEvent, MeantBlock, MeantBuiltin, MeantNothing, name_meant, spot_named, kind_of_first, is_whole}
-use Rattle.hal_meaning.specs.Expressions.{literal_value, is_condition, are_conditions, becomes_condition, exponent_of, operation_of_relation, operation_of_sign, operation_of_conversion, is_size, size_argument, inputs_at, sizes_named, copies_of, spoken, summed}
+use Rattle.hal_meaning.specs.Expressions.{literal_value, is_condition, becomes_condition, makes_condition, exponent_of, operation_of_relation, operation_of_sign, operation_of_conversion, is_size, size_argument, inputs_at, sizes_named, copies_of, spoken, summed}
 use Rattle.hal_code.specs.declared.choice.Choice.TheVariants as choice
 use Rattle.hal_code.specs.declared.instr.Instr.{Instr}
 use Rattle.hal_code.specs.declared.instr.Instr.TheVariants as instr
@@ -249,11 +249,9 @@ abbrev mutual
   -- an expression leaves its value on the stack
   pub ExpressionAt : Code → Site → Expression → ℕ → ℕ → Type 0
   ExpressionAt code site (Or place first others) from to =
-      (middle : ℕ) × (late : ℕ) × ExpressionAt code site first from middle × OperandAt code (becomes_condition (is_condition first || are_conditions others) first) middle late
-      × JoinedAt code site op2.Or (is_condition first || are_conditions others) others late to
+      (middle : ℕ) × ExpressionAt code site first from middle × JoinedAt code site op2.Or (is_condition first) others middle to
   ExpressionAt code site (And place first others) from to =
-      (middle : ℕ) × (late : ℕ) × ExpressionAt code site first from middle × OperandAt code (becomes_condition (is_condition first || are_conditions others) first) middle late
-      × JoinedAt code site op2.And (is_condition first || are_conditions others) others late to
+      (middle : ℕ) × ExpressionAt code site first from middle × JoinedAt code site op2.And (is_condition first) others middle to
   ExpressionAt code site (Compare place left relation right) from to =
       (middle : ℕ) × (last : ℕ) × ExpressionAt code site left from middle × ExpressionAt code site right middle last × One code last (two (operation_of_relation relation)) to
   ExpressionAt code site (Cat place first others) from to = (middle : ℕ) × ExpressionAt code site first from middle × FoldedAt code site op2.Cat others middle to
@@ -274,12 +272,12 @@ abbrev mutual
       (middle : ℕ) × ExpressionAt code site operand from middle × One code middle (instr.Op1 (choice.Known (operation_of_conversion conversion))) to
   ExpressionAt code site (Parenthesis place inner) from to = ExpressionAt code site inner from to
 
-  -- operands of AND or OR behind a value, each with the operation, beside a condition or not
+  -- operands of AND or OR behind a value, which is a condition or not, each with the operation
   pub JoinedAt : Code → Site → Op2 → Bool → Expressions → ℕ → ℕ → Type 0
   JoinedAt code site op condition NoExpressions from to = from ≡ to
   JoinedAt code site op condition (MoreExpressions first others) from to =
-      (middle : ℕ) × (late : ℕ) × ExpressionAt code site first from middle × OperandAt code (becomes_condition condition first) middle late × Has code late (two op)
-      × JoinedAt code site op condition others (suc late) to
+      (begin : ℕ) × (middle : ℕ) × (late : ℕ) × OperandAt code (makes_condition condition first) from begin × ExpressionAt code site first begin middle
+      × OperandAt code (becomes_condition condition first) middle late × Has code late (two op) × JoinedAt code site op (condition || is_condition first) others (suc late) to
 
   -- operands of an operation behind a value, each with the operation
   pub FoldedAt : Code → Site → Op2 → Expressions → ℕ → ℕ → Type 0

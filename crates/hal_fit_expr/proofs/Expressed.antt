@@ -18,7 +18,7 @@ use Rattle.hal_values.specs.declared.value.Value.TheVariants as value
 use Rattle.hal_states.specs.Spots.{Spot, Held, further}
 use Rattle.hal_meaning.specs.Calls.{Parameter, parameter_named}
 use Rattle.hal_meaning.specs.Elements.{Shape, chosen, offset, kinds_of}
-use Rattle.hal_meaning.specs.Expressions.{literal_value, exponent_of, is_condition, are_conditions, becomes_condition, operation_of_relation, operation_of_sign, operation_of_conversion, is_size, size_argument, inputs_at, sizes_named, copies_of, spoken}
+use Rattle.hal_meaning.specs.Expressions.{literal_value, exponent_of, is_condition, becomes_condition, makes_condition, operation_of_relation, operation_of_sign, operation_of_conversion, is_size, size_argument, inputs_at, sizes_named, copies_of, spoken}
 use Rattle.hal_meaning.specs.Variables.{Meant, MeantData, MeantConstant, MeantEvent, MeantBlock, MeantBuiltin, MeantNothing, name_meant, spot_named, kind_of_first, is_arrayed, is_whole, Dimension, dimensions_of}
 use Rattle.hal_code.specs.declared.choice.Choice.TheVariants as choice
 use Rattle.hal_code.specs.declared.instr.Instr.{Instr}
@@ -223,16 +223,14 @@ module _ (code : Code) (g : Ground) (site : Site) (u : Uses) (serves : Serves co
         let given = given_is (is_bits (sort_of_expression u site first) && all_bits u site others) B s sorted in
         let both = and_parts (is_bits (sort_of_expression u site first)) (all_bits u site others) given.0 in
         subst (λ t. Fits code.image g from stack to (t ∷ stack)) given.1
-        (both_fit code.image g (expression_fits first B from at.0 stack (bits_is (sort_of_expression u site first) both.0) at.2)
-        (both_fit code.image g (operand_fits (becomes_condition (is_condition first || are_conditions others) first) at.0 at.1 stack at.3)
-        (joined_fits others op2.Or (is_condition first || are_conditions others) at.1 to stack refl both.1 at.4)))
+        (both_fit code.image g (expression_fits first B from at.0 stack (bits_is (sort_of_expression u site first) both.0) at.1)
+        (joined_fits others op2.Or (is_condition first) at.0 to stack refl both.1 at.2))
     expression_fits (And place first others) s from to stack sorted at =
         let given = given_is (is_bits (sort_of_expression u site first) && all_bits u site others) B s sorted in
         let both = and_parts (is_bits (sort_of_expression u site first)) (all_bits u site others) given.0 in
         subst (λ t. Fits code.image g from stack to (t ∷ stack)) given.1
-        (both_fit code.image g (expression_fits first B from at.0 stack (bits_is (sort_of_expression u site first) both.0) at.2)
-        (both_fit code.image g (operand_fits (becomes_condition (is_condition first || are_conditions others) first) at.0 at.1 stack at.3)
-        (joined_fits others op2.And (is_condition first || are_conditions others) at.1 to stack refl both.1 at.4)))
+        (both_fit code.image g (expression_fits first B from at.0 stack (bits_is (sort_of_expression u site first) both.0) at.1)
+        (joined_fits others op2.And (is_condition first) at.0 to stack refl both.1 at.2))
     expression_fits (Compare place left relation right) s from to stack sorted at =
         pair_fits (operation_of_relation relation) (sort_of_expression u site left) (sort_of_expression u site right) s from at.0 at.1 to stack sorted (λ t is. expression_fits left t from at.0 stack is at.2)
         (λ t r is. expression_fits right r at.0 at.1 (t ∷ stack) is at.3) at.4
@@ -273,9 +271,10 @@ module _ (code : Code) (g : Ground) (site : Site) (u : Uses) (serves : Serves co
     joined_fits NoExpressions op condition from to stack gives fits at = nothing_fits code.image g from to (B ∷ stack) at
     joined_fits (MoreExpressions first others) op condition from to stack gives fits at =
         let both = and_parts (is_bits (sort_of_expression u site first)) (all_bits u site others) fits in
-        both_fit code.image g (expression_fits first B from at.0 (B ∷ stack) (bits_is (sort_of_expression u site first) both.0) at.2)
-        (both_fit code.image g (operand_fits (becomes_condition condition first) at.0 at.1 (B ∷ stack) at.3)
-        (both_fit code.image g (two_op_fits code g op B B B at.1 (suc at.1) stack gives (at.4, refl)) (joined_fits others op condition (suc at.1) to stack gives both.1 at.5)))
+        both_fit code.image g (operand_fits (makes_condition condition first) from at.0 stack at.3)
+        (both_fit code.image g (expression_fits first B at.0 at.1 (B ∷ stack) (bits_is (sort_of_expression u site first) both.0) at.4)
+        (both_fit code.image g (operand_fits (becomes_condition condition first) at.1 at.2 (B ∷ stack) at.5)
+        (both_fit code.image g (two_op_fits code g op B B B at.2 (suc at.2) stack gives (at.6, refl)) (joined_fits others op (condition || is_condition first) (suc at.2) to stack gives both.1 at.7))))
 
     -- operands of an operation behind a value
     folded_fits : (trees : Expressions) (op : Op2) (s r : Sort) (from to : ℕ) (stack : Sorts) → folded_sort u site op s trees ≡ Some r → FoldedAt code site op trees from to → Fits code.image g from (s ∷ stack) to (r ∷ stack)

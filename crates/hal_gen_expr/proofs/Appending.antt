@@ -13,7 +13,7 @@ use Rattle.hal_constants.specs.declared.operation.Operation.TheVariants as opera
 use Rattle.hal_constants.specs.Naming.{operation_of}
 use Rattle.hal_constants.specs.Constants.{is_none}
 use Rattle.hal_meaning.specs.Calls.{parameter_named}
-use Rattle.hal_meaning.specs.Expressions.{is_condition, are_conditions, operation_of_relation, operation_of_sign, operation_of_conversion, is_size, inputs_at, outputs_at, sizes_named, becomes_condition}
+use Rattle.hal_meaning.specs.Expressions.{is_condition, makes_condition, operation_of_relation, operation_of_sign, operation_of_conversion, is_size, inputs_at, outputs_at, sizes_named, becomes_condition}
 use Rattle.hal_meaning.specs.Variables.{is_arrayed, is_whole}
 use Rattle.hal_code.specs.declared.instr.Instr.{Instr}
 use Rattle.hal_code.specs.declared.instr.Instr.TheVariants as instr
@@ -142,18 +142,21 @@ module _ (n : Numbering) (site : Site) (front : List Instr) where
   passed_behind true whole plain whole_there plain_there is late = is
   passed_behind false whole plain whole_there plain_there is late = late
 
+  -- an operand of AND or OR behind a value that is a condition where it has to be one, and those behind it
+  operand_step : Place → Op2 → Bool → Expression → Expressions → List Instr → Emitted
+  operand_step place op condition first others begun =
+      onwards (expression_code n site begun first)
+      (λ middle. onwards (operand_code middle place (becomes_condition condition first))
+      (λ late. onwards (emit_one late place (two op)) (λ last. joined_code n site last place op (condition || is_condition first) others)))
+
   mutual
     pub expression_behind : (tree : Expression) (before : List Instr) → expression_code n site (front ++ before) tree ≡ behind front (expression_code n site before tree)
     expression_behind (Or place first others) before =
         onwards_behind front (expression_code n site before first) _ _ _ (expression_behind first before)
-        (λ code. onwards_behind front (operand_code code place (becomes_condition (is_condition first || are_conditions others) first)) _
-        (λ late. joined_code n site late place op2.Or (is_condition first || are_conditions others) others) (λ late. joined_code n site late place op2.Or (is_condition first || are_conditions others) others)
-        (operand_behind (becomes_condition (is_condition first || are_conditions others) first) code place) (λ late. joined_behind others place op2.Or (is_condition first || are_conditions others) late))
+        (λ code. joined_behind others place op2.Or (is_condition first) code)
     expression_behind (And place first others) before =
         onwards_behind front (expression_code n site before first) _ _ _ (expression_behind first before)
-        (λ code. onwards_behind front (operand_code code place (becomes_condition (is_condition first || are_conditions others) first)) _
-        (λ late. joined_code n site late place op2.And (is_condition first || are_conditions others) others) (λ late. joined_code n site late place op2.And (is_condition first || are_conditions others) others)
-        (operand_behind (becomes_condition (is_condition first || are_conditions others) first) code place) (λ late. joined_behind others place op2.And (is_condition first || are_conditions others) late))
+        (λ code. joined_behind others place op2.And (is_condition first) code)
     expression_behind (Compare place left relation right) before =
         onwards_behind front (expression_code n site before left) _ _ _ (expression_behind left before)
         (λ code. onwards_behind front (expression_code n site code right) _ _ _ (expression_behind right code) (λ late. emit_behind front late place (Some (two (operation_of_relation relation) ∷ []))))
@@ -180,12 +183,14 @@ module _ (n : Numbering) (site : Site) (front : List Instr) where
         → joined_code n site (front ++ before) place op condition trees ≡ behind front (joined_code n site before place op condition trees)
     joined_behind NoExpressions place op condition before = refl
     joined_behind (MoreExpressions first others) place op condition before =
-        onwards_behind front (expression_code n site before first) _ _ _ (expression_behind first before)
+        onwards_behind front (operand_code before place (makes_condition condition first)) _ (λ begun. operand_step place op condition first others begun) (λ begun. operand_step place op condition first others begun)
+        (operand_behind (makes_condition condition first) before place)
+        (λ begun. onwards_behind front (expression_code n site begun first) _ _ _ (expression_behind first begun)
         (λ code. onwards_behind front (operand_code code place (becomes_condition condition first)) _
-        (λ late. onwards (emit_one late place (two op)) (λ last. joined_code n site last place op condition others)) (λ late. onwards (emit_one late place (two op)) (λ last. joined_code n site last place op condition others))
+        (λ late. onwards (emit_one late place (two op)) (λ last. joined_code n site last place op (condition || is_condition first) others)) (λ late. onwards (emit_one late place (two op)) (λ last. joined_code n site last place op (condition || is_condition first) others))
         (operand_behind (becomes_condition condition first) code place)
-        (λ late. onwards_behind front (emit_one late place (two op)) _ (λ last. joined_code n site last place op condition others) (λ last. joined_code n site last place op condition others) (emit_behind front late place (Some (two op ∷ [])))
-        (λ last. joined_behind others place op condition last)))
+        (λ late. onwards_behind front (emit_one late place (two op)) _ (λ last. joined_code n site last place op (condition || is_condition first) others) (λ last. joined_code n site last place op (condition || is_condition first) others) (emit_behind front late place (Some (two op ∷ [])))
+        (λ last. joined_behind others place op (condition || is_condition first) last))))
 
     folded_behind : (trees : Expressions) (place : Place) (op : Op2) (before : List Instr) → folded_code n site (front ++ before) place op trees ≡ behind front (folded_code n site before place op trees)
     folded_behind NoExpressions place op before = refl

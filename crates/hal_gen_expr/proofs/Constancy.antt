@@ -284,14 +284,14 @@ module _ (site : Site) where
     value_at (Or place first others) b is =
         let rest = joined_at others op2.Or (known.value_of site first) b is in
         let begun = value_at first rest.0 rest.1 in
-        let none = plain (Or place first others) b is in
-        λ rec h st same. ap (λ c. bind (expression rec h first st) (λ v after. joined rec h op2.Or c (as_operand (c && not (is_condition first)) v) others after)) none
+        let none = plain first rest.0 rest.1 in
+        λ rec h st same. ap (λ c. bind (expression rec h first st) (λ v after. joined rec h op2.Or c v others after)) none
         ∙ (ap (λ r. bind r (λ v after. joined rec h op2.Or false v others after)) (begun rec h st same) ∙ rest.2 rec h st same)
     value_at (And place first others) b is =
         let rest = joined_at others op2.And (known.value_of site first) b is in
         let begun = value_at first rest.0 rest.1 in
-        let none = plain (And place first others) b is in
-        λ rec h st same. ap (λ c. bind (expression rec h first st) (λ v after. joined rec h op2.And c (as_operand (c && not (is_condition first)) v) others after)) none
+        let none = plain first rest.0 rest.1 in
+        λ rec h st same. ap (λ c. bind (expression rec h first st) (λ v after. joined rec h op2.And c v others after)) none
         ∙ (ap (λ r. bind r (λ v after. joined rec h op2.And false v others after)) (begun rec h st same) ∙ rest.2 rec h st same)
     value_at (Compare place left relation right) b is = absurd (cc)
     value_at (Cat place first others) b is =
@@ -335,11 +335,13 @@ module _ (site : Site) where
     joined_at (MoreExpressions first others) op o b is =
         let rest = joined_at others op (known.apply_two op o (known.value_of site first)) b is in
         let both = two_given op o (known.value_of site first) rest.0 rest.1 in
-        let next = value_at first both.1 both.3 in (
+        let next = value_at first both.1 both.3 in
+        let none = plain first both.1 both.3 in (
           both.0,
           both.2,
-          λ rec h st same. ap (λ r. bind r (λ w after. bind (apply_two h op both.0 w after) (λ x later. joined rec h op false x others later))) (next rec h st same)
-              ∙ (ap (λ r. bind r (λ x later. joined rec h op false x others later)) (two_gives h op both.0 both.1 rest.0 st both.4) ∙ rest.2 rec h st same),
+          λ rec h st same. ap (λ c. bind (expression rec h first st) (λ w after. bind (apply_two h op (as_operand (c && not false) both.0) w after) (λ x later. joined rec h op c x others later))) none
+              ∙ (ap (λ r. bind r (λ w after. bind (apply_two h op both.0 w after) (λ x later. joined rec h op false x others later))) (next rec h st same)
+              ∙ (ap (λ r. bind r (λ x later. joined rec h op false x others later)) (two_gives h op both.0 both.1 rest.0 st both.4) ∙ rest.2 rec h st same)),
         )
 
     -- operands behind a value

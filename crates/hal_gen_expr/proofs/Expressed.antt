@@ -18,7 +18,7 @@ use Rattle.hal_values.specs.declared.value.Kind.{Kind}
 use Rattle.hal_states.specs.Spots.{Spot, Held, further}
 use Rattle.hal_meaning.specs.Calls.{parameter_named}
 use Rattle.hal_meaning.specs.Elements.{Shape, chosen, offset, product, copy_size, kinds_of}
-use Rattle.hal_meaning.specs.Expressions.{literal_value, is_condition, are_conditions, exponent_of, operation_of_relation, operation_of_sign, operation_of_conversion, is_size, inputs_at, sizes_named, copies_of, spoken, becomes_condition, size_argument}
+use Rattle.hal_meaning.specs.Expressions.{literal_value, is_condition, makes_condition, exponent_of, operation_of_relation, operation_of_sign, operation_of_conversion, is_size, inputs_at, sizes_named, copies_of, spoken, becomes_condition, size_argument}
 use Rattle.hal_meaning.specs.Places.{Storing}
 use Rattle.hal_meaning.specs.Variables.{is_arrayed, is_whole, Dimension, dimension, dimensions_of, kind_of_first, Meant, name_meant, spot_meant, spot_of}
 use Rattle.hal_code.specs.declared.instr.Instr.{Instr}
@@ -421,17 +421,11 @@ module _ (code : Code) (n : Numbering) (site : Site) (numbered : IsNumbered code
     pub expression_at : (tree : Expression) (before after : List Instr) → expression_code n site before tree ≡ Ok after → Begins after code.image.code
         → Placed code before after (λ from to. ExpressionAt code site tree from to)
     expression_at (Or place first others) before after is begins =
-        weaker code before after (λ from to at. (at.0, at.2.0, at.1, at.2.1, at.2.2))
-        (both_placed code (expression_code n site before first) _ before after is (λ middle there begun. expression_at first before middle there begun)
-        (λ middle there. both_placed code (operand_code middle place (becomes_condition (is_condition first || are_conditions others) first)) _ middle after there
-        (λ late becomes begun. operand_at (becomes_condition (is_condition first || are_conditions others) first) place middle late becomes begun)
-        (λ late others_there. joined_at others place op2.Or (is_condition first || are_conditions others) late after others_there begins)))
+        both_placed code (expression_code n site before first) _ before after is (λ middle there begun. expression_at first before middle there begun)
+        (λ middle there. joined_at others place op2.Or (is_condition first) middle after there begins)
     expression_at (And place first others) before after is begins =
-        weaker code before after (λ from to at. (at.0, at.2.0, at.1, at.2.1, at.2.2))
-        (both_placed code (expression_code n site before first) _ before after is (λ middle there begun. expression_at first before middle there begun)
-        (λ middle there. both_placed code (operand_code middle place (becomes_condition (is_condition first || are_conditions others) first)) _ middle after there
-        (λ late becomes begun. operand_at (becomes_condition (is_condition first || are_conditions others) first) place middle late becomes begun)
-        (λ late others_there. joined_at others place op2.And (is_condition first || are_conditions others) late after others_there begins)))
+        both_placed code (expression_code n site before first) _ before after is (λ middle there begun. expression_at first before middle there begun)
+        (λ middle there. joined_at others place op2.And (is_condition first) middle after there begins)
     expression_at (Compare place left relation right) before after is begins =
         weaker code before after (λ from to at. (at.0, at.2.0, at.1, at.2.1, at.2.2))
         (both_placed code (expression_code n site before left) _ before after is (λ middle there begun. expression_at left before middle there begun)
@@ -481,11 +475,13 @@ module _ (code : Code) (n : Numbering) (site : Site) (numbered : IsNumbered code
         → Placed code before after (λ from to. JoinedAt code site op condition trees from to)
     joined_at NoExpressions place op condition before after is begins = none_placed code before after (ok_is before after is) begins
     joined_at (MoreExpressions first others) place op condition before after is begins =
-        weaker code before after (λ from to at. (at.0, at.2.0, at.1, at.2.1, at.2.2.0, at.2.2.1))
-        (both_placed code (expression_code n site before first) _ before after is (λ middle there begun. expression_at first before middle there begun)
+        weaker code before after (λ from to at. (at.0, at.2.0, at.2.2.0, at.1, at.2.1, at.2.2.1, at.2.2.2.0, at.2.2.2.1))
+        (both_placed code (operand_code before place (makes_condition condition first)) _ before after is
+        (λ begun lifts there. operand_at (makes_condition condition first) place before begun lifts there)
+        (λ begun first_there. both_placed code (expression_code n site begun first) _ begun after first_there (λ middle there begins_there. expression_at first begun middle there begins_there)
         (λ middle there. both_placed code (operand_code middle place (becomes_condition condition first)) _ middle after there
-        (λ late becomes begun. operand_at (becomes_condition condition first) place middle late becomes begun)
-        (λ late others_there. first_placed code late after (two op) (joined_at others place op condition (late ++ (two op ∷ [])) after others_there begins))))
+        (λ late becomes begins_there. operand_at (becomes_condition condition first) place middle late becomes begins_there)
+        (λ late others_there. first_placed code late after (two op) (joined_at others place op (condition || is_condition first) (late ++ (two op ∷ [])) after others_there begins)))))
 
     folded_at : (trees : Expressions) (place : Place) (op : Op2) (before after : List Instr) → folded_code n site before place op trees ≡ Ok after → Begins after code.image.code
         → Placed code before after (λ from to. FoldedAt code site op trees from to)

@@ -18,7 +18,7 @@ use Rattle.hal_values.specs.declared.value.Value.TheVariants as value
 use Rattle.hal_states.specs.Spots.{Spot, Own, Held, further}
 use Rattle.hal_meaning.specs.Calls.{Parameter, parameter_named, inputs_of, outputs_of}
 use Rattle.hal_meaning.specs.Elements.{Shape, chosen, offset, kinds_of}
-use Rattle.hal_meaning.specs.Expressions.{inputs_at, literal_value, is_condition, are_conditions, becomes_condition, exponent_of, is_size, size_argument, sizes_named, copies_of, spoken}
+use Rattle.hal_meaning.specs.Expressions.{inputs_at, literal_value, is_condition, becomes_condition, makes_condition, exponent_of, is_size, size_argument, sizes_named, copies_of, spoken}
 use Rattle.hal_meaning.specs.Variables.{Meant, MeantData, MeantConstant, MeantEvent, MeantBlock, MeantBuiltin, MeantNothing, name_meant, spot_named, kind_of_first, is_whole, Dimension, dimensions_of, is_arrayed}
 use Rattle.hal_code.specs.Forward.{GoesOn}
 use Rattle.hal_code.specs.declared.instr.Instr.{Instr}
@@ -163,11 +163,9 @@ module _ (code : Code) where
     mutual
       pub expression_goes : (tree : Expression) (from to : ℕ) → ExpressionAt code site tree from to → Goes from to
       expression_goes (Or place first others) from to at =
-          joined_goes from at.0 to (expression_goes first from at.0 at.2) (joined_goes at.0 at.1 to (operand_goes (becomes_condition (is_condition first || are_conditions others) first) at.0 at.1 at.3)
-          (operands_go others op2.Or (is_condition first || are_conditions others) at.1 to at.4))
+          joined_goes from at.0 to (expression_goes first from at.0 at.1) (operands_go others op2.Or (is_condition first) at.0 to at.2)
       expression_goes (And place first others) from to at =
-          joined_goes from at.0 to (expression_goes first from at.0 at.2) (joined_goes at.0 at.1 to (operand_goes (becomes_condition (is_condition first || are_conditions others) first) at.0 at.1 at.3)
-          (operands_go others op2.And (is_condition first || are_conditions others) at.1 to at.4))
+          joined_goes from at.0 to (expression_goes first from at.0 at.1) (operands_go others op2.And (is_condition first) at.0 to at.2)
       expression_goes (Compare place left relation right) from to at =
           joined_goes from at.0 to (expression_goes left from at.0 at.2) (joined_goes at.0 at.1 to (expression_goes right at.0 at.1 at.3) (one_goes at.1 to _ at.4 tt))
       expression_goes (Cat place first others) from to at = joined_goes from at.0 to (expression_goes first from at.0 at.1) (folded_goes others op2.Cat at.0 to at.2)
@@ -190,8 +188,8 @@ module _ (code : Code) where
       operands_go : (trees : Expressions) (op : Op2) (condition : Bool) (from to : ℕ) → JoinedAt code site op condition trees from to → Goes from to
       operands_go NoExpressions op condition from to at = none_goes from to at
       operands_go (MoreExpressions first others) op condition from to at =
-          joined_goes from at.0 to (expression_goes first from at.0 at.2)
-          (joined_goes at.0 at.1 to (operand_goes (becomes_condition condition first) at.0 at.1 at.3) (first_goes at.1 to _ at.4 tt (operands_go others op condition (suc at.1) to at.5)))
+          joined_goes from at.0 to (operand_goes (makes_condition condition first) from at.0 at.3) (joined_goes at.0 at.1 to (expression_goes first at.0 at.1 at.4)
+          (joined_goes at.1 at.2 to (operand_goes (becomes_condition condition first) at.1 at.2 at.5) (first_goes at.2 to _ at.6 tt (operands_go others op (condition || is_condition first) (suc at.2) to at.7))))
 
       folded_goes : (trees : Expressions) (op : Op2) (from to : ℕ) → FoldedAt code site op trees from to → Goes from to
       folded_goes NoExpressions op from to at = none_goes from to at

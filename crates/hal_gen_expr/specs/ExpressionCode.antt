@@ -13,7 +13,7 @@ use Rattle.hal_constants.specs.declared.operation.Operation.TheVariants as opera
 use Rattle.hal_constants.specs.Naming.{operation_of}
 use Rattle.hal_constants.specs.Constants.{is_none}
 use Rattle.hal_meaning.specs.Calls.{parameter_named}
-use Rattle.hal_meaning.specs.Expressions.{literal_value, is_condition, are_conditions, operation_of_relation, operation_of_sign, operation_of_conversion, is_size, inputs_at, becomes_condition}
+use Rattle.hal_meaning.specs.Expressions.{literal_value, is_condition, makes_condition, operation_of_relation, operation_of_sign, operation_of_conversion, is_size, inputs_at, becomes_condition}
 use Rattle.hal_meaning.specs.Variables.{is_arrayed, is_whole}
 use Rattle.hal_code.specs.declared.choice.Choice.TheVariants as choice
 use Rattle.hal_code.specs.declared.row.Run.{Run}
@@ -163,13 +163,9 @@ called_code n site before place size folded built arguments other = Err place
 abbrev mutual
   pub expression_code : Numbering → Site → List Instr → Expression → Emitted
   expression_code n site before (Or place first others) =
-      onwards (expression_code n site before first)
-      (λ middle. onwards (operand_code middle place (becomes_condition (is_condition first || are_conditions others) first))
-      (λ late. joined_code n site late place op2.Or (is_condition first || are_conditions others) others))
+      onwards (expression_code n site before first) (λ middle. joined_code n site middle place op2.Or (is_condition first) others)
   expression_code n site before (And place first others) =
-      onwards (expression_code n site before first)
-      (λ middle. onwards (operand_code middle place (becomes_condition (is_condition first || are_conditions others) first))
-      (λ late. joined_code n site late place op2.And (is_condition first || are_conditions others) others))
+      onwards (expression_code n site before first) (λ middle. joined_code n site middle place op2.And (is_condition first) others)
   expression_code n site before (Compare place left relation right) =
       onwards (expression_code n site before left)
       (λ middle. onwards (expression_code n site middle right) (λ last. emit_one last place (two (operation_of_relation relation))))
@@ -189,13 +185,14 @@ abbrev mutual
       onwards (expression_code n site before operand) (λ middle. emit_one middle place (one (operation_of_conversion conversion)))
   expression_code n site before (Parenthesis place inner) = expression_code n site before inner
 
-  -- operands of AND or OR behind a value, each with the operation, beside a condition or not
+  -- operands of AND or OR behind a value, which is a condition or not, each with the operation
   pub joined_code : Numbering → Site → List Instr → Place → Op2 → Bool → Expressions → Emitted
   joined_code n site before place op condition NoExpressions = Ok before
   joined_code n site before place op condition (MoreExpressions first others) =
-      onwards (expression_code n site before first)
+      onwards (operand_code before place (makes_condition condition first))
+      (λ begun. onwards (expression_code n site begun first)
       (λ middle. onwards (operand_code middle place (becomes_condition condition first))
-      (λ late. onwards (emit_one late place (two op)) (λ last. joined_code n site last place op condition others)))
+      (λ late. onwards (emit_one late place (two op)) (λ last. joined_code n site last place op (condition || is_condition first) others))))
 
   -- operands of an operation behind a value, each with the operation
   pub folded_code : Numbering → Site → List Instr → Place → Op2 → Expressions → Emitted

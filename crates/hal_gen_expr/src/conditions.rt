@@ -1,6 +1,6 @@
 //! Which expressions are conditions, and how bits become some.
 
-ghost use Rattle.std.specs.Prelude.{◌≡◌, ◌||◌, map};
+ghost use Rattle.std.specs.Prelude.{◌≡◌, map};
 ghost use Rattle.hal_tree.specs.Rows.{expressions};
 ghost use Rattle.hal_tree.specs.SeenExpressions.{seen_expression};
 ghost use Rattle.hal_meaning.specs.Expressions as meaning;
@@ -17,7 +17,7 @@ use hal_tree::Expr;
 /// Whether an expression is a condition: a comparison, or what is made of some (language document, Expressions).
 #[cycle(conditions)]
 #[tactic(auto, using(hal_tree::proofs::MadeExpressions::made_or, hal_tree::proofs::MadeExpressions::made_and, hal_tree::proofs::MadeExpressions::made_compare, hal_tree::proofs::MadeExpressions::made_cat, hal_tree::proofs::MadeExpressions::made_sum, hal_tree::proofs::MadeExpressions::made_product, hal_tree::proofs::MadeExpressions::made_power, hal_tree::proofs::MadeExpressions::made_not, hal_tree::proofs::MadeExpressions::made_literal, hal_tree::proofs::MadeExpressions::made_decimal, hal_tree::proofs::MadeExpressions::made_referred, hal_tree::proofs::MadeExpressions::made_call, hal_tree::proofs::MadeExpressions::made_convert, hal_tree::proofs::MadeExpressions::made_parenthesis))]
-fn is_condition(tree: &Expr) -> bool
+pub(crate) fn is_condition(tree: &Expr) -> bool
     ensures { result ≡ meaning.is_condition (seen_expression tree.now) }
 {
     match tree {
@@ -52,15 +52,19 @@ fn are_conditions(trees: &[Expr]) -> bool
     false
 }
 
-/// Whether AND or OR joins conditions: whether one of its operands is one.
-pub(crate) fn joins_conditions(first: &Expr, others: &[Expr]) -> bool
-    ensures { result ≡ (meaning.is_condition (seen_expression first.now) || meaning.are_conditions (expressions (map seen_expression others.now))) }
+/// Adds what makes bits a condition, where they become one: they are compared with a zero.
+fn emit_where(code: &mut Vec<Instr>, place: Place, becomes: bool) -> Result<(), Uncoded>
+    ensures { Emits (codes.operand_code code.old.items place becomes) result code.new.items }
 {
-    is_condition(first) || are_conditions(others)
+    if becomes {
+        let zero = Instr::Bits { len: 1, word: 0 };
+        emit_two(code, place, Some(zero), two(Op2::NotEqual))
+    } else {
+        Ok(())
+    }
 }
 
-/// Adds what makes an operand of AND or OR a condition, where one beside it is a condition and it is none: it is compared with a zero (language document,
-/// Expressions).
+/// Adds what makes an operand of AND or OR a condition, where the value before it is one and it is none (language document, Expressions).
 pub(crate) fn emit_operand(
     code: &mut Vec<Instr>,
     place: Place,
@@ -69,10 +73,17 @@ pub(crate) fn emit_operand(
 ) -> Result<(), Uncoded>
     ensures { Emits (codes.operand_code code.old.items place (meaning.becomes_condition condition (seen_expression operand.now))) result code.new.items }
 {
-    if condition && !is_condition(operand) {
-        let zero = Instr::Bits { len: 1, word: 0 };
-        emit_two(code, place, Some(zero), two(Op2::NotEqual))
-    } else {
-        Ok(())
-    }
+    emit_where(code, place, condition && !is_condition(operand))
+}
+
+/// Adds what makes the value before an operand of AND or OR a condition, where the operand is one and the value is none (language document, Expressions).
+pub(crate) fn emit_before_operand(
+    code: &mut Vec<Instr>,
+    place: Place,
+    condition: bool,
+    operand: &Expr,
+) -> Result<(), Uncoded>
+    ensures { Emits (codes.operand_code code.old.items place (meaning.makes_condition condition (seen_expression operand.now))) result code.new.items }
+{
+    emit_where(code, place, is_condition(operand) && !condition)
 }

@@ -16,7 +16,7 @@ ghost use Rattle.hal_gen_expr.specs.Leaves as leaves;
 ghost use Rattle.hal_gen_expr.specs.SeenSites.{seen_site, seen_numbering, IsSite};
 
 use crate::calls::{emit_call, inputs_at, is_whole_parameter, lacks_names, require_call, runs_in};
-use crate::conditions::{emit_operand, joins_conditions};
+use crate::conditions::{emit_before_operand, emit_operand, is_condition};
 use crate::leaves::{
     emit_any, emit_one, emit_sign, emit_two, exponent_instr, literal_instr, one,
     operation_of_relation, two,
@@ -141,20 +141,16 @@ pub fn emit_expression(tree: &Expr, code: &mut Vec<Instr>, site: &Site<'_>) -> R
             first,
             others,
         } => {
-            let condition = joins_conditions(first, others);
             emit_expression(first, code, site)?;
-            emit_operand(code, *place, condition, first)?;
-            emit_joined(others, code, site, *place, Op2::Or, condition)
+            emit_joined(others, code, site, *place, Op2::Or, is_condition(first))
         }
         Expr::And {
             place,
             first,
             others,
         } => {
-            let condition = joins_conditions(first, others);
             emit_expression(first, code, site)?;
-            emit_operand(code, *place, condition, first)?;
-            emit_joined(others, code, site, *place, Op2::And, condition)
+            emit_joined(others, code, site, *place, Op2::And, is_condition(first))
         }
         Expr::Compare {
             place,
@@ -234,7 +230,7 @@ pub fn emit_expression(tree: &Expr, code: &mut Vec<Instr>, site: &Site<'_>) -> R
     }
 }
 
-/// Adds the code of operands of AND or OR behind a value, each with the operation, beside a condition or not.
+/// Adds the code of operands of AND or OR behind a value, which is a condition or not, each with the operation.
 #[cycle(expressions)]
 #[tactic(auto, unfolding(hal_tree::specs::Rows::expressions))]
 fn emit_joined(
@@ -248,10 +244,13 @@ fn emit_joined(
     requires site { IsSite site.now }
     ensures { Emits (codes.joined_code (seen_numbering site.now) (seen_site site.now) code.old.items place op condition (expressions (map seen_expression trees.now.items))) result code.new.items }
 {
+    let mut joins_condition = condition;
     for tree in trees {
+        emit_before_operand(code, place, joins_condition, tree)?;
         emit_expression(tree, code, site)?;
-        emit_operand(code, place, condition, tree)?;
+        emit_operand(code, place, joins_condition, tree)?;
         emit_one(code, place, two(op))?;
+        joins_condition = joins_condition || is_condition(tree);
     }
     Ok(())
 }

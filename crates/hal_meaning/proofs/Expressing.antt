@@ -33,7 +33,7 @@ use Rattle.hal_meaning.specs.States.{State, Evaluated, Gives, bind}
 use Rattle.hal_meaning.specs.Access.{Here}
 use Rattle.hal_meaning.specs.Variables.{Meant, MeantData, MeantConstant, MeantEvent, MeantBlock, MeantBuiltin, MeantNothing, name_meant, spot_named, Index, Single, Dimension, dimensions_of, all_inside, kind_of_first, is_arrayed}
 use Rattle.hal_meaning.specs.Calls.{Passed}
-use Rattle.hal_meaning.specs.Expressions.{operation_of_relation, operation_of_sign, operation_of_conversion, is_condition, are_conditions, becomes_condition, as_operand, apply_one, apply_two, signed, exponent_of, part_of, Located, located, event_value, alone_value, plain_value, named_value, built, sizes_named, copies_of, size_argument, is_size, inputs_at, is_whole_parameter, after_first, first_size, after_first_dimension, spoken, by_place, argument, call_form, subscripted, meant_chosen, part_unless, expression, joined, folded, summed, values, passed, chosen_by, referred, chosen_data, data_chosen, array_indexes, indexes, index, position, component, parts_of, part_chosen}
+use Rattle.hal_meaning.specs.Expressions.{operation_of_relation, operation_of_sign, operation_of_conversion, is_condition, becomes_condition, makes_condition, as_operand, apply_one, apply_two, signed, exponent_of, part_of, Located, located, event_value, alone_value, plain_value, named_value, built, sizes_named, copies_of, size_argument, is_size, inputs_at, is_whole_parameter, after_first, first_size, after_first_dimension, spoken, by_place, argument, call_form, subscripted, meant_chosen, part_unless, expression, joined, folded, summed, values, passed, chosen_by, referred, chosen_data, data_chosen, array_indexes, indexes, index, position, component, parts_of, part_chosen}
 use Rattle.hal_meaning.specs.Tasks.{Meaning}
 use Rattle.hal_meaning.proofs.Going.{pushed, Goes, Fine, Answers, Goes-bind}
 use Rattle.hal_meaning.proofs.Accessing.{after_answer, Goes-ask, Goes-if, Goes-raised, Goes-tested, Goes-read}
@@ -172,11 +172,9 @@ module _ (h : Here) (limit n : ℕ) (a : Answered) (rec after : Meaning) (ready 
   mutual
     pub Runs-expression : (tree : Expression) (st : State) → Fit h limit st → Runs h limit a (expression rec h tree st) (expression after h tree (pushed a st))
     Runs-expression (Or place first others) st fit =
-        seq h limit a _ _ _ _ (Runs-expression first st fit)
-        (λ v later known. Runs-joined op2.Or (is_condition first || are_conditions others) (as_operand (becomes_condition (is_condition first || are_conditions others) first) v) others later known)
+        seq h limit a _ _ _ _ (Runs-expression first st fit) (λ v later known. Runs-joined op2.Or (is_condition first) v others later known)
     Runs-expression (And place first others) st fit =
-        seq h limit a _ _ _ _ (Runs-expression first st fit)
-        (λ v later known. Runs-joined op2.And (is_condition first || are_conditions others) (as_operand (becomes_condition (is_condition first || are_conditions others) first) v) others later known)
+        seq h limit a _ _ _ _ (Runs-expression first st fit) (λ v later known. Runs-joined op2.And (is_condition first) v others later known)
     Runs-expression (Compare place left relation right) st fit =
         seq h limit a _ _ _ _ (Runs-expression left st fit)
         (λ v later known. seq h limit a _ _ _ _ (Runs-expression right later known) (λ w last more. Runs-two h limit a (operation_of_relation relation) v w last more))
@@ -202,7 +200,8 @@ module _ (h : Here) (limit n : ℕ) (a : Answered) (rec after : Meaning) (ready 
     Runs-joined op condition v NoExpressions st fit = (fit, refl)
     Runs-joined op condition v (MoreExpressions first others) st fit =
         seq h limit a _ _ _ _ (Runs-expression first st fit)
-        (λ w later known. seq h limit a _ _ _ _ (Runs-two h limit a op v (as_operand (becomes_condition condition first) w) later known) (λ x last more. Runs-joined op condition x others last more))
+        (λ w later known. seq h limit a _ _ _ _ (Runs-two h limit a op (as_operand (makes_condition condition first) v) (as_operand (becomes_condition condition first) w) later known)
+        (λ x last more. Runs-joined op (condition || is_condition first) x others last more))
 
     pub Runs-folded : (op : Op2) (v : Value) (list : Expressions) (st : State) → Fit h limit st → Runs h limit a (folded rec h op v list st) (folded after h op v list (pushed a st))
     Runs-folded op v NoExpressions st fit = (fit, refl)

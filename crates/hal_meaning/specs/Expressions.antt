@@ -83,6 +83,10 @@ abbrev mutual
 abbrev pub becomes_condition : Bool → Expression → Bool
 becomes_condition beside_condition operand = beside_condition && not (is_condition operand)
 
+-- whether what stands before an operand of AND or OR is made a condition: it is bits, and the operand is a condition
+abbrev pub makes_condition : Bool → Expression → Bool
+makes_condition condition operand = is_condition operand && not condition
+
 -- bits as a condition: they are compared with a zero, so that one bit tells whether they aren't all zeros. No error arises there
 abbrev pub as_condition : Value → Value
 as_condition v = mended_of_two op2.NotEqual v (value.Bits 1 0)
@@ -262,9 +266,9 @@ abbrev mutual
   -- an expression
   pub expression : Meaning → Here → Expression → State → Evaluated Value
   expression rec h (Or place first others) st =
-      bind (expression rec h first st) (λ v after. joined rec h op2.Or (is_condition first || are_conditions others) (as_operand (becomes_condition (is_condition first || are_conditions others) first) v) others after)
+      bind (expression rec h first st) (λ v after. joined rec h op2.Or (is_condition first) v others after)
   expression rec h (And place first others) st =
-      bind (expression rec h first st) (λ v after. joined rec h op2.And (is_condition first || are_conditions others) (as_operand (becomes_condition (is_condition first || are_conditions others) first) v) others after)
+      bind (expression rec h first st) (λ v after. joined rec h op2.And (is_condition first) v others after)
   expression rec h (Compare place left relation right) st =
       bind (expression rec h left st) (λ v after. bind (expression rec h right after) (λ w later. apply_two h (operation_of_relation relation) v w later))
   expression rec h (Cat place first others) st = bind (expression rec h first st) (λ v after. folded rec h op2.Cat v others after)
@@ -282,11 +286,12 @@ abbrev mutual
   expression rec h (Convert place conversion operand) st = bind (expression rec h operand st) (λ v after. apply_one h (operation_of_conversion conversion) v after)
   expression rec h (Parenthesis place inner) st = expression rec h inner st
 
-  -- operands of AND or OR behind a value
+  -- operands of AND or OR behind a value, which is a condition or bits: the operations associate to the left
   pub joined : Meaning → Here → Op2 → Bool → Value → Expressions → State → Evaluated Value
   joined rec h op condition v NoExpressions st = Gives v st
   joined rec h op condition v (MoreExpressions first others) st =
-      bind (expression rec h first st) (λ w after. bind (apply_two h op v (as_operand (becomes_condition condition first) w) after) (λ x later. joined rec h op condition x others later))
+      bind (expression rec h first st) (λ w after. bind (apply_two h op (as_operand (makes_condition condition first) v) (as_operand (becomes_condition condition first) w) after)
+      (λ x later. joined rec h op (condition || is_condition first) x others later))
 
   -- operands of an operation behind a value
   pub folded : Meaning → Here → Op2 → Value → Expressions → State → Evaluated Value

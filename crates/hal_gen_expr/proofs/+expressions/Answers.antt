@@ -4,7 +4,7 @@ use Rattle.std.proofs.lemmas.Result.{err_from_is_err_and}
 use Rattle.hal_operations.specs.declared.operation.Op2.TheVariants as op2
 use Rattle.hal_constants.specs.declared.operation.Operation.TheVariants as operation
 use Rattle.hal_grammar.specs.Expressions.{MoreExpressions}
-use Rattle.hal_meaning.specs.Expressions.{is_condition, are_conditions, becomes_condition, inputs_at}
+use Rattle.hal_meaning.specs.Expressions.{is_condition, inputs_at}
 use Rattle.hal_agreement.specs.PlacedExpressions.{two}
 use Rattle.hal_tree.specs.Rows.{expressions, terms}
 use Rattle.hal_tree.specs.SeenExpressions.{seen_expression, seen_signed}
@@ -20,25 +20,19 @@ use Rattle.hal_gen_expr.proofs.Calling.{argument_whole, argument_plain, whole_gi
 use Rattle.hal_gen_expr.proofs.Chained.{after, went_on, stopped}
 use Rattle.hal_gen_expr.proofs.+expressions.Goals as goal
 
-pub expressions::emit_expression-returns-in_ok-emit_operand-in-Or : goal.expressions::emit_expression-returns-in_ok-emit_operand-in-Or
-expressions::emit_expression-returns-in_ok-emit_operand-in-Or t c =
-    let shape : codes.expression_code (seen_numbering c.args.site.now) (seen_site c.args.site.now) c.args.code.now.items (seen_expression c.args.tree.now) ≡ onwards (codes.expression_code (seen_numbering c.args.site.now) (seen_site c.args.site.now) c.args.code.now.items (seen_expression c.in-Or.first.value)) (λ (middle : List Instr). onwards (codes.operand_code middle c.in-Or.place (becomes_condition (is_condition (seen_expression c.in-Or.first.value) || are_conditions (expressions (map seen_expression c.in-Or.others.items))) (seen_expression c.in-Or.first.value))) (λ (late : List Instr). codes.joined_code (seen_numbering c.args.site.now) (seen_site c.args.site.now) late c.in-Or.place op2.Or (is_condition (seen_expression c.in-Or.first.value) || are_conditions (expressions (map seen_expression c.in-Or.others.items))) (expressions (map seen_expression c.in-Or.others.items)))) =
+pub expressions::emit_expression-returns-in_ok-emit_expression-in-Or : goal.expressions::emit_expression-returns-in_ok-emit_expression-in-Or
+expressions::emit_expression-returns-in_ok-emit_expression-in-Or t c =
+    let shape : codes.expression_code (seen_numbering c.args.site.now) (seen_site c.args.site.now) c.args.code.now.items (seen_expression c.args.tree.now) ≡ onwards (codes.expression_code (seen_numbering c.args.site.now) (seen_site c.args.site.now) c.args.code.now.items (seen_expression c.in-Or.first.value)) (λ (middle : List Instr). codes.joined_code (seen_numbering c.args.site.now) (seen_site c.args.site.now) middle c.in-Or.place op2.Or (is_condition (seen_expression c.in-Or.first.value)) (expressions (map seen_expression c.in-Or.others.items))) =
     ap (λ tree. codes.expression_code (seen_numbering c.args.site.now) (seen_site c.args.site.now) c.args.code.now.items (seen_expression tree)) c.in-Or.is ∙ ap (λ tree. codes.expression_code (seen_numbering c.args.site.now) (seen_site c.args.site.now) c.args.code.now.items tree) (made_or c.in-Or.place c.in-Or.first c.in-Or.others) in
-    let there : codes.expression_code (seen_numbering c.args.site.now) (seen_site c.args.site.now) c.args.code.now.items (seen_expression c.in-Or.first.value) ≡ Ok c.emit_expression.new.code.items = search (rules, c.in_ok-emit_expression-in-Or.ensures, c.deref-in-Or-2.ensures) in
-    let operand : codes.operand_code c.emit_expression.new.code.items c.in-Or.place (becomes_condition (is_condition (seen_expression c.in-Or.first.value) || are_conditions (expressions (map seen_expression c.in-Or.others.items))) (seen_expression c.in-Or.first.value)) ≡ Ok c.emit_operand.new.code.items = search (rules, c.in_ok-emit_operand-in-Or.ensures, c.joins_conditions-condition.ensures, c.deref.ensures, c.deref-in-Or.ensures, c.deref-in-Or-3.ensures) in
-    let rest : Emits (codes.joined_code (seen_numbering c.args.site.now) (seen_site c.args.site.now) c.emit_operand.new.code.items c.in-Or.place op2.Or (is_condition (seen_expression c.in-Or.first.value) || are_conditions (expressions (map seen_expression c.in-Or.others.items))) (expressions (map seen_expression c.in-Or.others.items))) c.emit_joined.result c.emit_joined.new.code.items = search (rules, c.emit_joined.ensures, c.joins_conditions-condition.ensures, c.deref.ensures, c.deref-in-Or.ensures) in
-    went_on (codes.expression_code (seen_numbering c.args.site.now) (seen_site c.args.site.now) c.args.code.now.items (seen_expression c.args.tree.now)) (codes.operand_code c.emit_expression.new.code.items c.in-Or.place (becomes_condition (is_condition (seen_expression c.in-Or.first.value) || are_conditions (expressions (map seen_expression c.in-Or.others.items))) (seen_expression c.in-Or.first.value))) (λ (late : List Instr). codes.joined_code (seen_numbering c.args.site.now) (seen_site c.args.site.now) late c.in-Or.place op2.Or (is_condition (seen_expression c.in-Or.first.value) || are_conditions (expressions (map seen_expression c.in-Or.others.items))) (expressions (map seen_expression c.in-Or.others.items))) c.emit_operand.new.code.items c.emit_joined.new.code.items c.emit_joined.result
-    (after (codes.expression_code (seen_numbering c.args.site.now) (seen_site c.args.site.now) c.args.code.now.items (seen_expression c.args.tree.now)) (codes.expression_code (seen_numbering c.args.site.now) (seen_site c.args.site.now) c.args.code.now.items (seen_expression c.in-Or.first.value)) (λ (middle : List Instr). onwards (codes.operand_code middle c.in-Or.place (becomes_condition (is_condition (seen_expression c.in-Or.first.value) || are_conditions (expressions (map seen_expression c.in-Or.others.items))) (seen_expression c.in-Or.first.value))) (λ (late : List Instr). codes.joined_code (seen_numbering c.args.site.now) (seen_site c.args.site.now) late c.in-Or.place op2.Or (is_condition (seen_expression c.in-Or.first.value) || are_conditions (expressions (map seen_expression c.in-Or.others.items))) (expressions (map seen_expression c.in-Or.others.items)))) c.emit_expression.new.code.items shape there) operand rest
+    let there : codes.expression_code (seen_numbering c.args.site.now) (seen_site c.args.site.now) c.args.code.now.items (seen_expression c.in-Or.first.value) ≡ Ok c.emit_expression-in-Or.new.code.items = search (rules, c.in_ok-emit_expression-in-Or.ensures, c.deref-in-Or.ensures) in
+    went_on (codes.expression_code (seen_numbering c.args.site.now) (seen_site c.args.site.now) c.args.code.now.items (seen_expression c.args.tree.now)) (codes.expression_code (seen_numbering c.args.site.now) (seen_site c.args.site.now) c.args.code.now.items (seen_expression c.in-Or.first.value)) (λ (middle : List Instr). codes.joined_code (seen_numbering c.args.site.now) (seen_site c.args.site.now) middle c.in-Or.place op2.Or (is_condition (seen_expression c.in-Or.first.value)) (expressions (map seen_expression c.in-Or.others.items))) c.emit_expression-in-Or.new.code.items c.emit_folded.new.code.items c.emit_folded.result shape there c.emit_folded.ensures
 
-pub expressions::emit_expression-returns-in_ok-emit_operand-in-And : goal.expressions::emit_expression-returns-in_ok-emit_operand-in-And
-expressions::emit_expression-returns-in_ok-emit_operand-in-And t c =
-    let shape : codes.expression_code (seen_numbering c.args.site.now) (seen_site c.args.site.now) c.args.code.now.items (seen_expression c.args.tree.now) ≡ onwards (codes.expression_code (seen_numbering c.args.site.now) (seen_site c.args.site.now) c.args.code.now.items (seen_expression c.in-And.first.value)) (λ (middle : List Instr). onwards (codes.operand_code middle c.in-And.place (becomes_condition (is_condition (seen_expression c.in-And.first.value) || are_conditions (expressions (map seen_expression c.in-And.others.items))) (seen_expression c.in-And.first.value))) (λ (late : List Instr). codes.joined_code (seen_numbering c.args.site.now) (seen_site c.args.site.now) late c.in-And.place op2.And (is_condition (seen_expression c.in-And.first.value) || are_conditions (expressions (map seen_expression c.in-And.others.items))) (expressions (map seen_expression c.in-And.others.items)))) =
+pub expressions::emit_expression-returns-in_ok-emit_expression-in-And : goal.expressions::emit_expression-returns-in_ok-emit_expression-in-And
+expressions::emit_expression-returns-in_ok-emit_expression-in-And t c =
+    let shape : codes.expression_code (seen_numbering c.args.site.now) (seen_site c.args.site.now) c.args.code.now.items (seen_expression c.args.tree.now) ≡ onwards (codes.expression_code (seen_numbering c.args.site.now) (seen_site c.args.site.now) c.args.code.now.items (seen_expression c.in-And.first.value)) (λ (middle : List Instr). codes.joined_code (seen_numbering c.args.site.now) (seen_site c.args.site.now) middle c.in-And.place op2.And (is_condition (seen_expression c.in-And.first.value)) (expressions (map seen_expression c.in-And.others.items))) =
     ap (λ tree. codes.expression_code (seen_numbering c.args.site.now) (seen_site c.args.site.now) c.args.code.now.items (seen_expression tree)) c.in-And.is ∙ ap (λ tree. codes.expression_code (seen_numbering c.args.site.now) (seen_site c.args.site.now) c.args.code.now.items tree) (made_and c.in-And.place c.in-And.first c.in-And.others) in
-    let there : codes.expression_code (seen_numbering c.args.site.now) (seen_site c.args.site.now) c.args.code.now.items (seen_expression c.in-And.first.value) ≡ Ok c.emit_expression-in-And.new.code.items = search (rules, c.in_ok-emit_expression-in-And.ensures, c.deref-in-And-3.ensures) in
-    let operand : codes.operand_code c.emit_expression-in-And.new.code.items c.in-And.place (becomes_condition (is_condition (seen_expression c.in-And.first.value) || are_conditions (expressions (map seen_expression c.in-And.others.items))) (seen_expression c.in-And.first.value)) ≡ Ok c.emit_operand-in-And.new.code.items = search (rules, c.in_ok-emit_operand-in-And.ensures, c.joins_conditions-condition-in-And.ensures, c.deref-in-And.ensures, c.deref-in-And-2.ensures, c.deref-in-And-4.ensures) in
-    let rest : Emits (codes.joined_code (seen_numbering c.args.site.now) (seen_site c.args.site.now) c.emit_operand-in-And.new.code.items c.in-And.place op2.And (is_condition (seen_expression c.in-And.first.value) || are_conditions (expressions (map seen_expression c.in-And.others.items))) (expressions (map seen_expression c.in-And.others.items))) c.emit_joined-in-And.result c.emit_joined-in-And.new.code.items = search (rules, c.emit_joined-in-And.ensures, c.joins_conditions-condition-in-And.ensures, c.deref-in-And.ensures, c.deref-in-And-2.ensures) in
-    went_on (codes.expression_code (seen_numbering c.args.site.now) (seen_site c.args.site.now) c.args.code.now.items (seen_expression c.args.tree.now)) (codes.operand_code c.emit_expression-in-And.new.code.items c.in-And.place (becomes_condition (is_condition (seen_expression c.in-And.first.value) || are_conditions (expressions (map seen_expression c.in-And.others.items))) (seen_expression c.in-And.first.value))) (λ (late : List Instr). codes.joined_code (seen_numbering c.args.site.now) (seen_site c.args.site.now) late c.in-And.place op2.And (is_condition (seen_expression c.in-And.first.value) || are_conditions (expressions (map seen_expression c.in-And.others.items))) (expressions (map seen_expression c.in-And.others.items))) c.emit_operand-in-And.new.code.items c.emit_joined-in-And.new.code.items c.emit_joined-in-And.result
-    (after (codes.expression_code (seen_numbering c.args.site.now) (seen_site c.args.site.now) c.args.code.now.items (seen_expression c.args.tree.now)) (codes.expression_code (seen_numbering c.args.site.now) (seen_site c.args.site.now) c.args.code.now.items (seen_expression c.in-And.first.value)) (λ (middle : List Instr). onwards (codes.operand_code middle c.in-And.place (becomes_condition (is_condition (seen_expression c.in-And.first.value) || are_conditions (expressions (map seen_expression c.in-And.others.items))) (seen_expression c.in-And.first.value))) (λ (late : List Instr). codes.joined_code (seen_numbering c.args.site.now) (seen_site c.args.site.now) late c.in-And.place op2.And (is_condition (seen_expression c.in-And.first.value) || are_conditions (expressions (map seen_expression c.in-And.others.items))) (expressions (map seen_expression c.in-And.others.items)))) c.emit_expression-in-And.new.code.items shape there) operand rest
+    let there : codes.expression_code (seen_numbering c.args.site.now) (seen_site c.args.site.now) c.args.code.now.items (seen_expression c.in-And.first.value) ≡ Ok c.emit_expression-in-And.new.code.items = search (rules, c.in_ok-emit_expression-in-And.ensures, c.deref-in-And.ensures) in
+    went_on (codes.expression_code (seen_numbering c.args.site.now) (seen_site c.args.site.now) c.args.code.now.items (seen_expression c.args.tree.now)) (codes.expression_code (seen_numbering c.args.site.now) (seen_site c.args.site.now) c.args.code.now.items (seen_expression c.in-And.first.value)) (λ (middle : List Instr). codes.joined_code (seen_numbering c.args.site.now) (seen_site c.args.site.now) middle c.in-And.place op2.And (is_condition (seen_expression c.in-And.first.value)) (expressions (map seen_expression c.in-And.others.items))) c.emit_expression-in-And.new.code.items c.emit_folded.new.code.items c.emit_folded.result shape there c.emit_folded.ensures
 
 pub expressions::emit_expression-returns-in_ok-emit_expression-in-Cat : goal.expressions::emit_expression-returns-in_ok-emit_expression-in-Cat
 expressions::emit_expression-returns-in_ok-emit_expression-in-Cat t c =

@@ -9,7 +9,7 @@ use Rattle.hal_gen_expr.proofs.+expressions.Given as goal
 
 abbrev pub invariant-expressions::emit_joined-loop-tree : goal.invariant-expressions::emit_joined-loop-tree
 invariant-expressions::emit_joined-loop-tree l =
-    joined_code (seen_numbering l.site) (seen_site l.site) l.code.items l.place l.op l.condition (expressions (map seen_expression (drop l.tree-index l.trees.items)))
+    joined_code (seen_numbering l.site) (seen_site l.site) l.code.items l.place l.op l.joins_condition (expressions (map seen_expression (drop l.tree-index l.trees.items)))
     ≡ joined_code (seen_numbering l.site) (seen_site l.site) l.fn.code.items l.place l.op l.condition (expressions (map seen_expression l.trees.items))
 
 abbrev pub invariant-expressions::emit_folded-loop-tree : goal.invariant-expressions::emit_folded-loop-tree
