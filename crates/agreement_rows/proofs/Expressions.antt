@@ -97,7 +97,7 @@ process1 zero exists = record {
   block = λ unit. None;
   units = λ unit number b one named found block. absurd (cc);
   spot = λ place. 37;
-  code = record { finish = 37; statements = (4, (5, (λ rec h st same. refl), (_, 4, (λ held. refl), refl, (λ held. (record { number = 1; view = _; cell = refl; row = refl; plain = record { dimensions = refl; target = refl; base = refl } }, (refl, refl))), refl)), (17, (17, 14, 17, (13, (6, 8, (λ held. (record { number = 0; view = _; cell = refl; row = refl; plain = record { dimensions = refl; target = refl; base = refl } }, (refl, refl))), (refl, (refl, refl)), (12, 12, (10, 11, (λ held. (record { number = 1; view = _; cell = refl; row = refl; plain = record { dimensions = refl; target = refl; base = refl } }, (refl, refl))), (refl, refl), (refl, refl)), refl, refl, refl)), (refl, refl)), (6, 16, (λ rec h st same. refl), (15, (λ held. (refl, refl)), refl, refl), (refl, refl)), (refl, refl)), (37, (37, 32, 37, (31, (21, 21, (19, 20, (λ held. (record { number = 1; view = _; cell = refl; row = refl; plain = record { dimensions = refl; target = refl; base = refl } }, (refl, refl))), (refl, refl), (refl, refl)), refl, (23, 25, (λ held. (record { number = 0; view = _; cell = refl; row = refl; plain = record { dimensions = refl; target = refl; base = refl } }, (refl, refl))), (refl, (refl, refl)), refl, (28, 30, (λ held. (record { number = 0; view = _; cell = refl; row = refl; plain = record { dimensions = refl; target = refl; base = refl } }, (refl, refl))), (refl, (refl, refl)), refl, refl))), (refl, refl)), (35, (33, 33, (λ held. (refl, refl)), refl, (34, (refl, refl), refl, refl)), (λ held. (record { number = 1; view = _; cell = refl; row = refl; plain = record { dimensions = refl; target = refl; base = refl } }, (refl, refl)))), (refl, refl)), refl))); leads_out = λ place none. refl; last = refl };
+  code = record { finish = 37; statements = (4, (5, (λ rec h st same. refl), (_, 4, (λ held. refl), refl, (λ held. (record { number = 1; view = _; cell = refl; row = refl; plain = record { dimensions = refl; target = refl; base = refl } }, (refl, refl))), refl)), (17, (17, 14, 17, (13, (6, (λ held. (record { number = 0; view = _; cell = refl; row = refl; plain = record { dimensions = refl; target = refl; base = refl } }, (refl, refl))), (8, 12, 12, (refl, (refl, refl)), (10, 11, (λ held. (record { number = 1; view = _; cell = refl; row = refl; plain = record { dimensions = refl; target = refl; base = refl } }, (refl, refl))), (refl, refl), (refl, refl)), refl, refl, refl)), (refl, refl)), (6, 16, (λ rec h st same. refl), (15, (λ held. (refl, refl)), refl, refl), (refl, refl)), (refl, refl)), (37, (37, 32, 37, (31, (21, (19, 20, (λ held. (record { number = 1; view = _; cell = refl; row = refl; plain = record { dimensions = refl; target = refl; base = refl } }, (refl, refl))), (refl, refl), (refl, refl)), (21, 23, 25, refl, (λ held. (record { number = 0; view = _; cell = refl; row = refl; plain = record { dimensions = refl; target = refl; base = refl } }, (refl, refl))), (refl, (refl, refl)), refl, (26, 28, 30, refl, (λ held. (record { number = 0; view = _; cell = refl; row = refl; plain = record { dimensions = refl; target = refl; base = refl } }, (refl, refl))), (refl, (refl, refl)), refl, refl))), (refl, refl)), (35, (33, 33, (λ held. (refl, refl)), refl, (34, (refl, refl), refl, refl)), (λ held. (record { number = 1; view = _; cell = refl; row = refl; plain = record { dimensions = refl; target = refl; base = refl } }, (refl, refl)))), (refl, refl)), refl))); leads_out = λ place none. refl; last = refl };
 }
 process1 (suc p) exists = absurd (none_more1 p exists)
 

@@ -164,7 +164,7 @@ module _ (code : Code) (begin : ℕ) (rec : Meaning) (sound : Sound code begin r
     alternative_reaches : (h : Here) (n : Nest) (standing : Standing code h n) (exits : Exits) (out : Out) (marks : Marks n exits) (leads : Leads_out code begin h n exits.leaving out) (m : ℕ) (alternative : Alternative) (end other to : ℕ) (st : State) → AlternativeAt code (site_of h) exits m alternative end other to
         → FlowsAt code begin rec sound h n standing out exits to (Begins code begin rec sound h n standing out other st) st.left (otherwise rec h m alternative st)
     alternative_reaches h n standing exits out marks leads m NoAlternative end other to st here = still code begin rec sound h n standing out exits other to st here.1
-    alternative_reaches h n standing exits out marks leads m (Otherwise one) end other to st here = statement_reaches h n standing exits out marks leads m one other to st here.1
+    alternative_reaches h n standing exits out marks leads m (Otherwise one) end other to st here = statement_reaches h n standing exits out marks leads m one other to st here.2
 
     -- what DO CASE does where its number selects no statement
     uncased_reaches : (h : Here) (n : Nest) (standing : Standing code h n) (exits : Exits) (out : Out) (marks : Marks n exits) (leads : Leads_out code begin h n exits.leaving out) (m : ℕ) (alternative : Alternative) (from to : ℕ) (st : State) → UncasedAt code (site_of h) exits m alternative from to

@@ -339,10 +339,11 @@ abbrev mutual
       (group : ℕ) × (number : ℕ) × (changes : EventChange) × (event : ℕ) × Selects s group number × (machine.side_of changes event ≡ side_of (here_at site) e) × One code from (sets group number (response_of r) changes event 0) to
   BasicAt code site exits m labels (OffError place s) from to = (group : ℕ) × (number : ℕ) × Selects s group number × One code from (instr.Off group number) to
 
-  -- what stands after ELSE; the consequence before it ends at the first address, and the condition leads to the second one where it fails
+  -- what stands after ELSE; the consequence before it ends at the first address, and the condition leads to the second one where it fails, behind the jump over what
+  -- stands there
   pub AlternativeAt : Code → Site → Exits → ℕ → Alternative → ℕ → ℕ → ℕ → Type 0
   AlternativeAt code site exits m NoAlternative end other to = (end ≡ to) × (other ≡ to)
-  AlternativeAt code site exits m (Otherwise one) end other to = Has code end (instr.Jump to) × StatementAt code site exits m one other to
+  AlternativeAt code site exits m (Otherwise one) end other to = Has code end (instr.Jump to) × (other ≡ suc end) × StatementAt code site exits m one other to
 
   -- what DO CASE does where its number selects no statement
   pub UncasedAt : Code → Site → Exits → ℕ → Alternative → ℕ → ℕ → Type 0

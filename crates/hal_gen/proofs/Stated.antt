@@ -391,7 +391,7 @@ mutual
       let ends : jump ≡ length after = omega (arith, longer) in
       let begin : suc (length before) ≡ other = omega (arith, is) in
       record {
-        at = (subst (λ to. Has code (length before) (instr.Jump to)) ends there.at.0, subst (λ from. StatementAt code site exits m one from (length after)) begin there.at.1);
+        at = (subst (λ to. Has code (length before) (instr.Jump to)) ends there.at.0, sym begin, subst (λ from. StatementAt code site exits m one from (length after)) begin there.at.1);
         begins = there.begins;
       }
 
