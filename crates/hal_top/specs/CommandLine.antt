@@ -5,7 +5,7 @@ use Rattle.std.specs.declared.alloc.Global.{Global}
 use Rattle.hal_base.specs.declared.limits.TheConstants.{TEXT_LIMIT, UNIT_LIMIT}
 use Rattle.hal_top.specs.declared.words.Command as rust
 use Rattle.hal_top.specs.declared.words.Command.TheVariants as variant
-use Rattle.hal_top.specs.declared.fetch.TheConstants.{IMAGE_LIMIT}
+use Rattle.hal_base.specs.declared.limits.TheConstants.{IMAGE_LIMIT}
 
 -- the words as bytes
 abbrev pub texts : List (String Global) → List (List ℕ)

@@ -5,9 +5,6 @@ ghost use Rattle.hal_top.specs.Told.{FetchesFile};
 use hal_base::{Found, Shelf, ShelfFault};
 use std::alloc::Global;
 
-/// An image has at most so many bytes, 64 MiB.
-pub const IMAGE_LIMIT: u64 = 67_108_864;
-
 /// Why a file's bytes aren't there.
 #[derive(Clone, Copy, PartialEq, Eq)]
 pub enum NoFile {

@@ -9,12 +9,12 @@ ghost use Rattle.hal_top.specs.Told.{FetchesOne, FetchesUnits};
 ghost use Rattle.hal_top.specs.declared.refused.Refused.TheVariants.{Memory};
 ghost use Rattle.hal_top.specs.Works.{IsCauseOfFile, IsFit, Prepared, Told};
 
-use crate::fetch::{IMAGE_LIMIT, NoFile, fetched};
+use crate::fetch::{NoFile, fetched};
 use crate::refused::Refused;
 use crate::tasks::{built, executed, run};
 use crate::words::{Command, command_of};
 use exec_model::Script;
-use hal_base::{Shelf, TEXT_LIMIT};
+use hal_base::{IMAGE_LIMIT, Shelf, TEXT_LIMIT};
 use hal_code::ImageParts;
 use std::alloc::Global;
 
