@@ -29,6 +29,7 @@ use crate::shapes::shapes_of;
 use crate::unlinked::Unlinked;
 use hal_code::{Block, ImageParts, Instr, Process, Run, View};
 use hal_gen_expr::{Events, Site};
+use hal_lock_groups::all_groups;
 use hal_reach::processes_of;
 use hal_storage::events::declared_events;
 use hal_storage::layout::items_of;
@@ -234,8 +235,9 @@ pub fn link(alloc: Global, set: &Set<'_>) -> Result<ImageParts, Unlinked>
     let whole = whole_of(alloc, &*set, &referents, &cells, events, &shapes);
     let outlines = outlines_of(alloc, set, &processes)?;
     let views = views_in(&whole, &processes, &outlines)?;
+    let groups = all_groups(alloc, set.names, set.known)?;
     let mut code = Vec::new(alloc);
     let mut blocks = Vec::new(alloc);
-    link_outlines(&mut code, &mut blocks, &whole, &views, &outlines)?;
+    link_outlines(&mut code, &mut blocks, &whole, &views, &groups, &outlines)?;
     image_with(alloc, set, shapes, &outlines, views, code, blocks)
 }

@@ -5,7 +5,8 @@ ghost use Rattle.hal_storage.specs.sets.SeenBodies.{seen_body};
 ghost use Rattle.hal_storage.specs.sets.SeenSets.{seen_set};
 ghost use Rattle.hal_gen_expr.specs.SeenSites.{lent_place, seen_site, seen_numbering, IsSite};
 ghost use Rattle.hal_gen_expr.specs.Numbering.{numbering_with};
-ghost use Rattle.hal_meaning.specs.LockGroups.{groups_of};
+ghost use Rattle.hal_lock_groups.specs.Gathering.{bits_for};
+ghost use Rattle.hal_lock_groups.specs.Updates.{AreGroups};
 ghost use Rattle.hal_meaning.specs.Runs.{places_of_process};
 ghost use Rattle.hal_meaning.specs.Sets as sets;
 ghost use Rattle.hal_link.specs.Finding as finding;
@@ -25,9 +26,9 @@ use crate::views::push_phrases;
 use hal_code::{Block, Instr, View};
 use hal_gen::Locks;
 use hal_gen_expr::{Calls, Site, body_at};
-use hal_lock_groups::groups_of;
+use hal_lock_groups::groups_at;
 use hal_storage::own_places::Place;
-use hal_storage::sets::{Body, Set};
+use hal_storage::sets::Body;
 use std::alloc::{AllocError, Global};
 
 /// The calls of code that calls no unit.
@@ -69,14 +70,14 @@ pub(crate) fn site_in<'a>(
     }
 }
 
-/// The lock groups of the UPDATE blocks of a unit, by its marks.
+/// The lock groups of the UPDATE blocks of a unit, by its marks and those of all UPDATE blocks.
 #[tactic(auto, using(hal_storage::proofs::elements::Repeated::behind, hal_storage::proofs::elements::Repeated::none_behind))]
-fn locks_of(alloc: Global, set: &Set<'_>, marks: &[usize]) -> Result<Vec<u16>, AllocError>
-    ensures { IfOk result (λ list. list.items ≡ map (groups_of (seen_set set.now).phrases (seen_set set.now).constants) marks.now) }
+fn locks_of(alloc: Global, groups: &[u16], marks: &[usize]) -> Result<Vec<u16>, AllocError>
+    ensures { IfOk result (λ list. list.items ≡ map (bits_for groups.now) marks.now) }
 {
     let mut list = Vec::new(alloc);
     for mark in marks {
-        list.push(groups_of(alloc, set.names, set.known, *mark)?)?;
+        list.push(groups_at(groups, *mark))?;
     }
     Ok(list)
 }
@@ -99,20 +100,22 @@ fn link_unit(
     blocks: &mut Vec<Block>,
     whole: &Site<'_>,
     views: &[View],
+    groups: &[u16],
     places: &[&Place],
     outline: &Outline,
     unit: usize,
 ) -> Result<(), Unlinked>
     requires whole { IsSite whole.now }
     requires places { map lent_place places.now ≡ places_of_process (seen_set whole.now.set.now) outline.now.process }
+    requires groups { AreGroups (seen_set whole.now.set.now).phrases (seen_set whole.now.set.now).constants groups.now }
     ensures { Links (linking.with_unit (seen_set whole.now.set.now) (outlines.numbering_of whole.now.shapes.now views.now (seen_outline outline.now)) outline.now.process (linking.linked code.old.items blocks.old.items) (sets.body_at (seen_set whole.now.set.now) unit)) result code.new.items blocks.new.items }
 {
     let Some(body) = body_at(whole, unit) else {
         return Err(Unlinked::Lost);
     };
     let site = site_in(whole, places, body, views, calls_of(outline));
-    let groups = locks_of(whole.alloc, whole.set, &body.marks)?;
-    let locks = Locks { groups: &groups };
+    let found = locks_of(whole.alloc, groups, &body.marks)?;
+    let locks = Locks { groups: &found };
     link_unit_at(code, blocks, &site, &locks, outline.process, body)
 }
 
@@ -123,16 +126,18 @@ fn link_units(
     blocks: &mut Vec<Block>,
     whole: &Site<'_>,
     views: &[View],
+    groups: &[u16],
     places: &[&Place],
     outline: &Outline,
     units: &[usize],
 ) -> Result<(), Unlinked>
     requires whole { IsSite whole.now }
     requires places { map lent_place places.now ≡ places_of_process (seen_set whole.now.set.now) outline.now.process }
+    requires groups { AreGroups (seen_set whole.now.set.now).phrases (seen_set whole.now.set.now).constants groups.now }
     ensures { Links (linking.with_units (seen_set whole.now.set.now) (outlines.numbering_of whole.now.shapes.now views.now (seen_outline outline.now)) outline.now.process units.now (linking.linked code.old.items blocks.old.items)) result code.new.items blocks.new.items }
 {
     for unit in units {
-        link_unit(code, blocks, whole, views, places, outline, *unit)?;
+        link_unit(code, blocks, whole, views, groups, places, outline, *unit)?;
     }
     Ok(())
 }
@@ -144,19 +149,21 @@ fn link_process(
     blocks: &mut Vec<Block>,
     whole: &Site<'_>,
     views: &[View],
+    groups: &[u16],
     places: &[&Place],
     outline: &Outline,
 ) -> Result<(), Unlinked>
     requires whole { IsSite whole.now }
     requires places { map lent_place places.now ≡ places_of_process (seen_set whole.now.set.now) outline.now.process }
+    requires groups { AreGroups (seen_set whole.now.set.now).phrases (seen_set whole.now.set.now).constants groups.now }
     ensures { Links (linking.with_process (seen_set whole.now.set.now) (outlines.numbering_of whole.now.shapes.now views.now (seen_outline outline.now)) outline.now.process (linking.linked code.old.items blocks.old.items) (sets.body_at (seen_set whole.now.set.now) outline.now.unit)) result code.new.items blocks.new.items }
 {
     let Some(body) = body_at(whole, outline.unit) else {
         return Err(Unlinked::Lost);
     };
     let site = site_in(whole, places, body, views, calls_of(outline));
-    let groups = locks_of(whole.alloc, whole.set, &body.marks)?;
-    let locks = Locks { groups: &groups };
+    let found = locks_of(whole.alloc, groups, &body.marks)?;
+    let locks = Locks { groups: &found };
     link_process_at(code, blocks, &site, &locks, outline.process, body)
 }
 
@@ -167,10 +174,12 @@ fn link_outline(
     blocks: &mut Vec<Block>,
     whole: &Site<'_>,
     views: &[View],
+    groups: &[u16],
     outline: &Outline,
 ) -> Result<(), Unlinked>
     requires whole { IsSite whole.now }
     requires laid { IsLaid whole.now.set.now }
+    requires groups { AreGroups (seen_set whole.now.set.now).phrases (seen_set whole.now.set.now).constants groups.now }
     ensures { Links (linking.with_outline (seen_set whole.now.set.now) whole.now.shapes.now views.now (seen_outline outline.now) (linking.linked code.old.items blocks.old.items)) result code.new.items blocks.new.items }
 {
     let places = places_of(
@@ -183,11 +192,12 @@ fn link_outline(
         blocks,
         whole,
         views,
+        groups,
         &places,
         outline,
         &outline.called,
     )?;
-    link_process(code, blocks, whole, views, &places, outline)
+    link_process(code, blocks, whole, views, groups, &places, outline)
 }
 
 /// Adds the code and the blocks of these processes, one behind the other.
@@ -197,14 +207,16 @@ pub(crate) fn link_outlines(
     blocks: &mut Vec<Block>,
     whole: &Site<'_>,
     views: &[View],
+    groups: &[u16],
     list: &[Outline],
 ) -> Result<(), Unlinked>
     requires whole { IsSite whole.now }
     requires laid { IsLaid whole.now.set.now }
+    requires groups { AreGroups (seen_set whole.now.set.now).phrases (seen_set whole.now.set.now).constants groups.now }
     ensures { Links (linking.with_outlines (seen_set whole.now.set.now) whole.now.shapes.now views.now (map seen_outline list.now) (linking.linked code.old.items blocks.old.items)) result code.new.items blocks.new.items }
 {
     for outline in list {
-        link_outline(code, blocks, whole, views, outline)?;
+        link_outline(code, blocks, whole, views, groups, outline)?;
     }
     Ok(())
 }

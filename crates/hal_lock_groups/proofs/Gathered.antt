@@ -1,7 +1,7 @@
 -- The bits that are gathered phrase by phrase are the lock groups of the UPDATE block.
-use Rattle.std.proofs.Common.{◌≡◌, ◌∙◌, ◌<◌, ◌≤◌, ◌+◌, ◌-◌, ◌*◌, ◌^◌, ℕ, zero, suc, max, bit_or, Bool, true, false, ◌&&◌, ◌||◌, List, [], ◌∷◌, Some, None, filter_map, if◌then◌else◌, refl, sym, ap, ap₂, subst, inl, inr, ◌⊎◌, arith, one-mul, zero-mul, pow-suc}
+use Rattle.std.proofs.Common.{◌≡◌, ◌∙◌, ◌<◌, ◌≤◌, ◌+◌, ◌-◌, ◌*◌, ◌^◌, ℕ, zero, suc, max, bit_or, Bool, true, false, ◌&&◌, ◌||◌, List, [], ◌∷◌, Some, None, if◌then◌else◌, refl, sym, ap, ap₂, subst, inl, inr, ◌⊎◌, arith, one-mul, zero-mul, pow-suc}
 use Rattle.std.specs.Int.{bit_at}
-use Rattle.std.specs.List.{list_any, cons_option}
+use Rattle.std.specs.List.{list_any}
 use Rattle.std.proofs.lemmas.Bool.{cases_lt}
 use Rattle.std.proofs.lemmas.Nat.{or_lt}
 use Rattle.std.proofs.lemmas.Nat.Bits.{bit_at-zero, bit_at_or, bit_at_cat_low, bit_at_cat_high, same_from_bits_below}
@@ -14,12 +14,24 @@ use Rattle.hal_meaning.specs.Places.{Storing}
 use Rattle.hal_meaning.specs.LockGroups.{is_plain, is_locked_by, is_inside, is_called_in, named_storing, has_group, group_bits, groups_of}
 use Rattle.hal_lock_groups.specs.Naming.{all_storings, storing_named}
 use Rattle.hal_lock_groups.specs.Shared.{Shared, plain_homes, shared_of, calls_one}
-use Rattle.hal_lock_groups.specs.Groups.{bits_at, with_bits, with_all_bits, bits_in, block_at, blocks_among}
-use Rattle.hal_lock_groups.specs.Updates.{is_update, block, update_block, update_groups}
+use Rattle.hal_lock_groups.specs.Groups.{bits_at}
 use Rattle.hal_lock_groups.proofs.Tests.{same_any, led_to}
 use Rattle.hal_lock_groups.proofs.Named.{named_stored}
 use Rattle.hal_lock_groups.proofs.Called.{called}
 use Rattle.hal_lock_groups.proofs.Bits.{as_bit, uses, used_bit, used_below}
+
+-- bits, and those of one more phrase where it stands in the UPDATE block with this number
+abbrev pub with_bits : List Phrase → Shared → ℕ → ℕ → Phrase → ℕ
+with_bits ps s u bits p = if is_inside u p then bit_or bits (bits_at ps s p) else bits
+
+-- those of more phrases
+unfoldable pub with_all_bits : List Phrase → Shared → ℕ → ℕ → List Phrase → ℕ
+with_all_bits ps s u bits [] = bits
+with_all_bits ps s u bits (p ∷ qs) = with_all_bits ps s u (with_bits ps s u bits p) qs
+
+-- those of the UPDATE block with this number
+abbrev pub bits_in : List Phrase → Shared → ℕ → ℕ
+bits_in ps s u = with_all_bits ps s u 0 ps
 
 -- whether a phrase stands in the UPDATE block with this number and uses a group
 abbrev pub uses_in : List Phrase → Shared → ℕ → ℕ → Phrase → Bool
@@ -126,15 +138,3 @@ same_bits ps vs u g h =
 pub all_bits : (ps : List Phrase) (vs : Known) (u : ℕ) → bits_in ps (shared_of ps vs) u ≡ groups_of ps vs u
 all_bits ps vs u =
     same_from_bits_below 16 (bits_in ps (shared_of ps vs) u) (group_bits ps vs u 16) (gathered_below ps (shared_of ps vs) u 0 ps (omega arith)) (meant_below ps vs u 16) (same_bits ps vs u)
-
--- the UPDATE blocks of a set
-one_block : (ps : List Phrase) (vs : Known) (p : Phrase) → block_at ps (shared_of ps vs) p ≡ update_block ps vs p
-one_block ps vs p = ap (λ (n : ℕ). if is_update p.node then Some (block p.number n) else None) (all_bits ps vs p.number)
-
-some_blocks : (ps : List Phrase) (vs : Known) (qs : List Phrase) → filter_map (block_at ps (shared_of ps vs)) qs ≡ filter_map (update_block ps vs) qs
-some_blocks ps vs [] = refl
-some_blocks ps vs (p ∷ qs) = ap₂ cons_option (one_block ps vs p) (some_blocks ps vs qs)
-
-pub all_blocks : (ps : List Phrase) (vs : Known) → blocks_among ps (shared_of ps vs) ps ≡ update_groups ps vs
-unfolding blocks_among update_groups
-all_blocks ps vs = some_blocks ps vs ps

@@ -4,3 +4,4 @@ pub mod Homes
 pub mod Called
 pub mod Bits
 pub mod Gathered
+pub mod Gathering

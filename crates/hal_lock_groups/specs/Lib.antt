@@ -2,4 +2,5 @@ pub mod Updates
 pub mod Naming
 pub mod Shared
 pub mod Groups
+pub mod Gathering
 pub mod SeenShared

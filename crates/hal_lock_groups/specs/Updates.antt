@@ -1,9 +1,13 @@
 -- The UPDATE blocks of a set with their lock groups.
-use Rattle.std.specs.Prelude.{ℕ, Bool, true, false, List, Option, Some, None, filter_map, if◌then◌else◌}
+use Rattle.std.specs.Prelude.{◌≡◌, ℕ, Bool, true, false, List, Option, Some, None, filter_map, slice_get, unwrap_or, if◌then◌else◌}
 use Rattle.hal_phrases.specs.Phrases.{Node, Phrase, OfUpdate}
 use Rattle.hal_constants.specs.Known.{Known}
 use Rattle.hal_meaning.specs.LockGroups.{groups_of}
 use Rattle.hal_lock_groups.specs.declared.block.UpdateGroups.{UpdateGroups}
+
+-- a list has the groups of each UPDATE block of a set, at the number of its phrase; 0 at the numbers of other phrases, and behind its end
+abbrev pub AreGroups : List Phrase → Known → List ℕ → Type 0
+AreGroups ps vs list = (u : ℕ) → unwrap_or (slice_get list u) 0 ≡ groups_of ps vs u
 
 -- whether a phrase is an UPDATE block
 abbrev pub is_update : Node → Bool

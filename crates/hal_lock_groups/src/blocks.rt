@@ -4,14 +4,12 @@ ghost use Rattle.std.specs.Prelude.{◌≡◌, IfOk};
 ghost use Rattle.hal_phrases.specs.SeenPhrases.{seen_node};
 ghost use Rattle.hal_names.specs.SeenNames.{seen_names};
 ghost use Rattle.hal_constants.specs.SeenKnown.{seen_known};
-ghost use Rattle.hal_meaning.specs.LockGroups as locks;
-ghost use Rattle.hal_lock_groups.specs.Groups as groups;
-ghost use Rattle.hal_lock_groups.specs.SeenShared.{seen_shared};
+ghost use Rattle.hal_lock_groups.specs.Gathering as gathering;
 ghost use Rattle.hal_lock_groups.specs.Updates as updates;
 
+use crate::adding::gathered;
 use crate::block::UpdateGroups;
-use crate::groups::bits_in;
-use crate::shared::{Shared, shared_of};
+use crate::shared::shared_of;
 use hal_constants::Known;
 use hal_names::Names;
 use hal_phrases::Node;
@@ -30,14 +28,24 @@ fn is_update(node: Node<'_>) -> bool
     }
 }
 
-/// The UPDATE blocks of a set with their groups, by what is shared in it.
-#[tactic(auto, unfolding(crate::specs::Groups::blocks_among))]
+/// The lock groups of the UPDATE block with this number by the list of all: 0 behind its end (language document, Lock groups).
+pub fn groups_at(list: &[u16], update: usize) -> u16
+    ensures { result ≡ gathering.bits_for list.now update }
+{
+    match list.get(update) {
+        None => 0,
+        Some(bits) => *bits,
+    }
+}
+
+/// The UPDATE blocks of a set, with what a list has for each.
+#[tactic(auto, unfolding(crate::specs::Gathering::blocks_among))]
 fn blocks_with(
     alloc: Global,
     names: &Names<'_>,
-    shared: &Shared,
+    groups: &[u16],
 ) -> Result<Vec<UpdateGroups>, AllocError>
-    ensures { IfOk result (λ list. list.items ≡ groups.blocks_among (seen_names names.now) (seen_shared shared.now) (seen_names names.now)) }
+    ensures { IfOk result (λ list. list.items ≡ gathering.blocks_among groups.now (seen_names names.now)) }
 {
     let mut list = Vec::new(alloc);
     let phrases = names.phrases();
@@ -45,29 +53,25 @@ fn blocks_with(
         if is_update(phrase.node) {
             list.push(UpdateGroups {
                 update: phrase.number,
-                groups: bits_in(names, shared, phrase.number),
+                groups: groups_at(groups, phrase.number),
             })?;
         }
     }
     Ok(list)
 }
 
-/// The lock groups of the UPDATE block with this number, a bit for each (language document, Lock groups).
-#[tactic(auto, using(crate::proofs::Gathered::all_bits))]
-pub fn groups_of(
-    alloc: Global,
-    names: &Names<'_>,
-    known: &Known,
-    update: usize,
-) -> Result<u16, AllocError>
-    ensures { IfOk result (λ groups. groups ≡ locks.groups_of (seen_names names.now) (seen_known known.now) update) }
+/// The lock groups of all UPDATE blocks of a set of files, a bit for each, at the numbers of their phrases: 0 at other numbers, and behind the end of the list (language
+/// document, Lock groups).
+#[tactic(auto, using(crate::proofs::Gathering::all_gathered))]
+pub fn all_groups(alloc: Global, names: &Names<'_>, known: &Known) -> Result<Vec<u16>, AllocError>
+    ensures { IfOk result (λ list. updates.AreGroups (seen_names names.now) (seen_known known.now) list.items) }
 {
     let shared = shared_of(alloc, names, known)?;
-    Ok(bits_in(names, &shared, update))
+    gathered(alloc, names, &shared)
 }
 
 /// The UPDATE blocks of a set of files, in order, each with its lock groups (language document, Lock groups).
-#[tactic(auto, using(crate::proofs::Gathered::all_blocks))]
+#[tactic(auto, using(crate::proofs::Gathering::all_blocks))]
 pub fn update_groups(
     alloc: Global,
     names: &Names<'_>,
@@ -75,6 +79,6 @@ pub fn update_groups(
 ) -> Result<Vec<UpdateGroups>, AllocError>
     ensures { IfOk result (λ list. list.items ≡ updates.update_groups (seen_names names.now) (seen_known known.now)) }
 {
-    let shared = shared_of(alloc, names, known)?;
-    blocks_with(alloc, names, &shared)
+    let groups = all_groups(alloc, names, known)?;
+    blocks_with(alloc, names, &groups)
 }

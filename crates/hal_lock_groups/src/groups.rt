@@ -1,10 +1,9 @@
-//! The lock groups of an UPDATE block.
+//! The lock groups that a phrase uses.
 
 ghost use Rattle.std.specs.Prelude.{◌≡◌};
 ghost use Rattle.hal_phrases.specs.SeenPhrases.{seen_phrase};
 ghost use Rattle.hal_names.specs.SeenNames.{seen_names};
 ghost use Rattle.hal_storage.specs.cells.SeenStoring.{seen_storing};
-ghost use Rattle.hal_meaning.specs.LockGroups as locks;
 ghost use Rattle.hal_lock_groups.specs.Groups as groups;
 ghost use Rattle.hal_lock_groups.specs.SeenShared.{seen_shared};
 
@@ -34,7 +33,7 @@ fn bit_stored(storing: Storing) -> u16
 }
 
 /// The bits of the groups that a phrase uses: that of the data that it names, and that of group 0 where it calls a unit that uses it.
-fn bits_at(names: &Names<'_>, shared: &Shared, phrase: &Phrase<'_>) -> u16
+pub(crate) fn bits_at(names: &Names<'_>, shared: &Shared, phrase: &Phrase<'_>) -> u16
     ensures { result ≡ groups.bits_at (seen_names names.now) (seen_shared shared.now) (seen_phrase phrase.now) }
 {
     let bit = bit_stored(storing_named(names, &shared.storings, phrase));
@@ -43,51 +42,4 @@ fn bits_at(names: &Names<'_>, shared: &Shared, phrase: &Phrase<'_>) -> u16
     } else {
         bit
     }
-}
-
-/// Whether the UPDATE block around a phrase, where there is one, is that with this number.
-fn is_this(around: Option<usize>, update: usize) -> bool
-    ensures { result ≡ groups.is_this around update }
-{
-    match around {
-        None => false,
-        Some(number) => number == update,
-    }
-}
-
-/// Whether a phrase stands in the UPDATE block with this number.
-fn is_inside(update: usize, phrase: &Phrase<'_>) -> bool
-    ensures { result ≡ locks.is_inside update (seen_phrase phrase.now) }
-{
-    is_this(phrase.around.update, update)
-}
-
-/// Bits, and those of the groups that a phrase uses where it stands in the UPDATE block with this number.
-fn with_bits(
-    names: &Names<'_>,
-    shared: &Shared,
-    update: usize,
-    bits: u16,
-    phrase: &Phrase<'_>,
-) -> u16
-    ensures { result ≡ groups.with_bits (seen_names names.now) (seen_shared shared.now) update bits (seen_phrase phrase.now) }
-{
-    if is_inside(update, phrase) {
-        bits | bits_at(names, shared, phrase)
-    } else {
-        bits
-    }
-}
-
-/// The bits of the lock groups of the UPDATE block with this number, by what is shared in the set.
-#[tactic(auto, unfolding(crate::specs::Groups::with_all_bits))]
-pub(crate) fn bits_in(names: &Names<'_>, shared: &Shared, update: usize) -> u16
-    ensures { result ≡ groups.bits_in (seen_names names.now) (seen_shared shared.now) update }
-{
-    let mut bits = 0;
-    let phrases = names.phrases();
-    for phrase in phrases {
-        bits = with_bits(names, shared, update, bits, phrase);
-    }
-    bits
 }

@@ -1,6 +1,7 @@
 //! The lock groups that the UPDATE blocks of a set of files use.
 #![tactic(auto)]
 
+mod adding;
 mod block;
 mod blocks;
 mod groups;
@@ -9,4 +10,4 @@ mod plain;
 mod shared;
 
 pub use block::UpdateGroups;
-pub use blocks::{groups_of, update_groups};
+pub use blocks::{all_groups, groups_at, update_groups};

@@ -1,8 +1,6 @@
 use Rattle.std.proofs.Common.{◌≡◌, ◌++◌, map, drop}
-use Rattle.hal_meaning.specs.LockGroups.{groups_of}
-use Rattle.hal_storage.specs.sets.SeenSets.{seen_set}
+use Rattle.hal_lock_groups.specs.Gathering.{bits_for}
 use Rattle.hal_link.proofs.linking.locks_of.Given as goal
 
 abbrev pub invariant-loop-mark : goal.invariant-loop-mark
-invariant-loop-mark l =
-    l.list.items ++ map (groups_of (seen_set l.set).phrases (seen_set l.set).constants) (drop l.mark-index l.marks) ≡ map (groups_of (seen_set l.set).phrases (seen_set l.set).constants) l.marks
+invariant-loop-mark l = l.list.items ++ map (bits_for l.groups) (drop l.mark-index l.marks) ≡ map (bits_for l.groups) l.marks
