@@ -143,7 +143,7 @@ module _ (n : Numbering) (site : Site) (front : List Instr) where
   passed_behind false whole plain whole_there plain_there is late = late
 
   -- an operand of AND or OR behind a value that is a condition where it has to be one, and those behind it
-  operand_step : Place → Op2 → Bool → Expression → Expressions → List Instr → Emitted
+  abbrev operand_step : Place → Op2 → Bool → Expression → Expressions → List Instr → Emitted
   operand_step place op condition first others begun =
       onwards (expression_code n site begun first)
       (λ middle. onwards (operand_code middle place (becomes_condition condition first))

@@ -24,15 +24,17 @@ pub expressions::emit_expression-returns-in_ok-emit_expression-in-Or : goal.expr
 expressions::emit_expression-returns-in_ok-emit_expression-in-Or t c =
     let shape : codes.expression_code (seen_numbering c.args.site.now) (seen_site c.args.site.now) c.args.code.now.items (seen_expression c.args.tree.now) ≡ onwards (codes.expression_code (seen_numbering c.args.site.now) (seen_site c.args.site.now) c.args.code.now.items (seen_expression c.in-Or.first.value)) (λ (middle : List Instr). codes.joined_code (seen_numbering c.args.site.now) (seen_site c.args.site.now) middle c.in-Or.place op2.Or (is_condition (seen_expression c.in-Or.first.value)) (expressions (map seen_expression c.in-Or.others.items))) =
     ap (λ tree. codes.expression_code (seen_numbering c.args.site.now) (seen_site c.args.site.now) c.args.code.now.items (seen_expression tree)) c.in-Or.is ∙ ap (λ tree. codes.expression_code (seen_numbering c.args.site.now) (seen_site c.args.site.now) c.args.code.now.items tree) (made_or c.in-Or.place c.in-Or.first c.in-Or.others) in
-    let there : codes.expression_code (seen_numbering c.args.site.now) (seen_site c.args.site.now) c.args.code.now.items (seen_expression c.in-Or.first.value) ≡ Ok c.emit_expression-in-Or.new.code.items = search (rules, c.in_ok-emit_expression-in-Or.ensures, c.deref-in-Or.ensures) in
-    went_on (codes.expression_code (seen_numbering c.args.site.now) (seen_site c.args.site.now) c.args.code.now.items (seen_expression c.args.tree.now)) (codes.expression_code (seen_numbering c.args.site.now) (seen_site c.args.site.now) c.args.code.now.items (seen_expression c.in-Or.first.value)) (λ (middle : List Instr). codes.joined_code (seen_numbering c.args.site.now) (seen_site c.args.site.now) middle c.in-Or.place op2.Or (is_condition (seen_expression c.in-Or.first.value)) (expressions (map seen_expression c.in-Or.others.items))) c.emit_expression-in-Or.new.code.items c.emit_folded.new.code.items c.emit_folded.result shape there c.emit_folded.ensures
+    let there : codes.expression_code (seen_numbering c.args.site.now) (seen_site c.args.site.now) c.args.code.now.items (seen_expression c.in-Or.first.value) ≡ Ok c.emit_expression.new.code.items = search (rules, c.in_ok-emit_expression-in-Or.ensures, c.deref.ensures) in
+    let rest : Emits (codes.joined_code (seen_numbering c.args.site.now) (seen_site c.args.site.now) c.emit_expression.new.code.items c.in-Or.place op2.Or (is_condition (seen_expression c.in-Or.first.value)) (expressions (map seen_expression c.in-Or.others.items))) c.emit_joined.result c.emit_joined.new.code.items = search (rules, c.emit_joined.ensures, c.is_condition.ensures, c.deref.ensures, c.deref-in-Or.ensures) in
+    went_on (codes.expression_code (seen_numbering c.args.site.now) (seen_site c.args.site.now) c.args.code.now.items (seen_expression c.args.tree.now)) (codes.expression_code (seen_numbering c.args.site.now) (seen_site c.args.site.now) c.args.code.now.items (seen_expression c.in-Or.first.value)) (λ (middle : List Instr). codes.joined_code (seen_numbering c.args.site.now) (seen_site c.args.site.now) middle c.in-Or.place op2.Or (is_condition (seen_expression c.in-Or.first.value)) (expressions (map seen_expression c.in-Or.others.items))) c.emit_expression.new.code.items c.emit_joined.new.code.items c.emit_joined.result shape there rest
 
 pub expressions::emit_expression-returns-in_ok-emit_expression-in-And : goal.expressions::emit_expression-returns-in_ok-emit_expression-in-And
 expressions::emit_expression-returns-in_ok-emit_expression-in-And t c =
     let shape : codes.expression_code (seen_numbering c.args.site.now) (seen_site c.args.site.now) c.args.code.now.items (seen_expression c.args.tree.now) ≡ onwards (codes.expression_code (seen_numbering c.args.site.now) (seen_site c.args.site.now) c.args.code.now.items (seen_expression c.in-And.first.value)) (λ (middle : List Instr). codes.joined_code (seen_numbering c.args.site.now) (seen_site c.args.site.now) middle c.in-And.place op2.And (is_condition (seen_expression c.in-And.first.value)) (expressions (map seen_expression c.in-And.others.items))) =
     ap (λ tree. codes.expression_code (seen_numbering c.args.site.now) (seen_site c.args.site.now) c.args.code.now.items (seen_expression tree)) c.in-And.is ∙ ap (λ tree. codes.expression_code (seen_numbering c.args.site.now) (seen_site c.args.site.now) c.args.code.now.items tree) (made_and c.in-And.place c.in-And.first c.in-And.others) in
     let there : codes.expression_code (seen_numbering c.args.site.now) (seen_site c.args.site.now) c.args.code.now.items (seen_expression c.in-And.first.value) ≡ Ok c.emit_expression-in-And.new.code.items = search (rules, c.in_ok-emit_expression-in-And.ensures, c.deref-in-And.ensures) in
-    went_on (codes.expression_code (seen_numbering c.args.site.now) (seen_site c.args.site.now) c.args.code.now.items (seen_expression c.args.tree.now)) (codes.expression_code (seen_numbering c.args.site.now) (seen_site c.args.site.now) c.args.code.now.items (seen_expression c.in-And.first.value)) (λ (middle : List Instr). codes.joined_code (seen_numbering c.args.site.now) (seen_site c.args.site.now) middle c.in-And.place op2.And (is_condition (seen_expression c.in-And.first.value)) (expressions (map seen_expression c.in-And.others.items))) c.emit_expression-in-And.new.code.items c.emit_folded.new.code.items c.emit_folded.result shape there c.emit_folded.ensures
+    let rest : Emits (codes.joined_code (seen_numbering c.args.site.now) (seen_site c.args.site.now) c.emit_expression-in-And.new.code.items c.in-And.place op2.And (is_condition (seen_expression c.in-And.first.value)) (expressions (map seen_expression c.in-And.others.items))) c.emit_joined-in-And.result c.emit_joined-in-And.new.code.items = search (rules, c.emit_joined-in-And.ensures, c.is_condition-in-And.ensures, c.deref-in-And.ensures, c.deref-in-And-2.ensures) in
+    went_on (codes.expression_code (seen_numbering c.args.site.now) (seen_site c.args.site.now) c.args.code.now.items (seen_expression c.args.tree.now)) (codes.expression_code (seen_numbering c.args.site.now) (seen_site c.args.site.now) c.args.code.now.items (seen_expression c.in-And.first.value)) (λ (middle : List Instr). codes.joined_code (seen_numbering c.args.site.now) (seen_site c.args.site.now) middle c.in-And.place op2.And (is_condition (seen_expression c.in-And.first.value)) (expressions (map seen_expression c.in-And.others.items))) c.emit_expression-in-And.new.code.items c.emit_joined-in-And.new.code.items c.emit_joined-in-And.result shape there rest
 
 pub expressions::emit_expression-returns-in_ok-emit_expression-in-Cat : goal.expressions::emit_expression-returns-in_ok-emit_expression-in-Cat
 expressions::emit_expression-returns-in_ok-emit_expression-in-Cat t c =
