@@ -6,3 +6,4 @@ mod Depths
 mod TakenTops
 mod Texts
 mod Spreads
+mod Twice

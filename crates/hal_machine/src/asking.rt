@@ -40,6 +40,22 @@ impl Setting<'_> {
 }
 
 impl Machine {
+    /// This is asked, and this is done with the answer.
+    pub fn asks(&mut self, setting: &Setting<'_>, request: Request, wait: Wait) -> Stepped
+        ensures { step_seen setting.now.image.now result self.new ≡ cores.Waits request (wait_seen setting.now.image.now wait) (core_seen self.old) }
+    {
+        self.request = request;
+        self.wait = wait;
+        Stepped::Waits
+    }
+
+    /// A turn is asked for, and nothing is done with the answer.
+    pub(crate) fn passes(&mut self, setting: &Setting<'_>) -> Stepped
+        ensures { step_seen setting.now.image.now result self.new ≡ cores.Waits request.Pass (cores.Then cores.Goes) (core_seen self.old) }
+    {
+        self.asks(setting, Request::Pass, Wait::Then(Rest::Nothing))
+    }
+
     /// BEGIN.
     pub fn begin(&mut self, setting: &Setting<'_>) -> Stepped
         requires { self.old.at < 2 ^ 64 - 1 }
@@ -47,23 +63,23 @@ impl Machine {
     {
         self.line.clear();
         self.at += 1;
-        Stepped::Waits(Request::Begin, Wait::Then(Rest::Nothing))
+        self.asks(setting, Request::Begin, Wait::Then(Rest::Nothing))
     }
 
     /// FINISH.
-    pub fn finish(&self, setting: &Setting<'_>) -> Stepped
-        ensures { step_seen setting.now.image.now result self.now ≡ cores.Waits request.Finish cores.Renews (core_seen self.now) }
+    pub fn finish(&mut self, setting: &Setting<'_>) -> Stepped
+        ensures { step_seen setting.now.image.now result self.new ≡ cores.Waits request.Finish cores.Renews (core_seen self.old) }
     {
-        Stepped::Waits(Request::Finish, Wait::Renews)
+        self.asks(setting, Request::Finish, Wait::Renews)
     }
 
     /// Something is asked behind the instruction.
-    fn asks(&mut self, setting: &Setting<'_>, request: Request, wait: Wait) -> Stepped
+    fn asks_behind(&mut self, setting: &Setting<'_>, request: Request, wait: Wait) -> Stepped
         requires { self.old.at < 2 ^ 64 - 1 }
         ensures { step_seen setting.now.image.now result self.new ≡ cores.Waits request (wait_seen setting.now.image.now wait) (going (suc self.old.at) (stack_seen self.old.operands) (core_seen self.old)) }
     {
         self.at += 1;
-        Stepped::Waits(request, wait)
+        self.asks(setting, request, wait)
     }
 
     /// INPUT.
@@ -71,7 +87,7 @@ impl Machine {
         requires { self.old.at < 2 ^ 64 - 1 }
         ensures { step_seen setting.now.image.now result self.new ≡ cores.Waits (request.Input channel kind) (cores.Takes target) (going (suc self.old.at) (stack_seen self.old.operands) (core_seen self.old)) }
     {
-        self.asks(
+        self.asks_behind(
             setting,
             Request::Input(channel, kind),
             Wait::Takes(target as usize),
@@ -83,7 +99,7 @@ impl Machine {
         requires { self.old.at < 2 ^ 64 - 1 }
         ensures { step_seen setting.now.image.now result self.new ≡ cores.Waits request.Now (cores.Pushes kind.Double) (going (suc self.old.at) (stack_seen self.old.operands) (core_seen self.old)) }
     {
-        self.asks(setting, Request::Now, Wait::Pushes(Kind::Double))
+        self.asks_behind(setting, Request::Now, Wait::Pushes(Kind::Double))
     }
 
     /// CANCEL.
@@ -94,7 +110,7 @@ impl Machine {
         self.at += 1;
         let process = setting.named(process);
         if setting.has_process(process) {
-            Stepped::Waits(Request::Cancel(process), Wait::Tried)
+            self.asks(setting, Request::Cancel(process), Wait::Tried)
         } else {
             self.stuck(setting)
         }
@@ -108,7 +124,7 @@ impl Machine {
         self.at += 1;
         let process = setting.named(process);
         if setting.has_process(process) {
-            Stepped::Waits(Request::Terminate(process), Wait::Tried)
+            self.asks(setting, Request::Terminate(process), Wait::Tried)
         } else {
             self.stuck(setting)
         }
@@ -121,7 +137,7 @@ impl Machine {
     {
         self.at += 1;
         if setting.has_event(event) {
-            Stepped::Waits(Request::Signal(event), Wait::Then(Rest::Nothing))
+            self.asks(setting, Request::Signal(event), Wait::Then(Rest::Nothing))
         } else {
             Stepped::Moves
         }
@@ -134,7 +150,7 @@ impl Machine {
     {
         self.at += 1;
         if setting.has_event(event) {
-            Stepped::Waits(Request::Set(event), Wait::Then(Rest::Nothing))
+            self.asks(setting, Request::Set(event), Wait::Then(Rest::Nothing))
         } else {
             Stepped::Moves
         }
@@ -147,7 +163,7 @@ impl Machine {
     {
         self.at += 1;
         if setting.has_event(event) {
-            Stepped::Waits(Request::Reset(event), Wait::Then(Rest::Nothing))
+            self.asks(setting, Request::Reset(event), Wait::Then(Rest::Nothing))
         } else {
             Stepped::Moves
         }
@@ -159,7 +175,7 @@ impl Machine {
         ensures { Does setting.now.image.now result self.new (act_event (setting_seen setting.now) event (core_seen self.old)) }
     {
         if setting.has_event(event) {
-            Ok(self.asks(
+            Ok(self.asks_behind(
                 setting,
                 Request::Read(Spot::Event(event)),
                 Wait::Pushes(Kind::Bits(1)),

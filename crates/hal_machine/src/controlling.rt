@@ -119,7 +119,7 @@ impl Machine {
         match self.groups {
             None => {
                 self.at += 1;
-                Stepped::Waits(Request::Pass, Wait::Then(Rest::Nothing))
+                self.passes(setting)
             }
             Some(_) if self.turns == 0 => {
                 self.at = target;
@@ -188,7 +188,7 @@ impl Machine {
     {
         self.blocks.enter(None)?;
         self.at += 1;
-        Ok(Stepped::Waits(Request::Update(groups), Wait::Opens(groups)))
+        Ok(self.asks(setting, Request::Update(groups), Wait::Opens(groups)))
     }
 
     /// The block that runs is put under the one that it calls.
@@ -225,7 +225,7 @@ impl Machine {
         match self.groups {
             None => {
                 self.call_to(setting, block)?;
-                Ok(Stepped::Waits(Request::Pass, Wait::Then(Rest::Nothing)))
+                Ok(self.passes(setting))
             }
             Some(_) if self.turns == 0 => self.call_spent(setting, block),
             Some(_) => {

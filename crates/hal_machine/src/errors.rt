@@ -36,10 +36,10 @@ impl Setting<'_> {
 
 impl Machine {
     /// No instruction is there that fits the operands.
-    pub fn stuck(&self, setting: &Setting<'_>) -> Stepped
-        ensures { step_seen setting.now.image.now result self.now ≡ raising.stuck (core_seen self.now) }
+    pub fn stuck(&mut self, setting: &Setting<'_>) -> Stepped
+        ensures { step_seen setting.now.image.now result self.new ≡ raising.stuck (core_seen self.old) }
     {
-        Stepped::Waits(Request::Stop(NO_ERROR), Wait::Halts(NO_ERROR))
+        self.asks(setting, Request::Stop(NO_ERROR), Wait::Halts(NO_ERROR))
     }
 
     /// Whether an UPDATE block is entered whose turns are used up.
@@ -97,12 +97,12 @@ impl Machine {
     }
 
     /// The error ends the process.
-    pub(crate) fn ended(&self, setting: &Setting<'_>, error: ErrNo, side: Side) -> Stepped
-        ensures { step_seen setting.now.image.now result self.now ≡ raising.sided (setting_seen setting.now) self.now.groups side (cores.Halts error) (cores.Waits (Request.Stop error) (cores.Halts error) (core_seen self.now)) (core_seen self.now) }
+    pub(crate) fn ended(&mut self, setting: &Setting<'_>, error: ErrNo, side: Side) -> Stepped
+        ensures { step_seen setting.now.image.now result self.new ≡ raising.sided (setting_seen setting.now) self.old.groups side (cores.Halts error) (cores.Waits (Request.Stop error) (cores.Halts error) (core_seen self.old)) (core_seen self.old) }
     {
         match self.change(setting, side) {
-            Some(request) => Stepped::Waits(request, Wait::Halts(error)),
-            None => Stepped::Waits(Request::Stop(error), Wait::Halts(error)),
+            Some(request) => self.asks(setting, request, Wait::Halts(error)),
+            None => self.asks(setting, Request::Stop(error), Wait::Halts(error)),
         }
     }
 
@@ -112,7 +112,7 @@ impl Machine {
     {
         self.cut(level, target as usize);
         match self.groups {
-            None => Stepped::Waits(Request::Pass, Wait::Then(Rest::Nothing)),
+            None => self.passes(setting),
             Some(_) if self.turns == 0 => self.stuck(setting),
             Some(_) => {
                 self.turns -= 1;
@@ -130,7 +130,7 @@ impl Machine {
         match found {
             Found::BySystem(side) => self.ended(setting, error, side),
             Found::Ignored(side) => match self.change(setting, side) {
-                Some(request) => Stepped::Waits(request, Wait::Then(Rest::Nothing)),
+                Some(request) => self.asks(setting, request, Wait::Then(Rest::Nothing)),
                 None => Stepped::Moves,
             },
             Found::ByStatement { level, target } => self.entered(setting, level, target),

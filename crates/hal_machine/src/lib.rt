@@ -9,6 +9,7 @@ mod blocks;
 mod computing;
 mod controlling;
 mod errors;
+mod integers;
 mod machine;
 mod operands;
 mod printing;

@@ -4,8 +4,9 @@ ghost use Rattle.std.specs.Prelude.{◌≤◌, length};
 
 use crate::blocks::Blocks;
 use crate::operands::{Operands, Place};
+use crate::step::Wait;
 use hal_code::ImageParts;
-use hal_values::{Cell, ErrNo, Value};
+use hal_values::{Cell, ErrNo, Request, Value};
 use std::alloc::Global;
 
 /// What an own place holds: a value, or what an ASSIGN parameter stands for.
@@ -31,6 +32,10 @@ pub struct Machine {
     pub store: Vec<Value>,
     pub writes: Vec<(u16, Value)>,
     pub turns: u32,
+    /// What the process asks, or asked last.
+    pub request: Request,
+    /// What is done with the answer.
+    pub wait: Wait,
 }
 
 /// What stays the same while a process runs.

@@ -84,7 +84,11 @@ impl Machine {
         let line = line_of(self.line.as_slice());
         self.line.clear();
         self.at += 1;
-        Stepped::Waits(Request::Print(channel, line), Wait::Then(Rest::Nothing))
+        self.asks(
+            setting,
+            Request::Print(channel, line),
+            Wait::Then(Rest::Nothing),
+        )
     }
 
     /// PRINT.

@@ -64,6 +64,17 @@ impl Machine {
         Ok(())
     }
 
+    /// The executive is asked to write a cell.
+    fn writes_to(&mut self, setting: &Setting<'_>, number: u16, one: Value) -> Stepped
+        ensures { step_seen setting.now.image.now result self.new ≡ cores.Waits (request.Write number one) (cores.Then cores.Goes) (core_seen self.old) }
+    {
+        self.asks(
+            setting,
+            Request::Write(number, one),
+            Wait::Then(Rest::Nothing),
+        )
+    }
+
     /// A cell that is there gets a value.
     fn put_cell(
         &mut self,
@@ -76,10 +87,7 @@ impl Machine {
         ensures { Does setting.now.image.now result self.new (raising.put_cell number cell.now one self.old.groups (core_seen self.old)) }
     {
         match self.groups {
-            None => Ok(Stepped::Waits(
-                Request::Write(number as u16, one),
-                Wait::Then(Rest::Nothing),
-            )),
+            None => Ok(self.writes_to(setting, number as u16, one)),
             Some(groups) => {
                 self.note(groups, number as u16, cell, one)?;
                 Ok(Stepped::Moves)
@@ -123,8 +131,8 @@ impl Machine {
         match found {
             Found::BySystem(side) => self.ended(setting, error, side),
             Found::Ignored(side) => match self.change(setting, side) {
-                Some(change) => Stepped::Waits(change, Wait::Then(Rest::Tries(request))),
-                None => Stepped::Waits(request, Wait::Tried),
+                Some(change) => self.asks(setting, change, Wait::Then(Rest::Tries(request))),
+                None => self.asks(setting, request, Wait::Tried),
             },
             Found::ByStatement { level, target } => self.entered(setting, level, target),
         }
@@ -135,7 +143,7 @@ impl Machine {
         ensures { step_seen setting.now.image.now result self.new ≡ raising.planned (setting_seen setting.now) plan (again_seen again) (core_seen self.old) }
     {
         if is_again(again) {
-            Stepped::Waits(Request::Schedule(plan), Wait::Tried)
+            self.asks(setting, Request::Schedule(plan), Wait::Tried)
         } else {
             self.raised_before_trying(setting, NO_CYCLE, Request::Schedule(plan))
         }
@@ -148,8 +156,8 @@ impl Machine {
         match rest {
             Rest::Nothing => Ok(Stepped::Moves),
             Rest::Puts(place, one) => self.put(setting, place, one),
-            Rest::Asks(request) => Ok(Stepped::Waits(request, Wait::Then(Rest::Nothing))),
-            Rest::Tries(request) => Ok(Stepped::Waits(request, Wait::Tried)),
+            Rest::Asks(request) => Ok(self.asks(setting, request, Wait::Then(Rest::Nothing))),
+            Rest::Tries(request) => Ok(self.asks(setting, request, Wait::Tried)),
             Rest::Plans(plan, again) => Ok(self.planned(setting, plan, again)),
         }
     }
@@ -164,7 +172,7 @@ impl Machine {
         ensures { Does setting.now.image.now result self.new (raising.sided (setting_seen setting.now) self.old.groups side (cores.Then (rest_seen rest)) (raising.rested (setting_seen setting.now) (rest_seen rest) (core_seen self.old)) (core_seen self.old)) }
     {
         match self.change(setting, side) {
-            Some(change) => Ok(Stepped::Waits(change, Wait::Then(rest))),
+            Some(change) => Ok(self.asks(setting, change, Wait::Then(rest))),
             None => self.rested(setting, rest),
         }
     }

@@ -52,7 +52,7 @@ impl Machine {
             None => self.stuck(setting),
             Some((pause, depth)) => {
                 self.take_off(depth);
-                Stepped::Waits(Request::Wait(pause), Wait::Then(Rest::Nothing))
+                self.asks(setting, Request::Wait(pause), Wait::Then(Rest::Nothing))
             }
         }
     }
@@ -63,7 +63,7 @@ impl Machine {
     {
         let request = Request::Priority(process, nearest_priority(priority));
         if is_priority(priority) {
-            Stepped::Waits(request, Wait::Tried)
+            self.asks(setting, request, Wait::Tried)
         } else {
             self.raised_before_trying(setting, WRONG_PRIORITY, request)
         }

@@ -52,10 +52,11 @@ pub enum Wait {
 }
 
 /// What an instruction comes to.
-#[derive(Drop)]
+#[derive(Clone, Copy)]
 pub enum Stepped {
     Moves,
     /// A turn of an UPDATE block was counted.
     Counts,
-    Waits(Request, Wait),
+    /// Something is asked; the machine knows what, and what is done with the answer.
+    Waits,
 }

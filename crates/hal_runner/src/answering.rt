@@ -32,7 +32,7 @@ fn begin(machine: &mut Machine, setting: &Setting<'_>) -> Stepped
     machine.store.clear();
     machine.writes.clear();
     machine.turns = 0;
-    Stepped::Waits(Request::Begin, Wait::Then(Rest::Nothing))
+    machine.asks(setting, Request::Begin, Wait::Then(Rest::Nothing))
 }
 
 /// An error that the answer is arises.
@@ -153,7 +153,7 @@ fn given(
         } => Ok(copied(machine, setting, reply.told(kind), shape, done, from, place)),
         Wait::Opens(groups) => Ok(entered(machine, setting, groups, reply)),
         Wait::Renews => Ok(begin(machine, setting)),
-        Wait::Halts(error) => Ok(Stepped::Waits(Request::Stop(error), Wait::Halts(error))),
+        Wait::Halts(error) => Ok(machine.asks(setting, Request::Stop(error), Wait::Halts(error))),
     }
 }
 

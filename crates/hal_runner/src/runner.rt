@@ -6,7 +6,7 @@ ghost use Rattle.hal_states.specs.Spots.{held_in};
 ghost use Rattle.hal_code.specs.declared.image.ImageParts.{ImageParts};
 ghost use Rattle.hal_code.specs.Courses.{settled, course};
 ghost use Rattle.hal_code.specs.Machine.{after_answer};
-ghost use Rattle.hal_machine.specs.Seen.{core_seen, setting_seen, held_seen, wait_seen};
+ghost use Rattle.hal_machine.specs.Seen.{core_seen, setting_seen};
 ghost use Rattle.hal_runner.specs.Replies.{reply_seen};
 ghost use Rattle.hal_runner.specs.Runners.{asked_seen};
 ghost use Rattle.hal_runner.specs.Ways.{AnswerFits, ShapesFit, WayFits};
@@ -16,7 +16,6 @@ use crate::copying::held_in;
 use crate::machines::{machine_of, places_of};
 use crate::moving::settle;
 use crate::reply::Reply;
-use crate::requests::{request_of, wait_of};
 use hal_machine::{Blocks, Machine, Operands, Rest, Setting, Wait};
 use hal_values::{ErrNo, Request, Value};
 use std::alloc::{AllocError, Global};
@@ -31,8 +30,6 @@ const NO_ERROR: ErrNo = ErrNo {
 #[derive(Drop)]
 pub struct Runner {
     machine: Machine,
-    request: Request,
-    wait: Wait,
 }
 
 impl Runner {
@@ -53,12 +50,10 @@ impl Runner {
             store: Vec::new(setting.alloc),
             writes: Vec::new(setting.alloc),
             turns: 0,
-        };
-        Ok(Runner {
-            machine,
             request: Request::Begin,
             wait: Wait::Then(Rest::Nothing),
-        })
+        };
+        Ok(Runner { machine })
     }
 
     /// The same process once more.
@@ -67,16 +62,14 @@ impl Runner {
     {
         Ok(Runner {
             machine: machine_of(alloc, &self.machine)?,
-            request: request_of(&self.request),
-            wait: wait_of(&self.wait),
         })
     }
 
     /// What the process asks.
     pub fn request(&self) -> &Request
-        ensures { result.now ≡ self.now.request }
+        ensures { result.now ≡ self.now.machine.request }
     {
-        &self.request
+        &self.machine.request
     }
 
     /// The value that an own place of the process holds.
@@ -108,11 +101,9 @@ impl Runner {
         requires way { WayFits (setting_seen setting.now) (after_answer (setting_seen setting.now) (asked_seen setting.now.image.now self.old).wait (reply_seen reply) (asked_seen setting.now.image.now self.old).core) }
         ensures { (answers : List Answered) → asked_seen setting.now.image.now self.old ≡ course (setting_seen setting.now) answers → OnOk result (asked_seen setting.now.image.now self.new ≡ course (setting_seen setting.now) (answers ++ (reply_seen reply ∷ []))) }
     {
-        let wait = std::mem::replace(&mut self.wait, Wait::Tried);
+        let wait = std::mem::replace(&mut self.machine.wait, Wait::Tried);
         let step = answered(&mut self.machine, setting, wait, reply)?;
-        let (request, wait) = settle(&mut self.machine, setting, step)?;
-        self.request = request;
-        self.wait = wait;
+        settle(&mut self.machine, setting, step)?;
         Ok(())
     }
 }

@@ -12,6 +12,6 @@ use Rattle.hal_runner.proofs.runner.Runner.answer.Goals as goal
 pub returns : goal.returns
 returns c = λ answers at.
     one_more (setting_seen c.args.setting.now) (asked_seen c.args.setting.now.image.now c.args.self.now) _ answers (reply_seen c.args.reply) at
-    (c.in_ok-request.ensures
+    (c.in_ok-settle.ensures
     ∙ ap (λ (step : Step). settled (setting_seen c.args.setting.now) step) c.in_ok-step.ensures
     ∙ ap (λ (wait : Wait). settled (setting_seen c.args.setting.now) (after_answer (setting_seen c.args.setting.now) (wait_seen c.args.setting.now.image.now wait) (reply_seen c.args.reply) (core_seen c.args.self.now.machine))) c.replace-wait.ensures.value)
