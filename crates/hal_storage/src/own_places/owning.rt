@@ -5,8 +5,10 @@ ghost use Rattle.hal_names.specs.SeenNames.{seen_names};
 ghost use Rattle.hal_constants.specs.SeenKnown.{seen_known};
 ghost use Rattle.hal_reach.specs.SeenUnits.{seen_reached};
 ghost use Rattle.hal_storage.specs.own_places.Owned as owned;
+ghost use Rattle.hal_storage.specs.own_places.PlacedGroups as placed;
 ghost use Rattle.hal_storage.specs.own_places.SeenPlaces.{seen_own, seen_place, seen_places};
 
+use crate::own_places::groups::PlacedGroups;
 use crate::own_places::place::{OwnPlaces, Place};
 use crate::own_places::places::push_block;
 use crate::own_places::sole::{are_several, is_sole};
@@ -21,14 +23,16 @@ fn common_places(
     alloc: Global,
     names: &Names<'_>,
     known: &Known,
+    groups: &PlacedGroups,
     units: &[Reached],
 ) -> Result<Vec<Place>, AllocError>
+    requires groups { placed.ArePlaced (seen_names names.now) groups.now }
     ensures { IfOk result (λ list. map seen_place list.items ≡ owned.common_among (seen_names names.now) (seen_known known.now) (map seen_reached units.now)) }
 {
     let mut list = Vec::new(alloc);
     for unit in units {
         if are_several(&unit.processes) {
-            push_block(alloc, &mut list, names, known, unit.unit)?;
+            push_block(alloc, &mut list, names, known, groups, unit.unit)?;
         }
     }
     Ok(list)
@@ -40,16 +44,18 @@ fn sole_places(
     alloc: Global,
     names: &Names<'_>,
     known: &Known,
+    groups: &PlacedGroups,
     units: &[Reached],
     all: &[usize],
     process: usize,
 ) -> Result<Vec<Place>, AllocError>
+    requires groups { placed.ArePlaced (seen_names names.now) groups.now }
     ensures { IfOk result (λ list. map seen_place list.items ≡ owned.sole_among (seen_names names.now) (seen_known known.now) (map seen_reached units.now) all.now process) }
 {
     let mut list = Vec::new(alloc);
     for unit in units {
         if is_sole(all, process, &unit.processes) {
-            push_block(alloc, &mut list, names, known, unit.unit)?;
+            push_block(alloc, &mut list, names, known, groups, unit.unit)?;
         }
     }
     Ok(list)
@@ -60,14 +66,16 @@ fn all_sole_places(
     alloc: Global,
     names: &Names<'_>,
     known: &Known,
+    groups: &PlacedGroups,
     units: &[Reached],
     all: &[usize],
 ) -> Result<Vec<Vec<Place>>, AllocError>
+    requires groups { placed.ArePlaced (seen_names names.now) groups.now }
     ensures { IfOk result (λ lists. map seen_places lists.items ≡ map (owned.sole_among (seen_names names.now) (seen_known known.now) (map seen_reached units.now) all.now) all.now) }
 {
     let mut lists = Vec::new(alloc);
     for process in all {
-        lists.push(sole_places(alloc, names, known, units, all, *process)?)?;
+        lists.push(sole_places(alloc, names, known, groups, units, all, *process)?)?;
     }
     Ok(lists)
 }
@@ -79,8 +87,9 @@ pub fn own_places(alloc: Global, names: &Names<'_>, known: &Known) -> Result<Own
 {
     let units = reached_of(alloc, names)?;
     let all = processes_of(alloc, names)?;
+    let groups = PlacedGroups::of(alloc, names)?;
     Ok(OwnPlaces {
-        common: common_places(alloc, names, known, &units)?,
-        processes: all_sole_places(alloc, names, known, &units, &all)?,
+        common: common_places(alloc, names, known, &groups, &units)?,
+        processes: all_sole_places(alloc, names, known, &groups, &units, &all)?,
     })
 }

@@ -2,22 +2,24 @@
 
 ghost use Rattle.std.specs.Prelude.{◌≡◌, [], ◌∷◌, ◌++◌, map, OnOk};
 ghost use Rattle.hal_tree.specs.SeenDeclarations.{seen_attribute, seen_declared};
-ghost use Rattle.hal_phrases.specs.SeenPhrases.{seen_node, seen_phrase};
+ghost use Rattle.hal_phrases.specs.SeenPhrases.{seen_phrase};
 ghost use Rattle.hal_names.specs.SeenNames.{seen_names};
 ghost use Rattle.hal_constants.specs.SeenKnown.{seen_known};
 ghost use Rattle.hal_storage.specs.cells.SeenStoring.{seen_storing};
 ghost use Rattle.hal_meaning.specs.Places as places;
 ghost use Rattle.hal_storage.specs.own_places.Owned as owned;
+ghost use Rattle.hal_storage.specs.own_places.PlacedGroups as placed;
 ghost use Rattle.hal_storage.specs.own_places.SeenPlaces.{seen_place};
 
 use crate::cells::{Storing, storing_of};
 use crate::elements::{kinds_of, shape_of};
 use crate::first_values::{first_values, nothing};
+use crate::own_places::groups::PlacedGroups;
 use crate::own_places::place::Place;
 use hal_constants::Known;
 use hal_kinds::is_marked;
 use hal_names::Names;
-use hal_phrases::{Node, Phrase, Role};
+use hal_phrases::{Node, Phrase};
 use hal_tree::{Attribute, Declared, Mark};
 use hal_values::{Kind, Value};
 use std::alloc::{AllocError, Global};
@@ -135,39 +137,12 @@ fn push_item(
     }
 }
 
-/// Whether a phrase says of the group that it belongs to that it is DO FOR or DO CASE.
-fn says_for_or_case(node: Node<'_>) -> bool
-    ensures { result ≡ places.says_for_or_case (seen_node node.entry) }
-{
-    match node {
-        Node::Variable { name: _ } => true,
-        Node::Expression {
-            role: Role::Case,
-            tree: _,
-        } => true,
-        _ => false,
-    }
-}
-
-/// Whether the group with this number is DO FOR or DO CASE.
-fn is_for_or_case(names: &Names<'_>, group: usize) -> bool
-    ensures { result ≡ places.is_for_or_case (seen_names names.now) group }
-{
-    let phrases = names.phrases();
-    for phrase in phrases {
-        if says_for_or_case(phrase.node) && phrase.around.parent == group {
-            return true;
-        }
-    }
-    false
-}
-
 /// Adds the places of a group without a TEMPORARY variable.
 #[tactic(auto, using(crate::proofs::elements::Repeated::none_behind))]
-fn push_group(into: &mut Vec<Place>, names: &Names<'_>, group: usize) -> Result<(), AllocError>
-    ensures { OnOk result (map seen_place into.new.items ≡ map seen_place into.old.items ++ owned.group (seen_names names.now) group) }
+fn push_group(into: &mut Vec<Place>, groups: &PlacedGroups, group: usize) -> Result<(), AllocError>
+    ensures { OnOk result (map seen_place into.new.items ≡ map seen_place into.old.items ++ placed.places_by groups.now group) }
 {
-    if is_for_or_case(names, group) {
+    if groups.has(group) {
         push_hidden(into, group, 4)
     } else {
         Ok(())
@@ -175,14 +150,16 @@ fn push_group(into: &mut Vec<Place>, names: &Names<'_>, group: usize) -> Result<
 }
 
 /// Adds the places of a phrase.
-#[tactic(auto, using(crate::proofs::elements::Repeated::none_behind))]
+#[tactic(auto, using(crate::proofs::elements::Repeated::none_behind, crate::proofs::own_places::Marked::group_placed))]
 fn push_phrase(
     alloc: Global,
     into: &mut Vec<Place>,
     names: &Names<'_>,
     known: &Known,
+    groups: &PlacedGroups,
     phrase: &Phrase<'_>,
 ) -> Result<(), AllocError>
+    requires groups { placed.ArePlaced (seen_names names.now) groups.now }
     ensures { OnOk result (map seen_place into.new.items ≡ map seen_place into.old.items ++ places.places_at (seen_names names.now) (seen_known known.now) (seen_phrase phrase.now) (seen_phrase phrase.now).node) }
 {
     let storing = storing_of(names, known, phrase);
@@ -197,7 +174,7 @@ fn push_phrase(
         Node::Group {
             labels: _,
             looping: _,
-        } => push_group(into, names, phrase.number),
+        } => push_group(into, groups, phrase.number),
         _ => Ok(()),
     }
 }
@@ -209,14 +186,16 @@ pub(crate) fn push_block(
     into: &mut Vec<Place>,
     names: &Names<'_>,
     known: &Known,
+    groups: &PlacedGroups,
     block: usize,
 ) -> Result<(), AllocError>
+    requires groups { placed.ArePlaced (seen_names names.now) groups.now }
     ensures { OnOk result (map seen_place into.new.items ≡ map seen_place into.old.items ++ places.places_in (seen_names names.now) (seen_known known.now) block) }
 {
     let phrases = names.phrases();
     for phrase in phrases {
         if phrase.around.home == block {
-            push_phrase(alloc, into, names, known, phrase)?;
+            push_phrase(alloc, into, names, known, groups, phrase)?;
         }
     }
     Ok(())
