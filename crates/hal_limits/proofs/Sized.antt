@@ -1,5 +1,5 @@
 -- Data have as many cells or places as their shape has elements.
-use Rattle.std.proofs.Common.{◌≡◌, ◌∙◌, ◌*◌, ℕ, zero, suc, min, Bool, List, [], ◌∷◌, Option, Some, None, length, map, flat_map, unwrap_or, refl, sym, ap, arith, length-append}
+use Rattle.std.proofs.Common.{◌≡◌, ◌∙◌, ◌*◌, ℕ, zero, suc, min, Bool, true, false, List, [], ◌∷◌, Option, Some, None, length, map, flat_map, unwrap_or, if◌then◌else◌, refl, sym, ap, arith, length-append}
 use Rattle.std.proofs.lemmas.List.{length-replicate, length-map}
 use Rattle.std.proofs.lemmas.List.Sums.{sum_by-cons}
 use Rattle.hal_grammar.specs.Declarations.{Initials, Attribute}
@@ -11,7 +11,11 @@ use Rattle.hal_states.specs.OfKinds.{nothing}
 use Rattle.hal_storage.proofs.elements.Capped as capped
 use Rattle.hal_meaning.specs.Elements.{Component, count, copy_size, times, kinds_of_component}
 use Rattle.hal_meaning.specs.InitialValues.{held, one_each, filled, given, all_values, first_values}
-use Rattle.hal_meaning.specs.Places.{cells_from, places_from}
+use Rattle.hal_meaning.specs.Places.{cells_from, places_from, hidden, is_for_or_case}
+use Rattle.hal_storage.specs.declared.own_places.groups.PlacedGroups.{PlacedGroups}
+use Rattle.hal_storage.specs.own_places.PlacedGroups.{ArePlaced}
+use Rattle.hal_limits.specs.Counts.{capped as capped_at}
+use Rattle.hal_limits.specs.Sizes.{places_by}
 
 length_times : {X : Type 0} (n : ℕ) (xs : List X) → length (times n xs) ≡ n * length xs
 length_times zero xs = omega (arith)
@@ -67,3 +71,11 @@ cells_sized ps vs p attributes ks group = length_cells group ks (first_values ps
 pub places_sized : (ps : List Phrase) (vs : Known) (p : Phrase) (attributes : List Attribute) (ks : List Kind) (owner : ℕ) (automatic : Bool)
     → length (places_from owner automatic ks (first_values ps vs p attributes ks)) ≡ length ks
 places_sized ps vs p attributes ks owner automatic = length_places owner automatic ks (first_values ps vs p attributes ks) (length_given ps vs p ks (given attributes))
+
+-- the places of a group
+four_or_none : (b : Bool) (k : ℕ) → (if b then 4 else 0) ≡ capped_at (length (if b then hidden k 4 else []))
+four_or_none true k = refl
+four_or_none false k = refl
+
+pub group_sized : (ps : List Phrase) (g : PlacedGroups) → ArePlaced ps g → (k : ℕ) → places_by g k ≡ capped_at (length (if is_for_or_case ps k then hidden k 4 else []))
+group_sized ps g are k = ap (λ b. if b then 4 else 0) (are k) ∙ four_or_none (is_for_or_case ps k) k

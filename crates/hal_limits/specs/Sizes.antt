@@ -4,7 +4,9 @@ use Rattle.hal_grammar.specs.Declarations.{Attribute, Declared}
 use Rattle.hal_phrases.specs.Phrases.{Phrase}
 use Rattle.hal_constants.specs.Known.{Known}
 use Rattle.hal_meaning.specs.Elements.{Shape, kinds_of, shape_of}
-use Rattle.hal_meaning.specs.Places.{cells_at, is_for_or_case, is_reentrant_at, places_at, places_in}
+use Rattle.hal_storage.specs.declared.own_places.groups.PlacedGroups.{PlacedGroups}
+use Rattle.hal_storage.specs.own_places.PlacedGroups.{has_in}
+use Rattle.hal_meaning.specs.Places.{cells_at, is_reentrant_at, places_at, places_in}
 
 -- how many elements data of a shape have
 abbrev pub size_of_shape : Shape → ℕ
@@ -18,9 +20,9 @@ size_of_item ps vs p common item = size_of_shape (shape_of ps vs p common item)
 abbrev pub cells_of_phrase : List Phrase → Known → Phrase → ℕ
 cells_of_phrase ps vs p = length (cells_at ps vs p p.node)
 
--- how many places a group without a TEMPORARY variable has
-abbrev pub places_of_group : List Phrase → ℕ → ℕ
-places_of_group ps k = if is_for_or_case ps k then 4 else 0
+-- how many places a group without a TEMPORARY variable has, by the groups that are DO FOR or DO CASE
+abbrev pub places_by : PlacedGroups → ℕ → ℕ
+places_by g k = if has_in g k then 4 else 0
 
 -- how many own places a phrase has in the block with this number
 abbrev pub places_of_phrase : List Phrase → Known → ℕ → Phrase → ℕ

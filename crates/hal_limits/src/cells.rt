@@ -5,6 +5,7 @@ ghost use Rattle.hal_phrases.specs.SeenPhrases.{seen_phrase};
 ghost use Rattle.hal_names.specs.SeenNames.{seen_names};
 ghost use Rattle.hal_constants.specs.SeenKnown.{seen_known};
 ghost use Rattle.hal_meaning.specs.Places as places;
+ghost use Rattle.hal_storage.specs.own_places.PlacedGroups.{ArePlaced};
 ghost use Rattle.hal_limits.specs.Counts.{capped, counted};
 ghost use Rattle.hal_limits.specs.Sizes as sizes;
 
@@ -15,6 +16,7 @@ use hal_names::Names;
 use hal_phrases::{Node, Phrase};
 use hal_reach::{is_reentrant_at, processes_of, unit_numbers};
 use hal_storage::cells::{Storing, storing_of};
+use hal_storage::own_places::PlacedGroups;
 use std::alloc::{AllocError, Global};
 
 /// How many shared cells a phrase declares.
@@ -58,12 +60,14 @@ fn cells_of_unit(
     alloc: Global,
     names: &Names<'_>,
     known: &Known,
+    groups: &PlacedGroups,
     processes: u32,
     unit: usize,
 ) -> Result<u32, AllocError>
+    requires groups { ArePlaced (seen_names names.now) groups.now }
     ensures { IfOk result (λ count. count ≡ capped (sizes.cells_of_unit (seen_names names.now) (seen_known known.now) processes unit)) }
 {
-    let count = places_in(alloc, names, known, unit)?;
+    let count = places_in(alloc, names, known, groups, unit)?;
     if is_reentrant_at(names, unit) {
         Ok(processes.saturating_mul(count))
     } else {
@@ -77,15 +81,17 @@ fn cells_with(
     alloc: Global,
     names: &Names<'_>,
     known: &Known,
+    groups: &PlacedGroups,
     processes: u32,
     shared: u32,
     units: &[usize],
 ) -> Result<u32, AllocError>
+    requires groups { ArePlaced (seen_names names.now) groups.now }
     ensures { IfOk result (λ count. count ≡ counted (sizes.cells_of_unit (seen_names names.now) (seen_known known.now) processes) shared units.now) }
 {
     let mut count = shared;
     for unit in units {
-        count = count.saturating_add(cells_of_unit(alloc, names, known, processes, *unit)?);
+        count = count.saturating_add(cells_of_unit(alloc, names, known, groups, processes, *unit)?);
     }
     Ok(count)
 }
@@ -97,6 +103,7 @@ pub(crate) fn cell_count(alloc: Global, names: &Names<'_>, known: &Known) -> Res
 {
     let processes = capped(processes_of(alloc, names)?.len());
     let units = unit_numbers(alloc, names)?;
+    let groups = PlacedGroups::of(alloc, names)?;
     let shared = shared_cells(alloc, names, known)?;
-    cells_with(alloc, names, known, processes, shared, &units)
+    cells_with(alloc, names, known, &groups, processes, shared, &units)
 }

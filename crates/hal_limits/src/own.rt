@@ -2,10 +2,11 @@
 
 ghost use Rattle.std.specs.Prelude.{◌≡◌, length, map, IfOk};
 ghost use Rattle.hal_tree.specs.SeenDeclarations.{seen_attribute, seen_declared};
-ghost use Rattle.hal_phrases.specs.SeenPhrases.{seen_node, seen_phrase};
+ghost use Rattle.hal_phrases.specs.SeenPhrases.{seen_phrase};
 ghost use Rattle.hal_names.specs.SeenNames.{seen_names};
 ghost use Rattle.hal_constants.specs.SeenKnown.{seen_known};
 ghost use Rattle.hal_storage.specs.cells.SeenStoring.{seen_storing};
+ghost use Rattle.hal_storage.specs.own_places.PlacedGroups.{ArePlaced};
 ghost use Rattle.hal_meaning.specs.Places as places;
 ghost use Rattle.hal_limits.specs.Counts.{capped, counted};
 ghost use Rattle.hal_limits.specs.Sizes as sizes;
@@ -13,8 +14,9 @@ ghost use Rattle.hal_limits.specs.Sizes as sizes;
 use crate::sizes::size_of_item;
 use hal_constants::Known;
 use hal_names::Names;
-use hal_phrases::{Node, Phrase, Role};
+use hal_phrases::{Node, Phrase};
 use hal_storage::cells::{Storing, storing_of};
+use hal_storage::own_places::PlacedGroups;
 use hal_tree::{Attribute, Declared};
 use std::alloc::{AllocError, Global};
 
@@ -39,47 +41,23 @@ fn places_of_item(
     }
 }
 
-/// Whether a phrase says of the group that it belongs to that it is DO FOR or DO CASE.
-fn says_for_or_case(node: Node<'_>) -> bool
-    ensures { result ≡ places.says_for_or_case (seen_node node.entry) }
-{
-    match node {
-        Node::Variable { name: _ } => true,
-        Node::Expression {
-            role: Role::Case,
-            tree: _,
-        } => true,
-        _ => false,
-    }
-}
-
-/// Whether the group with this number is DO FOR or DO CASE.
-fn is_for_or_case(names: &Names<'_>, group: usize) -> bool
-    ensures { result ≡ places.is_for_or_case (seen_names names.now) group }
-{
-    let phrases = names.phrases();
-    for phrase in phrases {
-        if says_for_or_case(phrase.node) && phrase.around.parent == group {
-            return true;
-        }
-    }
-    false
-}
-
 /// How many places a group without a TEMPORARY variable has.
-fn places_of_group(names: &Names<'_>, group: usize) -> u32
-    ensures { result ≡ sizes.places_of_group (seen_names names.now) group }
+fn places_of_group(groups: &PlacedGroups, group: usize) -> u32
+    ensures { result ≡ sizes.places_by groups.now group }
 {
-    if is_for_or_case(names, group) { 4 } else { 0 }
+    if groups.has(group) { 4 } else { 0 }
 }
 
 /// How many places a phrase has.
+#[tactic(auto, using(crate::proofs::Sized::group_sized))]
 fn places_at(
     alloc: Global,
     names: &Names<'_>,
     known: &Known,
+    groups: &PlacedGroups,
     phrase: &Phrase<'_>,
 ) -> Result<u32, AllocError>
+    requires groups { ArePlaced (seen_names names.now) groups.now }
     ensures { IfOk result (λ count. count ≡ capped (length (places.places_at (seen_names names.now) (seen_known known.now) (seen_phrase phrase.now) (seen_phrase phrase.now).node))) }
 {
     let storing = storing_of(names, known, phrase);
@@ -94,7 +72,7 @@ fn places_at(
         Node::Group {
             labels: _,
             looping: _,
-        } => Ok(places_of_group(names, phrase.number)),
+        } => Ok(places_of_group(groups, phrase.number)),
         _ => Ok(0),
     }
 }
@@ -104,13 +82,15 @@ fn places_at_in(
     alloc: Global,
     names: &Names<'_>,
     known: &Known,
+    groups: &PlacedGroups,
     block: usize,
     phrase: &Phrase<'_>,
 ) -> Result<u32, AllocError>
+    requires groups { ArePlaced (seen_names names.now) groups.now }
     ensures { IfOk result (λ count. count ≡ capped (sizes.places_of_phrase (seen_names names.now) (seen_known known.now) block (seen_phrase phrase.now))) }
 {
     if phrase.around.home == block {
-        places_at(alloc, names, known, phrase)
+        places_at(alloc, names, known, groups, phrase)
     } else {
         Ok(0)
     }
@@ -122,14 +102,16 @@ fn places_among(
     alloc: Global,
     names: &Names<'_>,
     known: &Known,
+    groups: &PlacedGroups,
     block: usize,
     phrases: &[Phrase<'_>],
 ) -> Result<u32, AllocError>
+    requires groups { ArePlaced (seen_names names.now) groups.now }
     ensures { IfOk result (λ count. count ≡ counted (sizes.places_of_phrase (seen_names names.now) (seen_known known.now) block) 0 (map seen_phrase phrases.now)) }
 {
     let mut count: u32 = 0;
     for phrase in phrases {
-        count = count.saturating_add(places_at_in(alloc, names, known, block, phrase)?);
+        count = count.saturating_add(places_at_in(alloc, names, known, groups, block, phrase)?);
     }
     Ok(count)
 }
@@ -140,9 +122,11 @@ pub(crate) fn places_in(
     alloc: Global,
     names: &Names<'_>,
     known: &Known,
+    groups: &PlacedGroups,
     block: usize,
 ) -> Result<u32, AllocError>
+    requires groups { ArePlaced (seen_names names.now) groups.now }
     ensures { IfOk result (λ count. count ≡ capped (length (places.places_in (seen_names names.now) (seen_known known.now) block))) }
 {
-    places_among(alloc, names, known, block, names.phrases())
+    places_among(alloc, names, known, groups, block, names.phrases())
 }
