@@ -6,3 +6,5 @@ mod Going
 mod Answers
 pub mod Sound
 mod Expanded
+mod Ready
+mod Owned

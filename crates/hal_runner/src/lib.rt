@@ -10,12 +10,16 @@ mod loading;
 mod machines;
 mod moving;
 mod naming;
+mod prepared;
+mod quick;
 mod reply;
 mod requests;
 mod runner;
 
-pub use loading::{Loaded, cells_of};
+pub use loading::{Loaded, cells_of, ready_of};
 pub use machines::{values_of, writes_of};
+pub use prepared::Prepared;
+pub use quick::Quick;
 pub use reply::Reply;
 pub use requests::request_of;
 pub use runner::Runner;

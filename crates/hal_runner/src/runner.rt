@@ -6,8 +6,10 @@ ghost use Rattle.hal_states.specs.Spots.{held_in};
 ghost use Rattle.hal_code.specs.declared.image.ImageParts.{ImageParts};
 ghost use Rattle.hal_code.specs.Courses.{settled, course};
 ghost use Rattle.hal_code.specs.Machine.{after_answer};
-ghost use Rattle.hal_machine.specs.Seen.{core_seen, setting_seen};
+ghost use Rattle.hal_machine.specs.Seen.{core_seen};
 ghost use Rattle.hal_runner.specs.Replies.{reply_seen};
+ghost use Rattle.hal_runner.specs.Prepared.{prepared_seen};
+ghost use Rattle.hal_runner.specs.Quick.{AreReady};
 ghost use Rattle.hal_runner.specs.Runners.{asked_seen};
 ghost use Rattle.hal_runner.specs.Ways.{AnswerFits, ShapesFit, WayFits};
 
@@ -15,8 +17,9 @@ use crate::answering::answered;
 use crate::copying::held_in;
 use crate::machines::{machine_of, places_of};
 use crate::moving::settle;
+use crate::prepared::Prepared;
 use crate::reply::Reply;
-use hal_machine::{Blocks, Machine, Operands, Rest, Setting, Wait};
+use hal_machine::{Blocks, Machine, Operands, Rest, Wait};
 use hal_values::{ErrNo, Request, Value};
 use std::alloc::{AllocError, Global};
 
@@ -34,21 +37,21 @@ pub struct Runner {
 
 impl Runner {
     /// A process before any answer.
-    pub fn start(setting: &Setting<'_>) -> Result<Runner, AllocError>
-        requires { setting.now.begin < 2 ^ 64 - 1 }
-        ensures { IfOk result (λ runner. asked_seen setting.now.image.now runner ≡ course (setting_seen setting.now) []) }
+    pub fn start(setting: &Prepared<'_>) -> Result<Runner, AllocError>
+        requires { setting.now.plain.begin < 2 ^ 64 - 1 }
+        ensures { IfOk result (λ runner. asked_seen setting.now.plain.image.now runner ≡ course (prepared_seen setting.now) []) }
     {
-        let places = places_of(setting.alloc, setting.firsts)?;
+        let places = places_of(setting.plain.alloc, setting.plain.firsts)?;
         let machine = Machine {
-            at: setting.begin + 1,
-            operands: Operands::new(setting.alloc),
-            line: Vec::new(setting.alloc),
-            blocks: Blocks::new(setting.alloc)?,
+            at: setting.plain.begin + 1,
+            operands: Operands::new(setting.plain.alloc),
+            line: Vec::new(setting.plain.alloc),
+            blocks: Blocks::new(setting.plain.alloc)?,
             places,
             last: NO_ERROR,
             groups: None,
-            store: Vec::new(setting.alloc),
-            writes: Vec::new(setting.alloc),
+            store: Vec::new(setting.plain.alloc),
+            writes: Vec::new(setting.plain.alloc),
             turns: 0,
             request: Request::Begin,
             wait: Wait::Then(Rest::Nothing),
@@ -94,15 +97,16 @@ impl Runner {
     }
 
     /// The process is answered, and goes on until it asks again. Where memory runs out it can't go on.
-    pub fn answer(&mut self, setting: &Setting<'_>, reply: Reply) -> Result<(), AllocError>
-        requires begin { setting.now.begin < 2 ^ 64 - 1 }
-        requires shapes { ShapesFit setting.now.image.now }
-        requires fits { AnswerFits (asked_seen setting.now.image.now self.old).wait }
-        requires way { WayFits (setting_seen setting.now) (after_answer (setting_seen setting.now) (asked_seen setting.now.image.now self.old).wait (reply_seen reply) (asked_seen setting.now.image.now self.old).core) }
-        ensures { (answers : List Answered) → asked_seen setting.now.image.now self.old ≡ course (setting_seen setting.now) answers → OnOk result (asked_seen setting.now.image.now self.new ≡ course (setting_seen setting.now) (answers ++ (reply_seen reply ∷ []))) }
+    pub fn answer(&mut self, setting: &Prepared<'_>, reply: Reply) -> Result<(), AllocError>
+        requires begin { setting.now.plain.begin < 2 ^ 64 - 1 }
+        requires shapes { ShapesFit setting.now.plain.image.now }
+        requires fits { AnswerFits (asked_seen setting.now.plain.image.now self.old).wait }
+        requires ready { AreReady setting.now.plain.image.now setting.now.ready.now }
+        requires way { WayFits (prepared_seen setting.now) (after_answer (prepared_seen setting.now) (asked_seen setting.now.plain.image.now self.old).wait (reply_seen reply) (asked_seen setting.now.plain.image.now self.old).core) }
+        ensures { (answers : List Answered) → asked_seen setting.now.plain.image.now self.old ≡ course (prepared_seen setting.now) answers → OnOk result (asked_seen setting.now.plain.image.now self.new ≡ course (prepared_seen setting.now) (answers ++ (reply_seen reply ∷ []))) }
     {
         let wait = std::mem::replace(&mut self.machine.wait, Wait::Tried);
-        let step = answered(&mut self.machine, setting, wait, reply)?;
+        let step = answered(&mut self.machine, &setting.plain, wait, reply)?;
         settle(&mut self.machine, setting, step)?;
         Ok(())
     }

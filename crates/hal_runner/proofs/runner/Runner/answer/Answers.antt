@@ -3,7 +3,8 @@ use Rattle.hal_machine.specs.declared.step.Wait.{Wait}
 use Rattle.hal_code.specs.Cores.{Step}
 use Rattle.hal_code.specs.Courses.{settled}
 use Rattle.hal_code.specs.Machine.{after_answer}
-use Rattle.hal_machine.specs.Seen.{core_seen, setting_seen, wait_seen}
+use Rattle.hal_machine.specs.Seen.{core_seen, wait_seen}
+use Rattle.hal_runner.specs.Prepared.{prepared_seen}
 use Rattle.hal_runner.specs.Replies.{reply_seen}
 use Rattle.hal_runner.specs.Runners.{asked_seen}
 use Rattle.hal_runner.proofs.Answers.{one_more}
@@ -11,7 +12,7 @@ use Rattle.hal_runner.proofs.runner.Runner.answer.Goals as goal
 
 pub returns : goal.returns
 returns c = λ answers at.
-    one_more (setting_seen c.args.setting.now) (asked_seen c.args.setting.now.image.now c.args.self.now) _ answers (reply_seen c.args.reply) at
+    one_more (prepared_seen c.args.setting.now) (asked_seen c.args.setting.now.plain.image.now c.args.self.now) _ answers (reply_seen c.args.reply) at
     (c.in_ok-settle.ensures
-    ∙ ap (λ (step : Step). settled (setting_seen c.args.setting.now) step) c.in_ok-step.ensures
-    ∙ ap (λ (wait : Wait). settled (setting_seen c.args.setting.now) (after_answer (setting_seen c.args.setting.now) (wait_seen c.args.setting.now.image.now wait) (reply_seen c.args.reply) (core_seen c.args.self.now.machine))) c.replace-wait.ensures.value)
+    ∙ ap (λ (step : Step). settled (prepared_seen c.args.setting.now) step) c.in_ok-step.ensures
+    ∙ ap (λ (wait : Wait). settled (prepared_seen c.args.setting.now) (after_answer (prepared_seen c.args.setting.now) (wait_seen c.args.setting.now.plain.image.now wait) (reply_seen c.args.reply) (core_seen c.args.self.now.machine))) c.replace-wait.ensures.value)
