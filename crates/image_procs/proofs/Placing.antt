@@ -146,6 +146,7 @@ module _ (load : ImageLoad) (courses : List Course) (p : ℕ) (x : Course) (e : 
       cells = running.cells;
       ranged = running.ranged;
       short = running.short;
+      ready = running.ready;
       loads = running.loads;
       many_loads = running.many_loads;
       stand = subst (AreCourses load) (sym (map-set parts courses p new)) (still_stand load (map parts courses) p (parts new) running.stand is);
@@ -208,6 +209,7 @@ all_run_on load tables loaded one other same running = record {
   cells = running.cells;
   ranged = running.ranged;
   short = running.short;
+  ready = running.ready;
   loads = running.loads;
   many_loads = running.many_loads;
   stand = subst (AreCourses load) (sym same) running.stand;

@@ -10,6 +10,7 @@ use Rattle.hal_right_values.specs.Ranges.{AreInRange}
 use Rattle.hal_runner.specs.declared.loading.Loaded.{Loaded}
 use Rattle.hal_runner.specs.declared.reply.Reply.{Reply}
 use Rattle.hal_runner.specs.Loading.{IsLoaded}
+use Rattle.hal_runner.specs.Quick.{AreReady}
 use Rattle.exec_model.specs.Processes as processes
 use Rattle.image_procs.specs.declared.load.ImageLoad.{ImageLoad}
 use Rattle.image_procs.specs.declared.course.Course.{Course}
@@ -44,12 +45,13 @@ AreLoaded image all = (p : ℕ) (one : Loaded) → slice_get all p ≡ Some one 
 abbrev pub AreCourses : ImageLoad → List Parts → Type 0
 AreCourses load all = (p : ℕ) (one : Parts) → slice_get all p ≡ Some one → IsCourse (setting_of load.turns load.image p) one
 
--- the tables are those of the image, the machine can run its code, and all its processes are there
+-- the tables are those of the image, the machine can run its code, which is made ready, and all its processes are there
 pub record IsRunning (load : ImageLoad) (tables : Tables) (loaded : List Loaded) (courses : List Course) : Type 0 where
   pub tables_are : tables ≡ tables_of load.image
   pub cells : HaveCells load.image
   pub ranged : AreInRange load.image
   pub short : length load.image.code < 2 ^ 64
+  pub ready : AreReady load.image load.ready.items
   pub loads : AreLoaded load.image loaded
   pub many_loads : length loaded ≡ length load.image.processes
   pub stand : AreCourses load (map parts courses)

@@ -6,7 +6,8 @@ ghost use Rattle.hal_values.specs.Loads.{FitsNext, IsUpdate};
 ghost use Rattle.hal_values.specs.Tables.{IsSnapshot};
 ghost use Rattle.hal_code.specs.Cores as cores;
 ghost use Rattle.hal_code.specs.Courses.{next, block, own, load_of};
-ghost use Rattle.hal_machine.specs.Seen.{setting_seen};
+ghost use Rattle.hal_runner.specs.Prepared.{prepared_seen};
+ghost use Rattle.hal_runner.specs.Quick.{AreReady};
 ghost use Rattle.hal_runner.specs.Replies.{reply_seen};
 ghost use Rattle.exec_model.specs.Processes.{told_answer};
 ghost use Rattle.image_procs.specs.Courses.{CanRun, AllFit, IsAt, IsCourse, parts, room};
@@ -17,8 +18,7 @@ use crate::look::Look;
 use crate::owning::own_values;
 use crate::replies::waiting_of;
 use crate::telling::told;
-use hal_machine::Setting;
-use hal_runner::{Reply, Runner, request_of, values_of, writes_of};
+use hal_runner::{Prepared, Reply, Runner, request_of, values_of, writes_of};
 use hal_values::{Answer, ReportName, Request, Value};
 use std::alloc::AllocError;
 use std::collections::VecDeque;
@@ -39,14 +39,15 @@ pub struct Course {
 /// A process is given the answers that wait.
 fn take_in(
     runner: &mut Runner,
-    setting: &Setting<'_>,
+    setting: &Prepared<'_>,
     waiting: &mut VecDeque<Reply>,
     told: &History<Reply, u16>,
 ) -> Result<(), AllocError>
-    requires run { CanRun (setting_seen setting.now) }
-    requires fit { AllFit (setting_seen setting.now) told.now.items }
-    requires at { IsAt (setting_seen setting.now) runner.old (map reply_seen waiting.old.items) told.now.items }
-    ensures all { OnOk result ((waiting.new.items ≡ []) × IsAt (setting_seen setting.now) runner.new [] told.now.items) }
+    requires run { CanRun (prepared_seen setting.now) }
+    requires ready { AreReady setting.now.plain.image.now setting.now.ready.now }
+    requires fit { AllFit (prepared_seen setting.now) told.now.items }
+    requires at { IsAt (prepared_seen setting.now) runner.old (map reply_seen waiting.old.items) told.now.items }
+    ensures all { OnOk result ((waiting.new.items ≡ []) × IsAt (prepared_seen setting.now) runner.new [] told.now.items) }
     ensures capacity { deque_capacity waiting.new ≡ deque_capacity waiting.old }
     ensures fewer { deque_len waiting.new ≤ deque_len waiting.old }
 {
@@ -57,23 +58,23 @@ fn take_in(
 }
 
 /// How many turns an UPDATE block made, after which the process has so many left.
-fn turns_made(setting: &Setting<'_>, left: u32) -> u16
-    requires { CanRun (setting_seen setting.now) }
-    ensures { result ≡ setting.now.turns - left }
+fn turns_made(setting: &Prepared<'_>, left: u32) -> u16
+    requires { CanRun (prepared_seen setting.now) }
+    ensures { result ≡ setting.now.plain.turns - left }
 {
-    setting.turns.saturating_sub(left) as u16
+    setting.plain.turns.saturating_sub(left) as u16
 }
 
 impl Course {
     /// A process before any answer.
-    pub(crate) fn start(setting: &Setting<'_>) -> Result<Course, AllocError>
-        requires { CanRun (setting_seen setting.now) }
-        ensures course { IfOk result (λ one. IsCourse (setting_seen setting.now) (parts one)) }
+    pub(crate) fn start(setting: &Prepared<'_>) -> Result<Course, AllocError>
+        requires { CanRun (prepared_seen setting.now) }
+        ensures course { IfOk result (λ one. IsCourse (prepared_seen setting.now) (parts one)) }
         ensures told { IfOk result (λ one. one.told.items ≡ []) }
     {
         Ok(Course {
             runner: Some(Runner::start(setting)?),
-            waiting: VecDeque::new(setting.alloc),
+            waiting: VecDeque::new(setting.plain.alloc),
             told: History::new(),
             look: None,
         })
@@ -105,11 +106,12 @@ impl Course {
     }
 
     /// What the process asks, once it was given all answers that wait. Where memory is wanting it is gone.
-    pub(crate) fn ask(&mut self, setting: &Setting<'_>) -> Result<Request, AllocError>
-        requires run { CanRun (setting_seen setting.now) }
-        requires course { IsCourse (setting_seen setting.now) (parts self.old) }
-        ensures asked { IfOk result (λ asked. asked ≡ next (setting_seen setting.now) (answers_told self.old.told.items)) }
-        ensures course { IsCourse (setting_seen setting.now) (parts self.new) }
+    pub(crate) fn ask(&mut self, setting: &Prepared<'_>) -> Result<Request, AllocError>
+        requires run { CanRun (prepared_seen setting.now) }
+        requires ready { AreReady setting.now.plain.image.now setting.now.ready.now }
+        requires course { IsCourse (prepared_seen setting.now) (parts self.old) }
+        ensures asked { IfOk result (λ asked. asked ≡ next (prepared_seen setting.now) (answers_told self.old.told.items)) }
+        ensures course { IsCourse (prepared_seen setting.now) (parts self.new) }
         ensures told { self.new.told.items ≡ self.old.told.items }
         ensures look { self.new.look ≡ self.old.look }
         ensures room { room self.old ≤ room self.new }
@@ -122,14 +124,15 @@ impl Course {
     }
 
     /// The same process once more, which was given all answers.
-    fn copy(&self, setting: &Setting<'_>) -> Result<Runner, AllocError>
-        requires run { CanRun (setting_seen setting.now) }
-        requires course { IsCourse (setting_seen setting.now) (parts self.now) }
-        ensures { IfOk result (λ copy. IsAt (setting_seen setting.now) copy [] self.now.told.items) }
+    fn copy(&self, setting: &Prepared<'_>) -> Result<Runner, AllocError>
+        requires run { CanRun (prepared_seen setting.now) }
+        requires ready { AreReady setting.now.plain.image.now setting.now.ready.now }
+        requires course { IsCourse (prepared_seen setting.now) (parts self.now) }
+        ensures { IfOk result (λ copy. IsAt (prepared_seen setting.now) copy [] self.now.told.items) }
     {
         let runner = self.runner.as_ref().ok_or(AllocError)?;
-        let mut copy = runner.copy(setting.alloc)?;
-        let mut waiting = waiting_of(setting.alloc, &self.waiting)?;
+        let mut copy = runner.copy(setting.plain.alloc)?;
+        let mut waiting = waiting_of(setting.plain.alloc, &self.waiting)?;
         take_in(&mut copy, setting, &mut waiting, &self.told)?;
         Ok(copy)
     }
@@ -137,25 +140,29 @@ impl Course {
     /// Looks at the UPDATE block that the process asks for: a copy of the process runs it.
     pub(crate) fn block(
         &mut self,
-        setting: &Setting<'_>,
+        setting: &Prepared<'_>,
         store: &[Value],
         writes: &mut Vec<(u16, Value)>,
     ) -> Result<u16, AllocError>
-        requires run { CanRun (setting_seen setting.now) }
-        requires course { IsCourse (setting_seen setting.now) (parts self.old) }
-        requires asks { IsUpdate (next (setting_seen setting.now) (answers_told self.old.told.items)) }
-        requires snapshot { IsSnapshot setting.now.cells.now store.now }
-        ensures found { IfOk result (λ turns. block (setting_seen setting.now) (answers_told self.old.told.items) store.now turns ≡ Some writes.new.items) }
+        requires run { CanRun (prepared_seen setting.now) }
+        requires ready { AreReady setting.now.plain.image.now setting.now.ready.now }
+        requires course { IsCourse (prepared_seen setting.now) (parts self.old) }
+        requires asks { IsUpdate (next (prepared_seen setting.now) (answers_told self.old.told.items)) }
+        requires snapshot { IsSnapshot setting.now.plain.cells.now store.now }
+        ensures found { IfOk result (λ turns. block (prepared_seen setting.now) (answers_told self.old.told.items) store.now turns ≡ Some writes.new.items) }
         ensures look { IfOk result (λ turns. look_seen self.new.look ≡ Some (record { store = store.now; turns = turns })) }
         ensures refused { OnErr result ((self.new.look ≡ self.old.look) × (writes.new.items ≡ writes.old.items)) }
-        ensures course { IsCourse (setting_seen setting.now) (parts self.new) }
+        ensures course { IsCourse (prepared_seen setting.now) (parts self.new) }
         ensures told { self.new.told.items ≡ self.old.told.items }
         ensures room { room self.old ≤ room self.new }
     {
         let mut copy = self.copy(setting)?;
-        let kept = values_of(setting.alloc, store)?;
-        copy.answer(setting, Reply::Block(values_of(setting.alloc, store)?))?;
-        *writes = writes_of(setting.alloc, copy.writes())?;
+        let kept = values_of(setting.plain.alloc, store)?;
+        copy.answer(
+            setting,
+            Reply::Block(values_of(setting.plain.alloc, store)?),
+        )?;
+        *writes = writes_of(setting.plain.alloc, copy.writes())?;
         let turns = turns_made(setting, copy.turns());
         self.look = Some(Look { store: kept, turns });
         Ok(turns)
@@ -164,15 +171,16 @@ impl Course {
     /// The own values of the process after all answers, as the report's names give them.
     pub(crate) fn own(
         &self,
-        setting: &Setting<'_>,
+        setting: &Prepared<'_>,
         names: &[ReportName],
     ) -> Result<Vec<Value>, AllocError>
-        requires run { CanRun (setting_seen setting.now) }
-        requires course { IsCourse (setting_seen setting.now) (parts self.now) }
-        requires names { names.now ≡ (setting_seen setting.now).tables.names }
-        ensures { IfOk result (λ values. values.items ≡ own (setting_seen setting.now) (answers_told self.now.told.items)) }
+        requires run { CanRun (prepared_seen setting.now) }
+        requires ready { AreReady setting.now.plain.image.now setting.now.ready.now }
+        requires course { IsCourse (prepared_seen setting.now) (parts self.now) }
+        requires names { names.now ≡ (prepared_seen setting.now).tables.names }
+        ensures { IfOk result (λ values. values.items ≡ own (prepared_seen setting.now) (answers_told self.now.told.items)) }
     {
         let copy = self.copy(setting)?;
-        own_values(setting.alloc, &copy, setting.process, names)
+        own_values(setting.plain.alloc, &copy, setting.plain.process, names)
     }
 }

@@ -4,7 +4,8 @@ ghost use Rattle.std.specs.Prelude.{◌≡◌, ◌<◌, ◌≤◌, ◌^◌, [], 
 ghost use Rattle.hal_base.specs.declared.limits.TheConstants.{PROCESS_LIMIT};
 ghost use Rattle.hal_code.specs.Courses.{setting_of};
 ghost use Rattle.hal_code.specs.Images.{tables_of};
-ghost use Rattle.hal_machine.specs.Seen.{setting_seen};
+ghost use Rattle.hal_runner.specs.Prepared.{prepared_seen};
+ghost use Rattle.hal_runner.specs.Quick.{AreReady};
 ghost use Rattle.hal_right_values.specs.Finding.{HaveCells};
 ghost use Rattle.hal_right_values.specs.Ranges.{AreInRange};
 ghost use Rattle.hal_runner.specs.Loading.{IsLoaded};
@@ -14,8 +15,7 @@ ghost use Rattle.image_procs.specs.Running.{AreLoaded, AreCourses, told_in};
 use crate::course::Course;
 use crate::load::ImageLoad;
 use hal_code::ImageParts;
-use hal_machine::Setting;
-use hal_runner::Loaded;
+use hal_runner::{Loaded, Prepared};
 use hal_values::Tables;
 use std::alloc::{AllocError, Global};
 
@@ -39,13 +39,22 @@ pub(crate) fn setting_of<'a>(
     tables: &'a Tables,
     loaded: &'a Loaded,
     process: u8,
-) -> Setting<'a>
+) -> Prepared<'a>
     requires tables { tables.now ≡ tables_of load.now.image }
     requires loaded { IsLoaded load.now.image process loaded.now }
-    ensures { setting_seen result ≡ setting_of load.now.turns load.now.image process }
+    requires ready { AreReady load.now.image load.now.ready.items }
+    ensures seen { prepared_seen result ≡ setting_of load.now.turns load.now.image process }
+    ensures ready { AreReady result.plain.image.now result.ready.now }
 {
     let turns = u32::from(load.turns);
-    loaded.setting(alloc, &load.image, tables.cells.as_slice(), process, turns)
+    loaded.setting(
+        alloc,
+        &load.image,
+        tables.cells.as_slice(),
+        load.ready.as_slice(),
+        process,
+        turns,
+    )
 }
 
 /// The processes of an image, before any answer.
@@ -61,6 +70,7 @@ pub(crate) fn courses_of(
     requires tables { tables.now ≡ tables_of load.now.image }
     requires loads { AreLoaded load.now.image loaded.now }
     requires many { length loaded.now ≡ length load.now.image.processes }
+    requires ready { AreReady load.now.image load.now.ready.items }
     ensures stand { IfOk result (λ all. AreCourses load.now (map parts all.items)) }
     ensures many { IfOk result (λ all. length all.items ≡ length loaded.now) }
     ensures told { IfOk result (λ all. map told_in all.items ≡ replicate (length loaded.now) []) }

@@ -13,7 +13,7 @@ setting_of-setting-requires-clause-loaded c = loaded_at c.args.load.now.image c.
 
 pub start-requires : goal.start-requires
 start-requires c =
-    subst CanRun (sym c.setting_of-setting.ensures) (can_run c.args.load.now c.places.place c.requires.cells c.requires.ranged c.requires.short (omega (arith, c.places-test.true, c.requires.many)))
+    subst CanRun (sym c.setting_of-setting.ensures.seen) (can_run c.args.load.now c.places.place c.requires.cells c.requires.ranged c.requires.short (omega (arith, c.places-test.true, c.requires.many)))
 
 pub places-preserved : goal.places-preserved
 places-preserved c =
@@ -24,6 +24,6 @@ places-preserved c =
       ap (λ (l : List Course). length l) added ∙ length-append all (one ∷ []) ∙ ap (λ n. n + 1) c.places.invariant.0,
       subst (AreCourses load) (sym (ap (map parts) added ∙ map-append parts all (one ∷ [])))
           (one_standing load (map parts all) c.places.place (parts one) (length-map all parts ∙ c.places.invariant.0) c.places.invariant.1
-          (subst (λ (s : Setting). IsCourse s (parts one)) c.setting_of-setting.ensures c.in_ok-start.ensures.course)),
+          (subst (λ (s : Setting). IsCourse s (parts one)) c.setting_of-setting.ensures.seen c.in_ok-start.ensures.course)),
       ap (map told_in) added ∙ one_untold all c.places.place one c.places.invariant.2 c.in_ok-start.ensures.told,
     )

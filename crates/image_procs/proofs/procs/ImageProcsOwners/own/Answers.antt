@@ -24,7 +24,7 @@ own-requires-clause-run c =
     let courses = c.self.inside.courses.items in
     let p = c.args.process in
     let exists = is_there load courses c.args.self.now p c.self.view_is c.requires in
-    subst CanRun (sym c.setting_of-setting.ensures) (can_run load p c.self.invariant.cells c.self.invariant.ranged c.self.invariant.short exists)
+    subst CanRun (sym c.setting_of-setting.ensures.seen) (can_run load p c.self.invariant.cells c.self.invariant.ranged c.self.invariant.short exists)
 
 pub own-requires-clause-course : goal.own-requires-clause-course
 own-requires-clause-course c =
@@ -33,7 +33,7 @@ own-requires-clause-course c =
     let p = c.args.process in
     let exists = is_there load courses c.args.self.now p c.self.view_is c.requires in
     let e = there courses p c.index-2.result.now (subst (λ (n : ℕ). p < n) (sym c.self.invariant.many) exists) c.index-2.ensures in
-    subst (λ (s : Setting). IsCourse s (parts c.index-2.result.now)) (sym c.setting_of-setting.ensures) (course_at load courses p c.index-2.result.now e c.self.invariant.stand)
+    subst (λ (s : Setting). IsCourse s (parts c.index-2.result.now)) (sym c.setting_of-setting.ensures.seen) (course_at load courses p c.index-2.result.now e c.self.invariant.stand)
 
 pub returns : goal.returns
 returns c =
@@ -43,6 +43,6 @@ returns c =
     let exists = is_there load courses c.args.self.now p c.self.view_is c.requires in
     let e = there courses p c.index-2.result.now (subst (λ (n : ℕ). p < n) (sym c.self.invariant.many) exists) c.index-2.ensures in
     c.new.ensures ∙ c.in_ok-values.ensures
-    ∙ ap (λ (s : Setting). own s (answers_told c.index-2.result.now.told.items)) c.setting_of-setting.ensures
+    ∙ ap (λ (s : Setting). own s (answers_told c.index-2.result.now.told.items)) c.setting_of-setting.ensures.seen
     ∙ ap (λ (answers : List Answered). own (setting_of load.turns load.image p) answers) (sym (told_at load courses p c.index-2.result.now e))
     ∙ ap (λ (r : Running). own (setting_of r.load.turns r.load.image p) (answers_in (answers_of r) p)) c.self.view_is

@@ -21,7 +21,7 @@ pub ask-requires-clause-run : goal.ask-requires-clause-run
 ask-requires-clause-run c =
     let load = c.self.inside.load in
     let exists = is_there load c.self.inside.courses.items c.args.self.now c.args.process c.self.view_is c.requires in
-    subst CanRun (sym c.setting_of-setting.ensures) (can_run load c.args.process c.self.invariant.cells c.self.invariant.ranged c.self.invariant.short exists)
+    subst CanRun (sym c.setting_of-setting.ensures.seen) (can_run load c.args.process c.self.invariant.cells c.self.invariant.ranged c.self.invariant.short exists)
 
 pub ask-requires-clause-course : goal.ask-requires-clause-course
 ask-requires-clause-course c =
@@ -30,7 +30,7 @@ ask-requires-clause-course c =
     let p = c.args.process in
     let exists = is_there load courses c.args.self.now p c.self.view_is c.requires in
     let e = there courses p c.index_mut.result.now (subst (λ (n : ℕ). p < n) (sym c.self.invariant.many) exists) c.index_mut.ensures.value in
-    subst (λ (s : Setting). IsCourse s (parts c.index_mut.result.now)) (sym c.setting_of-setting.ensures) (course_at load courses p c.index_mut.result.now e c.self.invariant.stand)
+    subst (λ (s : Setting). IsCourse s (parts c.index_mut.result.now)) (sym c.setting_of-setting.ensures.seen) (course_at load courses p c.index_mut.result.now e c.self.invariant.stand)
 
 pub invariant_of-self : goal.invariant_of-self
 invariant_of-self c =
@@ -39,7 +39,7 @@ invariant_of-self c =
     let p = c.args.process in
     let exists = is_there load courses c.args.self.now p c.self.view_is c.requires in
     let e = there courses p c.index_mut.result.now (subst (λ (n : ℕ). p < n) (sym c.self.invariant.many) exists) c.index_mut.ensures.value in
-    runs_on load courses p c.index_mut.result.now e c.ask.new.self c.self.inside.tables c.self.inside.loaded.items c.self.invariant (subst (λ (s : Setting). IsCourse s (parts c.ask.new.self)) c.setting_of-setting.ensures c.ask.ensures.course)
+    runs_on load courses p c.index_mut.result.now e c.ask.new.self c.self.inside.tables c.self.inside.loaded.items c.self.invariant (subst (λ (s : Setting). IsCourse s (parts c.ask.new.self)) c.setting_of-setting.ensures.seen c.ask.ensures.course)
 
 pub returns-clause-asked : goal.returns-clause-asked
 returns-clause-asked c =
@@ -50,7 +50,7 @@ returns-clause-asked c =
     let e = there courses p c.index_mut.result.now (subst (λ (n : ℕ). p < n) (sym c.self.invariant.many) exists) c.index_mut.ensures.value in
     subst (λ (r : Running). IfOk c.ask.result (λ asked. asked ≡ next (setting_of r.load.turns r.load.image p) (answers_in (answers_of r) p))) c.self.view_is
     (subst (λ (answers : List Answered). IfOk c.ask.result (λ asked. asked ≡ next (setting_of load.turns load.image p) answers)) (sym (told_at load courses p c.index_mut.result.now e))
-    (subst (λ (s : Setting). IfOk c.ask.result (λ asked. asked ≡ next s (answers_told c.index_mut.result.now.told.items))) c.setting_of-setting.ensures c.ask.ensures.asked))
+    (subst (λ (s : Setting). IfOk c.ask.result (λ asked. asked ≡ next s (answers_told c.index_mut.result.now.told.items))) c.setting_of-setting.ensures.seen c.ask.ensures.asked))
 
 pub returns-clause-same : goal.returns-clause-same
 returns-clause-same c =

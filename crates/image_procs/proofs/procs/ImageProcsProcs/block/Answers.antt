@@ -23,7 +23,7 @@ pub block-requires-clause-run : goal.block-requires-clause-run
 block-requires-clause-run c =
     let load = c.self.inside.load in
     let exists = is_there load c.self.inside.courses.items c.args.self.now c.args.process c.self.view_is c.requires.exists in
-    subst CanRun (sym c.setting_of-setting.ensures) (can_run load c.args.process c.self.invariant.cells c.self.invariant.ranged c.self.invariant.short exists)
+    subst CanRun (sym c.setting_of-setting.ensures.seen) (can_run load c.args.process c.self.invariant.cells c.self.invariant.ranged c.self.invariant.short exists)
 
 pub block-requires-clause-course : goal.block-requires-clause-course
 block-requires-clause-course c =
@@ -32,7 +32,7 @@ block-requires-clause-course c =
     let p = c.args.process in
     let exists = is_there load courses c.args.self.now p c.self.view_is c.requires.exists in
     let e = there courses p c.index_mut.result.now (subst (λ (n : ℕ). p < n) (sym c.self.invariant.many) exists) c.index_mut.ensures.value in
-    subst (λ (s : Setting). IsCourse s (parts c.index_mut.result.now)) (sym c.setting_of-setting.ensures) (course_at load courses p c.index_mut.result.now e c.self.invariant.stand)
+    subst (λ (s : Setting). IsCourse s (parts c.index_mut.result.now)) (sym c.setting_of-setting.ensures.seen) (course_at load courses p c.index_mut.result.now e c.self.invariant.stand)
 
 pub block-requires-clause-asks : goal.block-requires-clause-asks
 block-requires-clause-asks c =
@@ -41,7 +41,7 @@ block-requires-clause-asks c =
     let p = c.args.process in
     let exists = is_there load courses c.args.self.now p c.self.view_is c.requires.exists in
     let e = there courses p c.index_mut.result.now (subst (λ (n : ℕ). p < n) (sym c.self.invariant.many) exists) c.index_mut.ensures.value in
-    subst (λ (s : Setting). IsUpdate (next s (answers_told c.index_mut.result.now.told.items))) (sym c.setting_of-setting.ensures)
+    subst (λ (s : Setting). IsUpdate (next s (answers_told c.index_mut.result.now.told.items))) (sym c.setting_of-setting.ensures.seen)
     (subst (λ (answers : List Answered). IsUpdate (next (setting_of load.turns load.image p) answers)) (told_at load courses p c.index_mut.result.now e)
     (subst (λ (r : Running). IsUpdate (next (setting_of r.load.turns r.load.image p) (answers_in (answers_of r) p))) (sym c.self.view_is) c.requires.asks))
 
@@ -52,7 +52,7 @@ invariant_of-self c =
     let p = c.args.process in
     let exists = is_there load courses c.args.self.now p c.self.view_is c.requires.exists in
     let e = there courses p c.index_mut.result.now (subst (λ (n : ℕ). p < n) (sym c.self.invariant.many) exists) c.index_mut.ensures.value in
-    runs_on load courses p c.index_mut.result.now e c.block.new.self c.self.inside.tables c.self.inside.loaded.items c.self.invariant (subst (λ (s : Setting). IsCourse s (parts c.block.new.self)) c.setting_of-setting.ensures c.block.ensures.course)
+    runs_on load courses p c.index_mut.result.now e c.block.new.self c.self.inside.tables c.self.inside.loaded.items c.self.invariant (subst (λ (s : Setting). IsCourse s (parts c.block.new.self)) c.setting_of-setting.ensures.seen c.block.ensures.course)
 
 pub returns-clause-found : goal.returns-clause-found
 returns-clause-found c =
@@ -63,7 +63,7 @@ returns-clause-found c =
     let e = there courses p c.index_mut.result.now (subst (λ (n : ℕ). p < n) (sym c.self.invariant.many) exists) c.index_mut.ensures.value in
     subst (λ (r : Running). IfOk c.block.result (λ turns. block (setting_of r.load.turns r.load.image p) (answers_in (answers_of r) p) c.args.store.now turns ≡ Some c.block.new.writes.items)) c.self.view_is
     (subst (λ (answers : List Answered). IfOk c.block.result (λ turns. block (setting_of load.turns load.image p) answers c.args.store.now turns ≡ Some c.block.new.writes.items)) (sym (told_at load courses p c.index_mut.result.now e))
-    (subst (λ (s : Setting). IfOk c.block.result (λ turns. block s (answers_told c.index_mut.result.now.told.items) c.args.store.now turns ≡ Some c.block.new.writes.items)) c.setting_of-setting.ensures c.block.ensures.found))
+    (subst (λ (s : Setting). IfOk c.block.result (λ turns. block s (answers_told c.index_mut.result.now.told.items) c.args.store.now turns ≡ Some c.block.new.writes.items)) c.setting_of-setting.ensures.seen c.block.ensures.found))
 
 pub returns-clause-look : goal.returns-clause-look
 returns-clause-look c =
