@@ -14,7 +14,7 @@ use Rattle.hal_code.specs.Sorts.{B}
 use Rattle.hal_fitting.specs.Fitting.{Ground, Fits, ground_flow, IsRightAt, Passes}
 use Rattle.hal_fitting.specs.Reaching.{IsReached}
 use Rattle.hal_fitting.specs.Leading.{Comes, end_of, AreRight, standing, Leads, IsAhead}
-use Rattle.hal_fitting.proofs.Passing.{of_block, not_before, not_last, passes}
+use Rattle.hal_fitting.proofs.Passing.{of_block, not_before, not_last, framed_there, passes}
 use Rattle.hal_fitting.proofs.Stepping.{both_hold, right_step, next_reached, away_reached, entered, forward_right, back_right}
 
 first_or_rest : (n middle : ℕ) (b : Bool) → nat_lt n middle ≡ b → (P : Type 0) → (n < middle → P) → (middle ≤ n → P) → P
@@ -39,11 +39,10 @@ module _ (image : ImageParts) (g : Ground) (Asked : Type 0) (part : Option ℕ) 
         let passed = fitting from to stack after fits c low in
         let onward = not_before image (standing part g) fits.is from to stack after fits.each in
         let there = c.there in
-        let late = c.late in
         record {
           place = to - g.block.first;
           there = omega (arith, onward, there);
-          late = omega (arith, onward, there, late);
+          late = λ own. let positive = c.late own in omega (arith, onward, there, positive);
           within = omega (arith, low, onward, there);
           reached = record { sorts = passed.stack; stands = passed.part ∙ c.reached.stands };
         };
@@ -90,9 +89,8 @@ module _ (image : ImageParts) (g : Ground) (Asked : Type 0) (part : Option ℕ) 
   step_right : (i : Instr) (from : ℕ) (stack next : Sorts) → Stepped i from stack next → (c : Comes image g from stack part) → suc from < end_of image g → Asked → IsRightAt image g.out (ground_flow image g) c.place
   step_right i from stack next step c low asked =
       let there = c.there in
-      let late = c.late in
       right_step image g c.place i stack next part (found_there i from c.place step.has there c.within) c.reached step.operands step.effect step.stands
-      (ap (λ b. frames_right (is_of_process image g.number) b i) (ne_eqb c.place 0 (λ e. omega (arith, e, late))) ∙ step.framed) (step.jump c asked)
+      (framed_there (is_of_process image g.number) c.place i c.late step.framed) (step.jump c asked)
       (not_last (suc c.place == length (ground_flow image g).code) (is_last i && not (is_inside (part_at (ground_flow image g) (suc c.place)))) (ne_eqb (suc c.place) (length (ground_flow image g).code) (λ e. omega (arith, e, low, there))))
 
   alone_right : (i : Instr) (from : ℕ) (stack next : Sorts) → Stepped i from stack next → (c : Comes image g from stack part) → suc from < end_of image g → Asked → AreRight image g from (suc from)
@@ -107,7 +105,7 @@ module _ (image : ImageParts) (g : Ground) (Asked : Type 0) (part : Option ℕ) 
     comes = λ c low.
         let there = c.there in
         let reached = next_reached image g c.place i stack next part (found_there i from c.place step.has there c.within) c.reached step.operands step.effect onward (omega (arith, low, there)) in
-        record { place = suc c.place; there = omega (arith, there); late = omega arith; within = omega (arith, low, there); reached = record { sorts = reached.sorts; stands = reached.stands ∙ step.same c.place } };
+        record { place = suc c.place; there = omega (arith, there); late = λ own. omega arith; within = omega (arith, low, there); reached = record { sorts = reached.sorts; stands = reached.stands ∙ step.same c.place } };
     right = λ c low asked. alone_right i from stack next step c low asked;
   }
 
@@ -117,7 +115,7 @@ module _ (image : ImageParts) (g : Ground) (Asked : Type 0) (part : Option ℕ) 
     comes = λ c low.
         let there = c.there in
         let reached = away_reached image g c.place i stack part (found_there i from c.place step.has there c.within) c.reached away (omega (arith, low, there)) in
-        record { place = suc c.place; there = omega (arith, there); late = omega arith; within = omega (arith, low, there); reached = record { sorts = reached.sorts; stands = reached.stands ∙ step.same c.place } };
+        record { place = suc c.place; there = omega (arith, there); late = λ own. omega arith; within = omega (arith, low, there); reached = record { sorts = reached.sorts; stands = reached.stands ∙ step.same c.place } };
     right = λ c low asked. alone_right i from stack next step c low asked;
   }
 

@@ -37,6 +37,17 @@ framed of_process instr.Return on = absurd (cc)
 framed true other on = refl
 framed false other on = refl
 
+-- what may stand anywhere but at a block's beginning may stand there where the block is no process's
+kept_false : (first : Bool) (i : Instr) → frames_right false false i ≡ true → frames_right false first i ≡ true
+kept_false first instr.Begin is = absurd (cc)
+kept_false first instr.Finish is = absurd (cc)
+kept_false first instr.Return is = refl
+kept_false first other is = refl
+
+pub framed_there : (of_process : Bool) (n : ℕ) (i : Instr) → (of_process ≡ true → 0 < n) → frames_right of_process false i ≡ true → frames_right of_process (n == 0) i ≡ true
+framed_there true n i late is = ap (λ b. frames_right true b i) (ne_eqb n 0 (λ e. let positive = late refl in omega (arith, e, positive))) ∙ is
+framed_there false n i late is = kept_false (n == 0) i is
+
 same_part_next : (n : ℕ) (i : Instr) (part : Option ℕ) → goes_on i ≡ true → part_next n i part ≡ part
 same_part_next n (instr.Open groups) part on = absurd (cc)
 same_part_next n instr.Close part on = absurd (cc)
@@ -104,14 +115,14 @@ here_or_behind m k low false is P here behind = let over = leb-false (suc m) k i
 
 module _ (image : ImageParts) (g : Ground) where
   -- an instruction that suits is right where its operands are there
-  right_there : (n : ℕ) (i : Instr) (stack next : Sorts) → 0 < n → suc n < length (ground_flow image g).code → is_inside (part_at (ground_flow image g) n) ≡ g.inside → suits image g i ≡ true
+  right_there : (n : ℕ) (i : Instr) (stack next : Sorts) → (is_of_process image g.number ≡ true → 0 < n) → suc n < length (ground_flow image g).code → is_inside (part_at (ground_flow image g) n) ≡ g.inside → suits image g i ≡ true
       → sorts_after image g.block i stack ≡ Some next → instr_right image g.out (ground_flow image g) n i stack ≡ true
   right_there n i stack next late early inside suit effect =
       let known = suits_by image g i suit in
       all_six (operands_right image g.block g.number i) (stack_right image g.block i stack) (jumps (ground_flow image g) n stack i) (stands_right g.out (is_inside (part_at (ground_flow image g) n)) i)
       (frames_right (is_of_process image g.number) (n == 0) i) (ends_right (ground_flow image g) n i) known.operands (fits_stack (sorts_after image g.block i stack) next effect)
       (jumps_nowhere (ground_flow image g) n stack i known.onward) (ap (λ b. stands_right g.out b i) inside ∙ known.stands)
-      (ap (λ b. frames_right (is_of_process image g.number) b i) (ne_eqb n 0 (λ e. omega (arith, e, late))) ∙ framed (is_of_process image g.number) i known.onward)
+      (framed_there (is_of_process image g.number) n i late (framed (is_of_process image g.number) i known.onward))
       (not_last (suc n == length (ground_flow image g).code) (is_last i && not (is_inside (part_at (ground_flow image g) (suc n)))) (ne_eqb (suc n) (length (ground_flow image g).code) (λ e. omega (arith, e, early))))
 
   -- the UPDATE block behind it is the same
@@ -121,7 +132,7 @@ module _ (image : ImageParts) (g : Ground) where
       sym (part_read (slice_get (ground_flow image g).parts (suc n)))
       ∙ (next.1 ∙ (same_part_next next.0 i (part_of (slice_get (ground_flow image g).parts n)) onward ∙ part_read (slice_get (ground_flow image g).parts n)))
 
-  passes_by : (is : List Instr) (m n : ℕ) (stack after : Sorts) → FitsBy image g is (g.block.first + m) stack (g.block.first + n) after → 0 < m → n < length (ground_flow image g).code
+  passes_by : (is : List Instr) (m n : ℕ) (stack after : Sorts) → FitsBy image g is (g.block.first + m) stack (g.block.first + n) after → (is_of_process image g.number ≡ true → 0 < m) → n < length (ground_flow image g).code
       → slice_get (ground_flow image g).stacks m ≡ Some stack → is_inside (part_at (ground_flow image g) m) ≡ g.inside → Passes image g.out (ground_flow image g) m n after
   passes_by [] m n stack after fits late early there inside =
       let same : m ≡ n = omega (arith, fits.0) in
@@ -138,7 +149,7 @@ module _ (image : ImageParts) (g : Ground) where
       stack_next image g.block g.number (ground_flow image g).code [] m i stack found there (omega (arith, behind, early))
       ∙ ap Some (next_is (goes_away i) (operands_right image g.block g.number i) (sorts_after image g.block i stack) fits.2.0 (stays i known.onward) known.operands fits.2.1) in
       let part = same_part_at m i found known.onward in
-      let rest = passes_by is (suc m) n fits.2.0 after (subst (λ k. FitsBy image g is k fits.2.0 (g.block.first + n) after) (let one_on : suc (g.block.first + m) ≡ g.block.first + suc m = omega arith in one_on) fits.2.2) (omega (arith, late)) early next (ap is_inside part ∙ inside) in
+      let rest = passes_by is (suc m) n fits.2.0 after (subst (λ k. FitsBy image g is k fits.2.0 (g.block.first + n) after) (let one_on : suc (g.block.first + m) ≡ g.block.first + suc m = omega arith in one_on) fits.2.2) (λ own. omega arith) early next (ap is_inside part ∙ inside) in
       let here = right_there m i stack fits.2.0 late (omega (arith, behind, early)) inside fits.1 fits.2.1 in
       record {
         rights = λ k low high. here_or_behind m k low (nat_le (suc m) k) refl (IsRightAt image g.out (ground_flow image g))
@@ -155,6 +166,6 @@ module _ (image : ImageParts) (g : Ground) where
           (subst (λ x. instr_right image g.out (ground_flow image g) k one x ≡ true) (let same : st ≡ sorts = cc in same) is)
 
   -- what fits is right
-  pub passes : (m n : ℕ) (stack after : Sorts) → Fits image g (g.block.first + m) stack (g.block.first + n) after → 0 < m → n < length (ground_flow image g).code
+  pub passes : (m n : ℕ) (stack after : Sorts) → Fits image g (g.block.first + m) stack (g.block.first + n) after → (is_of_process image g.number ≡ true → 0 < m) → n < length (ground_flow image g).code
       → slice_get (ground_flow image g).stacks m ≡ Some stack → is_inside (part_at (ground_flow image g) m) ≡ g.inside → Passes image g.out (ground_flow image g) m n after
   passes m n stack after fits late early there inside = passes_by fits.is m n stack after fits.each late early there inside

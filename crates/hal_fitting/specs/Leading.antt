@@ -1,16 +1,17 @@
 -- Code that leads from one address of a block to another, and what its jumps ask for.
-use Rattle.std.specs.Prelude.{◌≡◌, ◌≤◌, ◌<◌, ℕ, ◌+◌, List, [], Option, length}
+use Rattle.std.specs.Prelude.{◌≡◌, ◌≤◌, ◌<◌, ℕ, ◌+◌, true, List, [], Option, length}
 use Rattle.hal_code.specs.declared.image.ImageParts.{ImageParts}
+use Rattle.hal_code.specs.Blocks.{is_of_process}
 use Rattle.hal_code.specs.Effects.{Sorts}
 use Rattle.hal_code.specs.Flow.{is_inside}
 use Rattle.hal_fitting.specs.Fitting.{Ground, ground_flow, IsRightAt}
 use Rattle.hal_fitting.specs.Reaching.{IsReached}
 
--- control comes to this address of a block, which isn't its first one, with this stack, in this UPDATE block or outside of all
+-- control comes to this address of a block, which isn't the first one of a process, with this stack, in this UPDATE block or outside of all
 pub record Comes (image : ImageParts) (g : Ground) (at : ℕ) (stack : Sorts) (part : Option ℕ) : Type 0 where
   pub place : ℕ
   pub there : at ≡ g.block.first + place
-  pub late : 0 < place
+  pub late : is_of_process image g.number ≡ true → 0 < place
   pub within : place < length (ground_flow image g).code
   pub reached : IsReached (ground_flow image g) place stack part
 
