@@ -1,0 +1,2 @@
+mod Pairing
+pub mod Sorting
