@@ -14,7 +14,9 @@ pub mod Forwarding
 mod Chosen
 mod Listed
 mod Capped
-mod Lent
+mod FirstFound
+mod HeldSlots
+pub mod IndexedViews
 mod Formed
 pub mod Sited
 pub mod Chained

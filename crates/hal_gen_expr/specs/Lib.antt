@@ -10,6 +10,8 @@ pub mod Emitting
 pub mod Sizes
 pub mod ExpressionCode
 pub mod Standing
+pub mod FirstPlaces
+pub mod ViewSlots
 pub mod SeenSites
 pub mod SeenLed
 pub mod Emits

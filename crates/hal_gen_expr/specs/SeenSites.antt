@@ -1,6 +1,5 @@
 -- What each site of the program is.
-use Rattle.std.specs.Prelude.{◌≡◌, ◌≤◌, ◌+◌, ◌==◌, ℕ, List, Option, length, map}
-use Rattle.std.specs.List.{position}
+use Rattle.std.specs.Prelude.{◌≡◌, ◌≤◌, ◌+◌, length, map}
 use Rattle.std.specs.Borrow.{Bor}
 use Rattle.hal_storage.specs.declared.own_places.place.Place as rust-place
 use Rattle.hal_storage.specs.own_places.SeenPlaces.{seen_place}
@@ -12,6 +11,7 @@ use Rattle.hal_storage.specs.referents.Referents.{referents}
 use Rattle.hal_storage.specs.referents.SeenReferents.{seen_referent}
 use Rattle.hal_storage.specs.sets.SeenSets.{seen_set}
 use Rattle.hal_agreement.specs.Sites.{Site}
+use Rattle.hal_gen_expr.specs.FirstPlaces.{AreFirstPlaces}
 use Rattle.hal_gen_expr.specs.Numbering.{Numbering, numbering_with}
 use Rattle.hal_gen_expr.specs.declared.site.Site as rust-site
 
@@ -19,15 +19,11 @@ use Rattle.hal_gen_expr.specs.declared.site.Site as rust-site
 abbrev pub lent_place : Bor rust-place.Place → Place
 lent_place p = seen_place p.now
 
--- the first of places that are lent which belongs to the phrase with this number
-abbrev pub lent_place_in : List (Bor rust-place.Place) → ℕ → Option ℕ
-lent_place_in places owner = position (λ (p : Bor rust-place.Place). p.now.owner == owner) places
-
 unfoldable pub seen_site : rust-site.Site → Site
 seen_site s = record { set = seen_set s.set.now; places = map lent_place s.places.now; unit = s.unit; block = s.block; marks = s.marks.now }
 
 unfoldable pub seen_numbering : rust-site.Site → Numbering
-seen_numbering s = numbering_with s.shapes.now s.views.now s.calls.first s.calls.units.now
+seen_numbering s = numbering_with s.shapes.now s.views.now.list.items s.calls.first s.calls.units.now
 
 -- what is looked up is that of the set
 pub data IsSite (s : rust-site.Site) : Type 0 where
@@ -35,4 +31,5 @@ pub data IsSite (s : rust-site.Site) : Type 0 where
       → (processes : s.events.processes.now ≡ processes_of (seen_set s.set.now).phrases)
       → (declared : s.events.declared.now ≡ declared_events (seen_set s.set.now).phrases)
       → (few : length s.events.processes.now + length s.events.declared.now ≤ 65535)
-      → (counted : AreFirstCells (seen_set s.set.now).phrases (seen_set s.set.now).constants s.cells.now) → IsSite s
+      → (counted : AreFirstCells (seen_set s.set.now).phrases (seen_set s.set.now).constants s.cells.now)
+      → (placed : AreFirstPlaces (map lent_place s.places.now) s.first_places.now) → IsSite s

@@ -111,6 +111,7 @@ fn emit_bound(
     place: Place,
     one: Parameter,
 ) -> Result<(), Uncoded>
+    requires site { IsSite site.now }
     ensures { Emits (emitting.emit code.old.items place (calling.bound_by (seen_site site.now) one)) result code.new.items }
 {
     match own_place(site, one.declared) {
@@ -127,6 +128,7 @@ fn emit_bind(
     unit: usize,
     name: &Identifier,
 ) -> Result<(), Uncoded>
+    requires site { IsSite site.now }
     ensures { Emits (calling.bind_code (seen_site site.now) place unit code.old.items (seen_name name.now)) result code.new.items }
 {
     let one = parameter_in(site, unit, name)?;
@@ -143,6 +145,7 @@ fn emit_binds(
     place: Place,
     unit: usize,
 ) -> Result<(), Uncoded>
+    requires site { IsSite site.now }
     ensures { Emits (calling.binds_code (seen_site site.now) place unit code.old.items (map seen_name names.now)) result code.new.items }
 {
     let Some((name, others)) = names.split_first() else {
@@ -159,6 +162,7 @@ fn emit_copied(
     place: Place,
     one: Parameter,
 ) -> Result<(), Uncoded>
+    requires site { IsSite site.now }
     ensures { Emits (emitting.emit code.old.items place (calling.copied_by (seen_site site.now) one)) result code.new.items }
 {
     match own_place(site, one.declared) {

@@ -1,6 +1,8 @@
 //! Where phrases stand.
 
-use hal_code::{Run, View};
+use crate::first_places::FirstPlaces;
+use crate::view_list::Views;
+use hal_code::Run;
 use hal_storage::own_places::Place;
 use hal_storage::referents::{FirstCells, Referent};
 use hal_storage::sets::Set;
@@ -32,6 +34,7 @@ pub struct Site<'a> {
     pub events: Events<'a>,
     /// The own places of the process.
     pub places: &'a [&'a Place],
+    pub first_places: &'a FirstPlaces,
     /// The unit, by the number of its phrase.
     pub unit: usize,
     /// The block in which names are looked up.
@@ -41,6 +44,6 @@ pub struct Site<'a> {
     /// The kinds of the cells of the shapes, in the order of their numbers.
     pub shapes: &'a [Listing<Run<Kind>>],
     /// The views, in the order of their numbers.
-    pub views: &'a [View],
+    pub views: &'a Views,
     pub calls: Calls<'a>,
 }

@@ -9,38 +9,31 @@ ghost use Rattle.hal_code.specs.Sorts as sorts;
 ghost use Rattle.hal_meaning.specs.ReportNames.{first_place};
 ghost use Rattle.hal_gen_expr.specs.Leaves as leaves;
 ghost use Rattle.hal_gen_expr.specs.Numbering as numbers;
-ghost use Rattle.hal_gen_expr.specs.SeenSites.{lent_place, lent_place_in, seen_site, seen_numbering, IsSite};
+ghost use Rattle.hal_gen_expr.specs.SeenSites.{seen_site, seen_numbering, IsSite};
 
 use crate::elements::{Element, element_named};
 use crate::site::Site;
 use hal_code::{Base, Dimension, Instr, Run, Target, View};
 use hal_storage::cells::Storing;
 use hal_storage::elements::Shape;
-use hal_storage::own_places::Place;
 use hal_tree::Identifier;
 use hal_values::{Kind, Listing};
 
-/// The place among these of the first one that the phrase with this number has.
-fn place_in(places: &[&Place], owner: usize) -> Option<usize>
-    ensures { result ≡ lent_place_in places.now owner }
+/// The number of the first own place that the phrase with this number has, 0 where it has none.
+#[tactic(auto, using(crate::proofs::Sited::placed_of), unfolding(crate::specs::SeenSites::seen_site))]
+fn first_place(site: &Site<'_>, owner: usize) -> usize
+    requires site { IsSite site.now }
+    ensures { result ≡ first_place (seen_site site.now).places owner }
 {
-    places.iter().position(|place| place.owner == owner)
-}
-
-/// The number of the first place that the phrase with this number has among these, 0 where it has none.
-#[tactic(auto, using(crate::proofs::Lent::place_lent))]
-fn first_place(places: &[&Place], owner: usize) -> usize
-    ensures { result ≡ first_place (map lent_place places.now) owner }
-{
-    place_in(places, owner).unwrap_or(0)
+    site.first_places.at(owner)
 }
 
 /// The number of the first own place of the parameter that the phrase with this number declares.
-#[tactic(auto, unfolding(crate::specs::SeenSites::seen_site))]
 pub(crate) fn own_place(site: &Site<'_>, declared: usize) -> Option<u32>
+    requires site { IsSite site.now }
     ensures { result ≡ numbers.below numbers.most (first_place (seen_site site.now).places declared) }
 {
-    numbered(first_place(site.places, declared))
+    numbered(first_place(site, declared))
 }
 
 /// A number of 32 bits, below 4,294,967,295.
@@ -77,11 +70,11 @@ pub fn base_of(site: &Site<'_>, declared: usize, stored: Storing, before: u32) -
             Some(Base::Shared(number))
         }
         Storing::InPlaces => {
-            let number = number_behind(first_place(site.places, declared), before)?;
+            let number = number_behind(first_place(site, declared), before)?;
             Some(Base::Own(number))
         }
         Storing::ByReference => {
-            let place = numbered(first_place(site.places, declared))?;
+            let place = numbered(first_place(site, declared))?;
             let offset = numbered(before as usize)?;
             Some(Base::Through { place, offset })
         }
@@ -151,20 +144,11 @@ fn has_rows(found: &[Dimension], wanted: &[Dimension]) -> bool
 }
 
 /// Whether a view is that of cells of this kind in these dimensions, which begins there (image document, Views).
-pub fn is_cell_view(from: Base, rows: &[Dimension], kind: Kind, view: &View) -> bool
+pub(crate) fn is_cell_view(from: Base, rows: &[Dimension], kind: Kind, view: &View) -> bool
     ensures { result ≡ numbers.is_cell_view from rows.now kind view.now }
 {
     is_same_base(view.base, from)
         && (has_rows(view.dimensions.as_slice(), rows) && gives_cell(kind, view.target))
-}
-
-/// The place of this view among views.
-fn place_of(views: &[View], rows: &[Dimension], kind: Kind, from: Base) -> Option<usize>
-    ensures { result ≡ position (numbers.is_cell_view from rows.now kind) views.now }
-{
-    views
-        .iter()
-        .position(|view| is_cell_view(from, rows, kind, view))
 }
 
 /// The number of this view.
@@ -172,7 +156,7 @@ fn place_of(views: &[View], rows: &[Dimension], kind: Kind, from: Base) -> Optio
 fn view_number(site: &Site<'_>, rows: &[Dimension], kind: Kind, from: Base) -> Option<u32>
     ensures { result ≡ numbers.view_number (seen_numbering site.now) rows.now kind from }
 {
-    let place = place_of(site.views, rows, kind, from)?;
+    let place = site.views.cell_number(from, rows, kind)?;
     numbered(place)
 }
 
@@ -240,20 +224,11 @@ fn gives_area(shape: u32, target: Target) -> bool
 }
 
 /// Whether a view is that of the cells of the shape with this number in these dimensions, which begins there (image document, Views).
-pub fn is_area_view(from: Base, rows: &[Dimension], shape: u32, view: &View) -> bool
+pub(crate) fn is_area_view(from: Base, rows: &[Dimension], shape: u32, view: &View) -> bool
     ensures { result ≡ numbers.is_area_view from rows.now shape view.now }
 {
     is_same_base(view.base, from)
         && (has_rows(view.dimensions.as_slice(), rows) && gives_area(shape, view.target))
-}
-
-/// The place of this view among views.
-fn place_of_area(views: &[View], rows: &[Dimension], from: Base, shape: u32) -> Option<usize>
-    ensures { result ≡ position (numbers.is_area_view from rows.now shape) views.now }
-{
-    views
-        .iter()
-        .position(|view| is_area_view(from, rows, shape, view))
 }
 
 /// The number of this view.
@@ -261,7 +236,7 @@ fn place_of_area(views: &[View], rows: &[Dimension], from: Base, shape: u32) -> 
 fn area_number(site: &Site<'_>, rows: &[Dimension], shape: u32, from: Base) -> Option<u32>
     ensures { result ≡ numbers.area_number (seen_numbering site.now) rows.now shape from }
 {
-    let place = place_of_area(site.views, rows, from, shape)?;
+    let place = site.views.area_number(from, rows, shape)?;
     numbered(place)
 }
 

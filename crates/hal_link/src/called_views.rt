@@ -11,26 +11,21 @@ ghost use Rattle.hal_link.specs.CalledViews as views;
 ghost use Rattle.hal_link.specs.SeenLinking.{IsLaid};
 ghost use Rattle.hal_link.specs.SeenOutlines.{seen_outline};
 
+use crate::first_placed::Placed;
 use crate::linking::{site_in, uncalled};
 use crate::outlines::Outline;
-use crate::places::places_of;
+use crate::places::placed_of;
 use crate::views::{push_cell, push_phrases};
-use hal_code::View;
-use hal_gen_expr::{Site, base_of, body_at, inputs_in, parameter_named};
+use hal_gen_expr::{Site, Views, base_of, body_at, inputs_in, parameter_named};
 use hal_storage::cells::Storing;
-use hal_storage::own_places::Place;
 use hal_tree::Identifier;
 use std::alloc::AllocError;
 
 /// Adds that of the parameter of this name of the unit.
 #[tactic(auto, unfolding(hal_gen_expr::specs::SeenSites::seen_site))]
-fn push_parameter(
-    into: &mut Vec<View>,
-    site: &Site<'_>,
-    name: &Identifier,
-) -> Result<(), AllocError>
+fn push_parameter(into: &mut Views, site: &Site<'_>, name: &Identifier) -> Result<(), AllocError>
     requires site { IsSite site.now }
-    ensures { OnOk result (into.new.items ≡ views.with_parameter (seen_site site.now) into.old.items (parameter_named (seen_site site.now).set (seen_site site.now).unit (seen_name name.now))) }
+    ensures { OnOk result (into.new.list.items ≡ views.with_parameter (seen_site site.now) into.old.list.items (parameter_named (seen_site site.now).set (seen_site site.now).unit (seen_name name.now))) }
 {
     let one = parameter_named(site.alloc, site.set, site.unit, name)?;
     let from = base_of(site, one.declared, Storing::InPlaces, 0);
@@ -40,12 +35,12 @@ fn push_parameter(
 /// Adds those of the parameters of these names of the unit.
 #[tactic(auto, unfolding(crate::specs::CalledViews::with_parameters))]
 fn push_parameters(
-    into: &mut Vec<View>,
+    into: &mut Views,
     site: &Site<'_>,
     names: &[Identifier],
 ) -> Result<(), AllocError>
     requires site { IsSite site.now }
-    ensures { OnOk result (into.new.items ≡ views.with_parameters (seen_site site.now) into.old.items (map seen_name names.now)) }
+    ensures { OnOk result (into.new.list.items ≡ views.with_parameters (seen_site site.now) into.old.list.items (map seen_name names.now)) }
 {
     for name in names {
         push_parameter(into, site, name)?;
@@ -56,20 +51,21 @@ fn push_parameters(
 /// Adds those of the unit with this number, which a process calls that has these own places.
 #[tactic(auto, unfolding(hal_gen_expr::specs::SeenSites::seen_site))]
 fn push_called(
-    into: &mut Vec<View>,
+    into: &mut Views,
     whole: &Site<'_>,
-    places: &[&Place],
+    placed: &Placed<'_>,
+    unviewed: &Views,
     process: u8,
     unit: usize,
 ) -> Result<(), AllocError>
     requires whole { IsSite whole.now }
-    requires places { map lent_place places.now ≡ places_of_process (seen_set whole.now.set.now) process }
-    ensures { OnOk result (into.new.items ≡ views.with_called whole.now.shapes.now (seen_set whole.now.set.now) process into.old.items (sets.body_at (seen_set whole.now.set.now) unit)) }
+    requires places { map lent_place placed.now.places.items ≡ places_of_process (seen_set whole.now.set.now) process }
+    ensures { OnOk result (into.new.list.items ≡ views.with_called whole.now.shapes.now (seen_set whole.now.set.now) process into.old.list.items (sets.body_at (seen_set whole.now.set.now) unit)) }
 {
     let Some(body) = body_at(whole, unit) else {
         return Ok(());
     };
-    let site = site_in(whole, places, body, &[], uncalled());
+    let site = site_in(whole, placed, body, unviewed, uncalled());
     push_phrases(into, &site, whole.set.names.phrases())?;
     push_parameters(into, &site, inputs_in(body))
 }
@@ -77,47 +73,56 @@ fn push_called(
 /// Adds those of these units.
 #[tactic(auto, unfolding(crate::specs::CalledViews::with_all_called))]
 fn push_all_called(
-    into: &mut Vec<View>,
+    into: &mut Views,
     whole: &Site<'_>,
-    places: &[&Place],
+    placed: &Placed<'_>,
+    unviewed: &Views,
     process: u8,
     units: &[usize],
 ) -> Result<(), AllocError>
     requires whole { IsSite whole.now }
-    requires places { map lent_place places.now ≡ places_of_process (seen_set whole.now.set.now) process }
-    ensures { OnOk result (into.new.items ≡ views.with_all_called whole.now.shapes.now (seen_set whole.now.set.now) process into.old.items units.now) }
+    requires places { map lent_place placed.now.places.items ≡ places_of_process (seen_set whole.now.set.now) process }
+    ensures { OnOk result (into.new.list.items ≡ views.with_all_called whole.now.shapes.now (seen_set whole.now.set.now) process into.old.list.items units.now) }
 {
     for unit in units {
-        push_called(into, whole, places, process, *unit)?;
+        push_called(into, whole, placed, unviewed, process, *unit)?;
     }
     Ok(())
 }
 
 /// Adds those of the units that a process calls.
 #[tactic(auto, using(crate::proofs::Placed::places_laid))]
-fn push_outline(into: &mut Vec<View>, whole: &Site<'_>, outline: &Outline) -> Result<(), AllocError>
+fn push_outline(into: &mut Views, whole: &Site<'_>, outline: &Outline) -> Result<(), AllocError>
     requires whole { IsSite whole.now }
     requires laid { IsLaid whole.now.set.now }
-    ensures { OnOk result (into.new.items ≡ views.with_all_called whole.now.shapes.now (seen_set whole.now.set.now) outline.now.process into.old.items outline.now.called.items) }
+    ensures { OnOk result (into.new.list.items ≡ views.with_all_called whole.now.shapes.now (seen_set whole.now.set.now) outline.now.process into.old.list.items outline.now.called.items) }
 {
-    let places = places_of(
+    let placed = placed_of(
         whole.alloc,
         &whole.set.layout.own,
         usize::from(outline.process),
     )?;
-    push_all_called(into, whole, &places, outline.process, &outline.called)
+    let unviewed = Views::new(whole.alloc);
+    push_all_called(
+        into,
+        whole,
+        &placed,
+        &unviewed,
+        outline.process,
+        &outline.called,
+    )
 }
 
 /// Adds those of the units that these processes call.
 #[tactic(auto, unfolding(crate::specs::CalledViews::with_outlines))]
 pub(crate) fn push_outlines(
-    into: &mut Vec<View>,
+    into: &mut Views,
     whole: &Site<'_>,
     list: &[Outline],
 ) -> Result<(), AllocError>
     requires whole { IsSite whole.now }
     requires laid { IsLaid whole.now.set.now }
-    ensures { OnOk result (into.new.items ≡ views.with_outlines whole.now.shapes.now (seen_set whole.now.set.now) into.old.items (map seen_outline list.now)) }
+    ensures { OnOk result (into.new.list.items ≡ views.with_outlines whole.now.shapes.now (seen_set whole.now.set.now) into.old.list.items (map seen_outline list.now)) }
 {
     for outline in list {
         push_outline(into, whole, outline)?;

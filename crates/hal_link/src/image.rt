@@ -11,6 +11,7 @@ ghost use Rattle.hal_storage.specs.referents.SeenReferents.{seen_referent};
 ghost use Rattle.hal_storage.specs.sets.SeenSets.{seen_set};
 ghost use Rattle.hal_meaning.specs.Bodies.{processes_of};
 ghost use Rattle.hal_meaning.specs.Events.{declared_events};
+ghost use Rattle.hal_gen_expr.specs.FirstPlaces.{AreFirstPlaces};
 ghost use Rattle.hal_gen_expr.specs.SeenSites.{IsSite};
 ghost use Rattle.hal_link.specs.CalledViews.{views_of};
 ghost use Rattle.hal_link.specs.Links.{HasImage, MakesImage};
@@ -28,7 +29,7 @@ use crate::rows::{cell_rows, event_rows, place_rows};
 use crate::shapes::shapes_of;
 use crate::unlinked::Unlinked;
 use hal_code::{Block, ImageParts, Instr, Process, Run, View};
-use hal_gen_expr::{Events, Site};
+use hal_gen_expr::{Events, FirstPlaces, Site, Views};
 use hal_lock_groups::all_groups;
 use hal_reach::processes_of;
 use hal_storage::events::declared_events;
@@ -46,12 +47,15 @@ fn whole_of<'a>(
     cells: &'a FirstCells,
     events: Events<'a>,
     shapes: &'a [Listing<Run<Kind>>],
+    first_places: &'a FirstPlaces,
+    views: &'a Views,
 ) -> Site<'a>
     requires listed { map seen_referent referents.now ≡ naming.referents (seen_set set.now).phrases (seen_set set.now).constants }
     requires counted { AreFirstCells (seen_set set.now).phrases (seen_set set.now).constants cells.now }
     requires processes { events.processes.now ≡ processes_of (seen_set set.now).phrases }
     requires declared { events.declared.now ≡ declared_events (seen_set set.now).phrases }
     requires few { length events.processes.now + length events.declared.now ≤ 65535 }
+    requires placed { AreFirstPlaces [] first_places.now }
     ensures site { IsSite result }
     ensures set { result.set.now ≡ set.now }
     ensures shapes { result.shapes.now ≡ shapes.now }
@@ -63,11 +67,12 @@ fn whole_of<'a>(
         cells,
         events,
         places: &[],
+        first_places,
         unit: 0,
         block: 0,
         marks: &[],
         shapes,
-        views: &[],
+        views,
         calls: uncalled(),
     }
 }
@@ -203,13 +208,13 @@ fn views_in(
     whole: &Site<'_>,
     processes: &[usize],
     outlines: &[Outline],
-) -> Result<Vec<View>, AllocError>
+) -> Result<Views, AllocError>
     requires whole { IsSite whole.now }
     requires laid { seen.IsLaid whole.now.set.now }
     requires shapes { whole.now.shapes.now ≡ shapes_of (seen_set whole.now.set.now) }
     requires processes { processes.now ≡ processes_of (seen_set whole.now.set.now).phrases }
     requires outlined { map seen_outline outlines.now ≡ outlining.outlines_of (seen_set whole.now.set.now) }
-    ensures { IfOk result (λ list. list.items ≡ views_of (seen_set whole.now.set.now)) }
+    ensures { IfOk result (λ found. found.list.items ≡ views_of (seen_set whole.now.set.now)) }
 {
     let mut views = views_of(whole, processes)?;
     push_outlines(&mut views, whole, outlines)?;
@@ -232,12 +237,24 @@ pub fn link(alloc: Global, set: &Set<'_>) -> Result<ImageParts, Unlinked>
         declared: &declared,
     };
     let shapes = shapes_of(alloc, set)?;
-    let whole = whole_of(alloc, &*set, &referents, &cells, events, &shapes);
+    let unplaced = FirstPlaces::of(alloc, &[])?;
+    let unviewed = Views::new(alloc);
+    let whole = whole_of(
+        alloc, &*set, &referents, &cells, events, &shapes, &unplaced, &unviewed,
+    );
     let outlines = outlines_of(alloc, set, &processes)?;
     let views = views_in(&whole, &processes, &outlines)?;
     let groups = all_groups(alloc, set.names, set.known)?;
     let mut code = Vec::new(alloc);
     let mut blocks = Vec::new(alloc);
     link_outlines(&mut code, &mut blocks, &whole, &views, &groups, &outlines)?;
-    image_with(alloc, set, shapes, &outlines, views, code, blocks)
+    image_with(
+        alloc,
+        set,
+        shapes,
+        &outlines,
+        views.into_list(),
+        code,
+        blocks,
+    )
 }

@@ -2,6 +2,7 @@
 #![tactic(auto)]
 
 mod called_views;
+mod first_placed;
 mod image;
 mod laws;
 mod linking;

@@ -17,17 +17,17 @@ ghost use Rattle.hal_link.specs.SeenLinking.{IsLaid};
 ghost use Rattle.hal_link.specs.SeenOutlines.{seen_outline};
 ghost use Rattle.hal_link.specs.Views as views;
 
+use crate::first_placed::Placed;
 use crate::outlines::Outline;
-use crate::places::places_of;
+use crate::places::placed_of;
 use crate::processes::link_process_at;
 use crate::units::link_unit_at;
 use crate::unlinked::Unlinked;
 use crate::views::push_phrases;
-use hal_code::{Block, Instr, View};
+use hal_code::{Block, Instr};
 use hal_gen::Locks;
-use hal_gen_expr::{Calls, Site, body_at};
+use hal_gen_expr::{Calls, Site, Views, body_at};
 use hal_lock_groups::groups_at;
-use hal_storage::own_places::Place;
 use hal_storage::sets::Body;
 use std::alloc::{AllocError, Global};
 
@@ -43,16 +43,16 @@ pub(crate) fn uncalled<'a>() -> Calls<'a> {
 #[tactic(auto, unfolding(hal_gen_expr::specs::SeenSites::seen_site, hal_gen_expr::specs::SeenSites::seen_numbering))]
 pub(crate) fn site_in<'a>(
     whole: &Site<'a>,
-    places: &'a [&'a Place],
+    placed: &'a Placed<'a>,
     body: &'a Body<'a>,
-    views: &'a [View],
+    views: &'a Views,
     calls: Calls<'a>,
 ) -> Site<'a>
     requires whole { IsSite whole.now }
     ensures site { IsSite result }
-    ensures seen { seen_site result ≡ finding.site_with (seen_set whole.now.set.now) (map lent_place places.now) (seen_body body.now) }
+    ensures seen { seen_site result ≡ finding.site_with (seen_set whole.now.set.now) (map lent_place placed.now.places.items) (seen_body body.now) }
     ensures shapes { result.shapes.now ≡ whole.now.shapes.now }
-    ensures views { seen_numbering result ≡ numbering_with whole.now.shapes.now views.now calls.entry.first calls.entry.units.now }
+    ensures views { seen_numbering result ≡ numbering_with whole.now.shapes.now views.now.list.items calls.entry.first calls.entry.units.now }
 {
     Site {
         alloc: whole.alloc,
@@ -60,7 +60,8 @@ pub(crate) fn site_in<'a>(
         referents: whole.referents,
         cells: whole.cells,
         events: whole.events,
-        places,
+        places: &placed.places,
+        first_places: &placed.first_places,
         unit: body.number,
         block: body.number,
         marks: &body.marks,
@@ -99,21 +100,21 @@ fn link_unit(
     code: &mut Vec<Instr>,
     blocks: &mut Vec<Block>,
     whole: &Site<'_>,
-    views: &[View],
+    views: &Views,
     groups: &[u16],
-    places: &[&Place],
+    placed: &Placed<'_>,
     outline: &Outline,
     unit: usize,
 ) -> Result<(), Unlinked>
     requires whole { IsSite whole.now }
-    requires places { map lent_place places.now ≡ places_of_process (seen_set whole.now.set.now) outline.now.process }
+    requires places { map lent_place placed.now.places.items ≡ places_of_process (seen_set whole.now.set.now) outline.now.process }
     requires groups { AreGroups (seen_set whole.now.set.now).phrases (seen_set whole.now.set.now).constants groups.now }
-    ensures { Links (linking.with_unit (seen_set whole.now.set.now) (outlines.numbering_of whole.now.shapes.now views.now (seen_outline outline.now)) outline.now.process (linking.linked code.old.items blocks.old.items) (sets.body_at (seen_set whole.now.set.now) unit)) result code.new.items blocks.new.items }
+    ensures { Links (linking.with_unit (seen_set whole.now.set.now) (outlines.numbering_of whole.now.shapes.now views.now.list.items (seen_outline outline.now)) outline.now.process (linking.linked code.old.items blocks.old.items) (sets.body_at (seen_set whole.now.set.now) unit)) result code.new.items blocks.new.items }
 {
     let Some(body) = body_at(whole, unit) else {
         return Err(Unlinked::Lost);
     };
-    let site = site_in(whole, places, body, views, calls_of(outline));
+    let site = site_in(whole, placed, body, views, calls_of(outline));
     let found = locks_of(whole.alloc, groups, &body.marks)?;
     let locks = Locks { groups: &found };
     link_unit_at(code, blocks, &site, &locks, outline.process, body)
@@ -125,19 +126,19 @@ fn link_units(
     code: &mut Vec<Instr>,
     blocks: &mut Vec<Block>,
     whole: &Site<'_>,
-    views: &[View],
+    views: &Views,
     groups: &[u16],
-    places: &[&Place],
+    placed: &Placed<'_>,
     outline: &Outline,
     units: &[usize],
 ) -> Result<(), Unlinked>
     requires whole { IsSite whole.now }
-    requires places { map lent_place places.now ≡ places_of_process (seen_set whole.now.set.now) outline.now.process }
+    requires places { map lent_place placed.now.places.items ≡ places_of_process (seen_set whole.now.set.now) outline.now.process }
     requires groups { AreGroups (seen_set whole.now.set.now).phrases (seen_set whole.now.set.now).constants groups.now }
-    ensures { Links (linking.with_units (seen_set whole.now.set.now) (outlines.numbering_of whole.now.shapes.now views.now (seen_outline outline.now)) outline.now.process units.now (linking.linked code.old.items blocks.old.items)) result code.new.items blocks.new.items }
+    ensures { Links (linking.with_units (seen_set whole.now.set.now) (outlines.numbering_of whole.now.shapes.now views.now.list.items (seen_outline outline.now)) outline.now.process units.now (linking.linked code.old.items blocks.old.items)) result code.new.items blocks.new.items }
 {
     for unit in units {
-        link_unit(code, blocks, whole, views, groups, places, outline, *unit)?;
+        link_unit(code, blocks, whole, views, groups, placed, outline, *unit)?;
     }
     Ok(())
 }
@@ -148,20 +149,20 @@ fn link_process(
     code: &mut Vec<Instr>,
     blocks: &mut Vec<Block>,
     whole: &Site<'_>,
-    views: &[View],
+    views: &Views,
     groups: &[u16],
-    places: &[&Place],
+    placed: &Placed<'_>,
     outline: &Outline,
 ) -> Result<(), Unlinked>
     requires whole { IsSite whole.now }
-    requires places { map lent_place places.now ≡ places_of_process (seen_set whole.now.set.now) outline.now.process }
+    requires places { map lent_place placed.now.places.items ≡ places_of_process (seen_set whole.now.set.now) outline.now.process }
     requires groups { AreGroups (seen_set whole.now.set.now).phrases (seen_set whole.now.set.now).constants groups.now }
-    ensures { Links (linking.with_process (seen_set whole.now.set.now) (outlines.numbering_of whole.now.shapes.now views.now (seen_outline outline.now)) outline.now.process (linking.linked code.old.items blocks.old.items) (sets.body_at (seen_set whole.now.set.now) outline.now.unit)) result code.new.items blocks.new.items }
+    ensures { Links (linking.with_process (seen_set whole.now.set.now) (outlines.numbering_of whole.now.shapes.now views.now.list.items (seen_outline outline.now)) outline.now.process (linking.linked code.old.items blocks.old.items) (sets.body_at (seen_set whole.now.set.now) outline.now.unit)) result code.new.items blocks.new.items }
 {
     let Some(body) = body_at(whole, outline.unit) else {
         return Err(Unlinked::Lost);
     };
-    let site = site_in(whole, places, body, views, calls_of(outline));
+    let site = site_in(whole, placed, body, views, calls_of(outline));
     let found = locks_of(whole.alloc, groups, &body.marks)?;
     let locks = Locks { groups: &found };
     link_process_at(code, blocks, &site, &locks, outline.process, body)
@@ -173,16 +174,16 @@ fn link_outline(
     code: &mut Vec<Instr>,
     blocks: &mut Vec<Block>,
     whole: &Site<'_>,
-    views: &[View],
+    views: &Views,
     groups: &[u16],
     outline: &Outline,
 ) -> Result<(), Unlinked>
     requires whole { IsSite whole.now }
     requires laid { IsLaid whole.now.set.now }
     requires groups { AreGroups (seen_set whole.now.set.now).phrases (seen_set whole.now.set.now).constants groups.now }
-    ensures { Links (linking.with_outline (seen_set whole.now.set.now) whole.now.shapes.now views.now (seen_outline outline.now) (linking.linked code.old.items blocks.old.items)) result code.new.items blocks.new.items }
+    ensures { Links (linking.with_outline (seen_set whole.now.set.now) whole.now.shapes.now views.now.list.items (seen_outline outline.now) (linking.linked code.old.items blocks.old.items)) result code.new.items blocks.new.items }
 {
-    let places = places_of(
+    let placed = placed_of(
         whole.alloc,
         &whole.set.layout.own,
         usize::from(outline.process),
@@ -193,11 +194,11 @@ fn link_outline(
         whole,
         views,
         groups,
-        &places,
+        &placed,
         outline,
         &outline.called,
     )?;
-    link_process(code, blocks, whole, views, groups, &places, outline)
+    link_process(code, blocks, whole, views, groups, &placed, outline)
 }
 
 /// Adds the code and the blocks of these processes, one behind the other.
@@ -206,14 +207,14 @@ pub(crate) fn link_outlines(
     code: &mut Vec<Instr>,
     blocks: &mut Vec<Block>,
     whole: &Site<'_>,
-    views: &[View],
+    views: &Views,
     groups: &[u16],
     list: &[Outline],
 ) -> Result<(), Unlinked>
     requires whole { IsSite whole.now }
     requires laid { IsLaid whole.now.set.now }
     requires groups { AreGroups (seen_set whole.now.set.now).phrases (seen_set whole.now.set.now).constants groups.now }
-    ensures { Links (linking.with_outlines (seen_set whole.now.set.now) whole.now.shapes.now views.now (map seen_outline list.now) (linking.linked code.old.items blocks.old.items)) result code.new.items blocks.new.items }
+    ensures { Links (linking.with_outlines (seen_set whole.now.set.now) whole.now.shapes.now views.now.list.items (map seen_outline list.now) (linking.linked code.old.items blocks.old.items)) result code.new.items blocks.new.items }
 {
     for outline in list {
         link_outline(code, blocks, whole, views, groups, outline)?;
@@ -221,34 +222,52 @@ pub(crate) fn link_outlines(
     Ok(())
 }
 
+/// Adds the views that the code of the unit with this number names in the process with that one, which has these own places.
+#[tactic(auto, unfolding(hal_gen_expr::specs::SeenSites::seen_site))]
+fn push_unit(
+    into: &mut Views,
+    whole: &Site<'_>,
+    placed: &Placed<'_>,
+    unviewed: &Views,
+    process: usize,
+    unit: usize,
+) -> Result<(), AllocError>
+    requires whole { IsSite whole.now }
+    requires places { map lent_place placed.now.places.items ≡ places_of_process (seen_set whole.now.set.now) process }
+    ensures { OnOk result (into.new.list.items ≡ views.with_body whole.now.shapes.now (seen_set whole.now.set.now) process into.old.list.items (sets.body_at (seen_set whole.now.set.now) unit)) }
+{
+    let Some(body) = body_at(whole, unit) else {
+        return Ok(());
+    };
+    let site = site_in(whole, placed, body, unviewed, uncalled());
+    push_phrases(into, &site, whole.set.names.phrases())
+}
+
 /// Adds the views that the code of the process with this number names, whose unit has that one.
-#[tactic(auto, using(crate::proofs::Placed::places_laid), unfolding(hal_gen_expr::specs::SeenSites::seen_site))]
+#[tactic(auto, using(crate::proofs::Placed::places_laid))]
 fn push_views(
-    into: &mut Vec<View>,
+    into: &mut Views,
     whole: &Site<'_>,
     process: usize,
     unit: usize,
 ) -> Result<(), AllocError>
     requires whole { IsSite whole.now }
     requires laid { IsLaid whole.now.set.now }
-    ensures { OnOk result (into.new.items ≡ views.with_body whole.now.shapes.now (seen_set whole.now.set.now) process into.old.items (sets.body_at (seen_set whole.now.set.now) unit)) }
+    ensures { OnOk result (into.new.list.items ≡ views.with_body whole.now.shapes.now (seen_set whole.now.set.now) process into.old.list.items (sets.body_at (seen_set whole.now.set.now) unit)) }
 {
-    let Some(body) = body_at(whole, unit) else {
-        return Ok(());
-    };
-    let places = places_of(whole.alloc, &whole.set.layout.own, process)?;
-    let site = site_in(whole, &places, body, &[], uncalled());
-    push_phrases(into, &site, whole.set.names.phrases())
+    let placed = placed_of(whole.alloc, &whole.set.layout.own, process)?;
+    let unviewed = Views::new(whole.alloc);
+    push_unit(into, whole, &placed, &unviewed, process, unit)
 }
 
 /// The views that the code of the processes names whose units have these numbers.
 #[tactic(auto, unfolding(crate::specs::Views::with_processes))]
-pub(crate) fn views_of(whole: &Site<'_>, units: &[usize]) -> Result<Vec<View>, AllocError>
+pub(crate) fn views_of(whole: &Site<'_>, units: &[usize]) -> Result<Views, AllocError>
     requires whole { IsSite whole.now }
     requires laid { IsLaid whole.now.set.now }
-    ensures { IfOk result (λ list. list.items ≡ views.with_processes whole.now.shapes.now (seen_set whole.now.set.now) 0 [] units.now) }
+    ensures { IfOk result (λ found. found.list.items ≡ views.with_processes whole.now.shapes.now (seen_set whole.now.set.now) 0 [] units.now) }
 {
-    let mut list = Vec::new(whole.alloc);
+    let mut list = Views::new(whole.alloc);
     for (process, unit) in units.iter().enumerate() {
         push_views(&mut list, whole, process, *unit)?;
     }

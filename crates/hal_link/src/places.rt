@@ -5,6 +5,8 @@ ghost use Rattle.hal_storage.specs.own_places.SeenPlaces.{seen_own, seen_place};
 ghost use Rattle.hal_gen_expr.specs.SeenSites.{lent_place};
 ghost use Rattle.hal_link.specs.Placing.{places_in};
 
+use crate::first_placed::Placed;
+use hal_gen_expr::FirstPlaces;
 use hal_storage::own_places::{OwnPlaces, Place};
 use std::alloc::{AllocError, Global};
 
@@ -44,4 +46,20 @@ pub(crate) fn places_of<'a>(
     push_places(&mut list, &own.common)?;
     push_places(&mut list, others)?;
     Ok(list)
+}
+
+/// The same, with the first of each phrase among them.
+pub(crate) fn placed_of<'a>(
+    alloc: Global,
+    own: &'a OwnPlaces,
+    process: usize,
+) -> Result<Placed<'a>, AllocError>
+    ensures { IfOk result (λ placed. map lent_place placed.places.items ≡ places_in (seen_own own.now) process) }
+{
+    let places = places_of(alloc, own, process)?;
+    let first_places = FirstPlaces::of(alloc, &places)?;
+    Ok(Placed {
+        places,
+        first_places,
+    })
 }

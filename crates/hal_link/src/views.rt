@@ -1,14 +1,12 @@
 //! The views that code names.
 
 ghost use Rattle.std.specs.Prelude.{◌≡◌, OnOk, Some, map};
-ghost use Rattle.std.specs.List.{list_any};
 ghost use Rattle.hal_storage.specs.cells.SeenStoring.{seen_storing};
 ghost use Rattle.hal_phrases.specs.SeenPhrases.{seen_node, seen_phrase};
 ghost use Rattle.hal_storage.specs.referents.SeenReferents.{seen_meant, seen_referent};
 ghost use Rattle.hal_tree.specs.Rows.{expressions};
 ghost use Rattle.hal_tree.specs.SeenExpressions.{seen_expression, seen_reference, seen_subscript};
 ghost use Rattle.hal_tree.specs.SeenLeaves.{seen_name};
-ghost use Rattle.hal_gen_expr.specs.Numbering.{is_area_view, is_cell_view};
 ghost use Rattle.hal_meaning.specs.Calls.{parameter_named};
 ghost use Rattle.hal_gen_expr.specs.Shapes.{runs_of};
 ghost use Rattle.hal_gen_expr.specs.SeenLed.{seen_led};
@@ -18,9 +16,8 @@ ghost use Rattle.hal_link.specs.Views as views;
 use hal_code::{Base, Dimension, Run, Target, View};
 use hal_gen::within_block;
 use hal_gen_expr::{
-    Element, Led, Site, base_of, element_named, first_chosen, inputs_at, is_area_view,
-    is_cell_view, is_plain, led_by, outputs_at, parameter_named, parameter_runs, referent,
-    rows_left, shape_in,
+    Element, Led, Site, Views, base_of, element_named, first_chosen, inputs_at, is_plain, led_by,
+    outputs_at, parameter_named, parameter_runs, referent, rows_left, shape_in,
 };
 use hal_phrases::{Node, Phrase, Role};
 use hal_storage::cells::Storing;
@@ -29,28 +26,19 @@ use hal_tree::{Expr, Identifier, Reference, Subscript};
 use hal_values::{Kind, Listing};
 use std::alloc::AllocError;
 
-/// Whether the view of cells of this kind in these dimensions, which begins there, is among these.
-fn has_view(views: &[View], rows: &[Dimension], kind: Kind, from: Base) -> bool
-    ensures { result ≡ list_any (is_cell_view from rows.now kind) views.now }
-{
-    views
-        .iter()
-        .any(|view| is_cell_view(from, rows, kind, view))
-}
-
 /// Adds the view of cells of this kind in these dimensions, which begins there, unless it is among them.
 pub(crate) fn push_cell(
-    into: &mut Vec<View>,
+    into: &mut Views,
     rows: Vec<Dimension>,
     kind: Kind,
     from: Option<Base>,
 ) -> Result<(), AllocError>
-    ensures { OnOk result (into.new.items ≡ views.with_cell rows.items kind into.old.items from) }
+    ensures { OnOk result (into.new.list.items ≡ views.with_cell rows.items kind into.old.list.items from) }
 {
     let Some(base) = from else {
         return Ok(());
     };
-    if has_view(into, &rows, kind, base) {
+    if into.has_cell(base, &rows, kind) {
         return Ok(());
     }
     into.push(View {
@@ -63,14 +51,14 @@ pub(crate) fn push_cell(
 
 /// Adds that of an element.
 fn push_element(
-    into: &mut Vec<View>,
+    into: &mut Views,
     site: &Site<'_>,
     declared: usize,
     stored: Storing,
     one: Option<Element>,
 ) -> Result<(), AllocError>
     requires site { IsSite site.now }
-    ensures { OnOk result (into.new.items ≡ views.with_element (seen_site site.now) declared (seen_storing stored) into.old.items one) }
+    ensures { OnOk result (into.new.list.items ≡ views.with_element (seen_site site.now) declared (seen_storing stored) into.old.list.items one) }
 {
     match one {
         None => Ok(()),
@@ -83,13 +71,13 @@ fn push_element(
 
 /// Adds that of the one element to which names lead, where it is one.
 fn push_declared(
-    into: &mut Vec<View>,
+    into: &mut Views,
     site: &Site<'_>,
     path: &[Identifier],
     referent: &Referent,
 ) -> Result<(), AllocError>
     requires site { IsSite site.now }
-    ensures { OnOk result (into.new.items ≡ views.with_referent (seen_site site.now) into.old.items (map seen_name path.now) (seen_referent referent.now)) }
+    ensures { OnOk result (into.new.list.items ≡ views.with_referent (seen_site site.now) into.old.list.items (map seen_name path.now) (seen_referent referent.now)) }
 {
     match referent {
         Referent::Data {
@@ -111,13 +99,13 @@ fn push_declared(
 }
 
 fn push_meant(
-    into: &mut Vec<View>,
+    into: &mut Views,
     site: &Site<'_>,
     path: &[Identifier],
     meant: Meant<'_>,
 ) -> Result<(), AllocError>
     requires site { IsSite site.now }
-    ensures { OnOk result (into.new.items ≡ views.with_referent (seen_site site.now) into.old.items (map seen_name path.now) (seen_meant meant.entry)) }
+    ensures { OnOk result (into.new.list.items ≡ views.with_referent (seen_site site.now) into.old.list.items (map seen_name path.now) (seen_meant meant.entry)) }
 {
     match meant {
         Meant::Declared(referent) => push_declared(into, site, path, referent),
@@ -129,13 +117,13 @@ fn push_meant(
 /// Adds that of the elements among which a subscript chooses, where it is data.
 #[tactic(auto, unfolding(hal_gen_expr::specs::SeenLed::seen_led))]
 fn push_led(
-    into: &mut Vec<View>,
+    into: &mut Views,
     site: &Site<'_>,
     subscript: &Subscript,
     led: Led<'_>,
 ) -> Result<(), AllocError>
     requires site { IsSite site.now }
-    ensures { OnOk result (into.new.items ≡ views.with_led (seen_site site.now) into.old.items (seen_subscript subscript.now) (Some (seen_led led.entry))) }
+    ensures { OnOk result (into.new.list.items ≡ views.with_led (seen_site site.now) into.old.list.items (seen_subscript subscript.now) (Some (seen_led led.entry))) }
 {
     let rows = rows_left(site.alloc, subscript, led)?;
     let one = first_chosen(subscript, led, site);
@@ -146,12 +134,12 @@ fn push_led(
 /// Adds that of a reference.
 #[tactic(auto, using(hal_tree::proofs::MadeExpressions::made_reference))]
 fn push_reference(
-    into: &mut Vec<View>,
+    into: &mut Views,
     site: &Site<'_>,
     reference: &Reference,
 ) -> Result<(), AllocError>
     requires site { IsSite site.now }
-    ensures { OnOk result (into.new.items ≡ views.with_reference (seen_site site.now) into.old.items (seen_reference reference.now)) }
+    ensures { OnOk result (into.new.list.items ≡ views.with_reference (seen_site site.now) into.old.list.items (seen_reference reference.now)) }
 {
     let meant = referent(site, &reference.name);
     if is_plain(&reference.subscript) {
@@ -163,23 +151,14 @@ fn push_reference(
     }
 }
 
-/// Whether the view of the cells of the shape with this number in these dimensions, which begins there, is among these.
-fn has_area(views: &[View], rows: &[Dimension], shape: u32, from: Base) -> bool
-    ensures { result ≡ list_any (is_area_view from rows.now shape) views.now }
-{
-    views
-        .iter()
-        .any(|view| is_area_view(from, rows, shape, view))
-}
-
 /// Adds the view of the cells of the shape with this number in these dimensions, which begins there, unless it is among them.
 fn push_shape(
-    into: &mut Vec<View>,
+    into: &mut Views,
     rows: Vec<Dimension>,
     from: Option<Base>,
     shape: Option<u32>,
 ) -> Result<(), AllocError>
-    ensures { OnOk result (into.new.items ≡ views.with_shape rows.items into.old.items from shape) }
+    ensures { OnOk result (into.new.list.items ≡ views.with_shape rows.items into.old.list.items from shape) }
 {
     let Some(base) = from else {
         return Ok(());
@@ -187,7 +166,7 @@ fn push_shape(
     let Some(shape) = shape else {
         return Ok(());
     };
-    if has_area(into, &rows, shape, base) {
+    if into.has_area(base, &rows, shape) {
         return Ok(());
     }
     into.push(View {
@@ -201,14 +180,14 @@ fn push_shape(
 /// Adds that of cells of these kinds which a subscript chooses.
 #[tactic(auto, unfolding(hal_gen_expr::specs::SeenLed::seen_led))]
 fn push_area(
-    into: &mut Vec<View>,
+    into: &mut Views,
     site: &Site<'_>,
     runs: &[Run<Kind>],
     subscript: &Subscript,
     led: Led<'_>,
 ) -> Result<(), AllocError>
     requires site { IsSite site.now }
-    ensures { OnOk result (into.new.items ≡ views.with_area site.now.shapes.now (seen_site site.now) runs.now into.old.items (seen_subscript subscript.now) (Some (seen_led led.entry))) }
+    ensures { OnOk result (into.new.list.items ≡ views.with_area site.now.shapes.now (seen_site site.now) runs.now into.old.list.items (seen_subscript subscript.now) (Some (seen_led led.entry))) }
 {
     let rows = rows_left(site.alloc, subscript, led)?;
     let one = first_chosen(subscript, led, site);
@@ -219,13 +198,13 @@ fn push_area(
 /// Adds that of an argument of these kinds.
 #[tactic(auto, using(hal_tree::proofs::MadeExpressions::made_reference))]
 fn push_referred(
-    into: &mut Vec<View>,
+    into: &mut Views,
     site: &Site<'_>,
     runs: &[Run<Kind>],
     reference: &Reference,
 ) -> Result<(), AllocError>
     requires site { IsSite site.now }
-    ensures { OnOk result (into.new.items ≡ views.with_referred site.now.shapes.now (seen_site site.now) runs.now into.old.items (seen_reference reference.now)) }
+    ensures { OnOk result (into.new.list.items ≡ views.with_referred site.now.shapes.now (seen_site site.now) runs.now into.old.list.items (seen_reference reference.now)) }
 {
     match led_by(&reference.further, referent(site, &reference.name)) {
         None => Ok(()),
@@ -236,14 +215,14 @@ fn push_referred(
 /// Adds that of an argument for the parameter of this name of the unit with this number.
 #[tactic(auto, unfolding(hal_gen_expr::specs::SeenSites::seen_site))]
 fn push_spot(
-    into: &mut Vec<View>,
+    into: &mut Views,
     site: &Site<'_>,
     unit: usize,
     name: &Identifier,
     reference: &Reference,
 ) -> Result<(), AllocError>
     requires site { IsSite site.now }
-    ensures { OnOk result (into.new.items ≡ views.with_spot site.now.shapes.now (seen_site site.now) into.old.items (parameter_named (seen_site site.now).set unit (seen_name name.now)) (seen_reference reference.now)) }
+    ensures { OnOk result (into.new.list.items ≡ views.with_spot site.now.shapes.now (seen_site site.now) into.old.list.items (parameter_named (seen_site site.now).set unit (seen_name name.now)) (seen_reference reference.now)) }
 {
     let runs = parameter_runs(site.alloc, site.set, unit, name)?;
     push_referred(into, site, &runs, reference)
@@ -252,13 +231,13 @@ fn push_spot(
 /// Adds that of an argument of these kinds, where it is a reference.
 #[tactic(auto, using(hal_tree::proofs::MadeExpressions::made_or, hal_tree::proofs::MadeExpressions::made_and, hal_tree::proofs::MadeExpressions::made_compare, hal_tree::proofs::MadeExpressions::made_cat, hal_tree::proofs::MadeExpressions::made_sum, hal_tree::proofs::MadeExpressions::made_product, hal_tree::proofs::MadeExpressions::made_power, hal_tree::proofs::MadeExpressions::made_not, hal_tree::proofs::MadeExpressions::made_literal, hal_tree::proofs::MadeExpressions::made_decimal, hal_tree::proofs::MadeExpressions::made_referred, hal_tree::proofs::MadeExpressions::made_call, hal_tree::proofs::MadeExpressions::made_convert, hal_tree::proofs::MadeExpressions::made_parenthesis))]
 fn push_whole(
-    into: &mut Vec<View>,
+    into: &mut Views,
     site: &Site<'_>,
     runs: &[Run<Kind>],
     tree: &Expr,
 ) -> Result<(), AllocError>
     requires site { IsSite site.now }
-    ensures { OnOk result (into.new.items ≡ views.with_whole site.now.shapes.now (seen_site site.now) runs.now into.old.items (seen_expression tree.now)) }
+    ensures { OnOk result (into.new.list.items ≡ views.with_whole site.now.shapes.now (seen_site site.now) runs.now into.old.list.items (seen_expression tree.now)) }
 {
     match tree {
         Expr::Reference(reference) => push_referred(into, site, runs, reference),
@@ -281,14 +260,14 @@ fn push_whole(
 /// Adds that of an argument for the whole parameter of this name of the unit with this number.
 #[tactic(auto, unfolding(hal_gen_expr::specs::SeenSites::seen_site))]
 fn push_whole_argument(
-    into: &mut Vec<View>,
+    into: &mut Views,
     site: &Site<'_>,
     unit: usize,
     name: &Identifier,
     tree: &Expr,
 ) -> Result<(), AllocError>
     requires site { IsSite site.now }
-    ensures { OnOk result (into.new.items ≡ views.with_whole site.now.shapes.now (seen_site site.now) (runs_of (parameter_named (seen_site site.now).set unit (seen_name name.now)).shape) into.old.items (seen_expression tree.now)) }
+    ensures { OnOk result (into.new.list.items ≡ views.with_whole site.now.shapes.now (seen_site site.now) (runs_of (parameter_named (seen_site site.now).set unit (seen_name name.now)).shape) into.old.list.items (seen_expression tree.now)) }
 {
     let runs = parameter_runs(site.alloc, site.set, unit, name)?;
     push_whole(into, site, &runs, tree)
@@ -297,14 +276,14 @@ fn push_whole_argument(
 /// Adds that of an argument for the input parameter of this name, where it is an array or a structure.
 #[tactic(auto, unfolding(hal_gen_expr::specs::SeenSites::seen_site))]
 fn push_argument(
-    into: &mut Vec<View>,
+    into: &mut Views,
     site: &Site<'_>,
     unit: usize,
     name: &Identifier,
     tree: &Expr,
 ) -> Result<(), AllocError>
     requires site { IsSite site.now }
-    ensures { OnOk result (into.new.items ≡ views.with_argument site.now.shapes.now (seen_site site.now) into.old.items (parameter_named (seen_site site.now).set unit (seen_name name.now)) (seen_expression tree.now)) }
+    ensures { OnOk result (into.new.list.items ≡ views.with_argument site.now.shapes.now (seen_site site.now) into.old.list.items (parameter_named (seen_site site.now).set unit (seen_name name.now)) (seen_expression tree.now)) }
 {
     let one = parameter_named(site.alloc, site.set, unit, name)?;
     if one.whole {
@@ -320,12 +299,12 @@ fn push_argument(
 fn push_arguments(
     names: &[Identifier],
     trees: &[Expr],
-    into: &mut Vec<View>,
+    into: &mut Views,
     site: &Site<'_>,
     unit: usize,
 ) -> Result<(), AllocError>
     requires site { IsSite site.now }
-    ensures { OnOk result (into.new.items ≡ views.with_arguments site.now.shapes.now (seen_site site.now) unit into.old.items (map seen_name names.now) (expressions (map seen_expression trees.now))) }
+    ensures { OnOk result (into.new.list.items ≡ views.with_arguments site.now.shapes.now (seen_site site.now) unit into.old.list.items (map seen_name names.now) (expressions (map seen_expression trees.now))) }
 {
     match (names.split_first(), trees.split_first()) {
         (Some((name, others)), Some((first, more))) => {
@@ -342,12 +321,12 @@ fn push_arguments(
 fn push_spots(
     names: &[Identifier],
     receivers: &[Reference],
-    into: &mut Vec<View>,
+    into: &mut Views,
     site: &Site<'_>,
     unit: usize,
 ) -> Result<(), AllocError>
     requires site { IsSite site.now }
-    ensures { OnOk result (into.new.items ≡ views.with_spots site.now.shapes.now (seen_site site.now) unit into.old.items (map seen_name names.now) (map seen_reference receivers.now)) }
+    ensures { OnOk result (into.new.list.items ≡ views.with_spots site.now.shapes.now (seen_site site.now) unit into.old.list.items (map seen_name names.now) (map seen_reference receivers.now)) }
 {
     match (names.split_first(), receivers.split_first()) {
         (Some((name, others)), Some((receiver, more))) => {
@@ -360,14 +339,14 @@ fn push_spots(
 
 /// Adds those of a call of what a phrase declares.
 fn push_declared_call(
-    into: &mut Vec<View>,
+    into: &mut Views,
     site: &Site<'_>,
     arguments: &[Expr],
     receivers: &[Reference],
     referent: &Referent,
 ) -> Result<(), AllocError>
     requires site { IsSite site.now }
-    ensures { OnOk result (into.new.items ≡ views.with_call site.now.shapes.now (seen_site site.now) into.old.items (expressions (map seen_expression arguments.now)) (map seen_reference receivers.now) (seen_referent referent.now)) }
+    ensures { OnOk result (into.new.list.items ≡ views.with_call site.now.shapes.now (seen_site site.now) into.old.list.items (expressions (map seen_expression arguments.now)) (map seen_reference receivers.now) (seen_referent referent.now)) }
 {
     match referent {
         Referent::Block(unit) => {
@@ -383,14 +362,14 @@ fn push_declared_call(
 
 /// Adds those of a call of what a name means.
 fn push_call(
-    into: &mut Vec<View>,
+    into: &mut Views,
     site: &Site<'_>,
     arguments: &[Expr],
     receivers: &[Reference],
     meant: Meant<'_>,
 ) -> Result<(), AllocError>
     requires site { IsSite site.now }
-    ensures { OnOk result (into.new.items ≡ views.with_call site.now.shapes.now (seen_site site.now) into.old.items (expressions (map seen_expression arguments.now)) (map seen_reference receivers.now) (seen_meant meant.entry)) }
+    ensures { OnOk result (into.new.list.items ≡ views.with_call site.now.shapes.now (seen_site site.now) into.old.list.items (expressions (map seen_expression arguments.now)) (map seen_reference receivers.now) (seen_meant meant.entry)) }
 {
     match meant {
         Meant::Declared(referent) => push_declared_call(into, site, arguments, receivers, referent),
@@ -401,22 +380,22 @@ fn push_call(
 
 /// Adds that of an own place of the group with this number, before which so many of its places lie.
 fn push_place(
-    into: &mut Vec<View>,
+    into: &mut Views,
     site: &Site<'_>,
     group: usize,
     before: u32,
 ) -> Result<(), AllocError>
     requires site { IsSite site.now }
-    ensures { OnOk result (into.new.items ≡ views.with_place (seen_site site.now) group before into.old.items) }
+    ensures { OnOk result (into.new.list.items ≡ views.with_place (seen_site site.now) group before into.old.list.items) }
 {
     let from = base_of(site, group, Storing::InPlaces, before);
     push_cell(into, Vec::new(site.alloc), Kind::Double, from)
 }
 
 /// Adds those of a DO FOR.
-fn push_places(into: &mut Vec<View>, site: &Site<'_>, group: usize) -> Result<(), AllocError>
+fn push_places(into: &mut Views, site: &Site<'_>, group: usize) -> Result<(), AllocError>
     requires site { IsSite site.now }
-    ensures { OnOk result (into.new.items ≡ views.with_places (seen_site site.now) group into.old.items) }
+    ensures { OnOk result (into.new.list.items ≡ views.with_places (seen_site site.now) group into.old.list.items) }
 {
     push_place(into, site, group, 0)?;
     push_place(into, site, group, 1)?;
@@ -425,23 +404,18 @@ fn push_places(into: &mut Vec<View>, site: &Site<'_>, group: usize) -> Result<()
 }
 
 /// Adds those of one with a TEMPORARY variable, which is the first of five.
-fn push_temporary(into: &mut Vec<View>, site: &Site<'_>, group: usize) -> Result<(), AllocError>
+fn push_temporary(into: &mut Views, site: &Site<'_>, group: usize) -> Result<(), AllocError>
     requires site { IsSite site.now }
-    ensures { OnOk result (into.new.items ≡ views.with_temporary (seen_site site.now) group into.old.items) }
+    ensures { OnOk result (into.new.list.items ≡ views.with_temporary (seen_site site.now) group into.old.list.items) }
 {
     push_places(into, site, group)?;
     push_place(into, site, group, 4)
 }
 
 /// Adds that of the number of a DO CASE.
-fn push_role(
-    into: &mut Vec<View>,
-    site: &Site<'_>,
-    parent: usize,
-    role: Role,
-) -> Result<(), AllocError>
+fn push_role(into: &mut Views, site: &Site<'_>, parent: usize, role: Role) -> Result<(), AllocError>
     requires site { IsSite site.now }
-    ensures { OnOk result (into.new.items ≡ views.with_role (seen_site site.now) into.old.items parent role) }
+    ensures { OnOk result (into.new.list.items ≡ views.with_role (seen_site site.now) into.old.list.items parent role) }
 {
     match role {
         Role::Case => push_place(into, site, parent, 0),
@@ -451,14 +425,14 @@ fn push_role(
 
 /// Adds those of a phrase, of which these are the number and the parent.
 fn push_node(
-    into: &mut Vec<View>,
+    into: &mut Views,
     site: &Site<'_>,
     number: usize,
     parent: usize,
     node: Node<'_>,
 ) -> Result<(), AllocError>
     requires site { IsSite site.now }
-    ensures { OnOk result (into.new.items ≡ views.with_node site.now.shapes.now (seen_site site.now) into.old.items number parent (seen_node node.entry)) }
+    ensures { OnOk result (into.new.list.items ≡ views.with_node site.now.shapes.now (seen_site site.now) into.old.list.items number parent (seen_node node.entry)) }
 {
     match node {
         Node::Expression { role, tree: _ } => push_role(into, site, parent, role),
@@ -488,9 +462,9 @@ fn push_node(
 
 /// Adds those of a phrase, where it stands in the unit; its names are looked up in the innermost block around it.
 #[tactic(auto, unfolding(hal_gen_expr::specs::SeenSites::seen_site))]
-fn push_phrase(into: &mut Vec<View>, site: &Site<'_>, phrase: &Phrase<'_>) -> Result<(), AllocError>
+fn push_phrase(into: &mut Views, site: &Site<'_>, phrase: &Phrase<'_>) -> Result<(), AllocError>
     requires site { IsSite site.now }
-    ensures { OnOk result (into.new.items ≡ views.with_phrase site.now.shapes.now (seen_site site.now) into.old.items (seen_phrase phrase.now)) }
+    ensures { OnOk result (into.new.list.items ≡ views.with_phrase site.now.shapes.now (seen_site site.now) into.old.list.items (seen_phrase phrase.now)) }
 {
     if phrase.around.home == site.unit {
         let inner = within_block(site, phrase.around.block);
@@ -509,12 +483,12 @@ fn push_phrase(into: &mut Vec<View>, site: &Site<'_>, phrase: &Phrase<'_>) -> Re
 /// Adds those of phrases.
 #[tactic(auto, unfolding(crate::specs::Views::with_phrases))]
 pub(crate) fn push_phrases(
-    into: &mut Vec<View>,
+    into: &mut Views,
     site: &Site<'_>,
     phrases: &[Phrase<'_>],
 ) -> Result<(), AllocError>
     requires site { IsSite site.now }
-    ensures { OnOk result (into.new.items ≡ views.with_phrases site.now.shapes.now (seen_site site.now) into.old.items (map seen_phrase phrases.now)) }
+    ensures { OnOk result (into.new.list.items ≡ views.with_phrases site.now.shapes.now (seen_site site.now) into.old.list.items (map seen_phrase phrases.now)) }
 {
     for phrase in phrases {
         push_phrase(into, site, phrase)?;

@@ -15,6 +15,6 @@ returns-in_err-link_outline c =
     let failed : c.link_outline.result ≡ Err c.in_err-link_outline.field-0.0 = search (rules, c.in_err-link_outline.was) in
     let same : c.from_residual.result ≡ Err c.in_err-link_outline.field-0.0 = search (rules, p.1, p.2) in
     let split : drop c.loop-outline.outline-index list ≡ c.outline-item.result ∷ drop (c.loop-outline.outline-index + 1) list = next_one list c.loop-outline.outline-index c.outline-item.result c.loop-outline-test.true c.outline-item.is in
-    outlines_stopped _ _ set c.args.whole.now.shapes.now c.args.views.now (seen_outline c.outline-item.result) (map seen_outline (drop (c.loop-outline.outline-index + 1) list)) (map seen_outline (drop c.loop-outline.outline-index list)) (linked c.loop-outline.code.items c.loop-outline.blocks.items)
-    (with_outlines set c.args.whole.now.shapes.now c.args.views.now (map seen_outline list) (linked c.args.code.now.items c.args.blocks.now.items)) c.in_err-link_outline.field-0.0 c.link_outline.result c.from_residual.result c.link_outline.new.code.items c.link_outline.new.code.items
+    outlines_stopped _ _ set c.args.whole.now.shapes.now c.args.views.now.list.items (seen_outline c.outline-item.result) (map seen_outline (drop (c.loop-outline.outline-index + 1) list)) (map seen_outline (drop c.loop-outline.outline-index list)) (linked c.loop-outline.code.items c.loop-outline.blocks.items)
+    (with_outlines set c.args.whole.now.shapes.now c.args.views.now.list.items (map seen_outline list) (linked c.args.code.now.items c.args.blocks.now.items)) c.in_err-link_outline.field-0.0 c.link_outline.result c.from_residual.result c.link_outline.new.code.items c.link_outline.new.code.items
     c.link_outline.new.blocks.items c.link_outline.new.blocks.items (ap (map seen_outline) split) c.loop-outline.invariant failed same c.link_outline.ensures

@@ -6,5 +6,5 @@ use Rattle.hal_link.proofs.linking.link_outlines.Given as goal
 
 abbrev pub invariant-loop-outline : goal.invariant-loop-outline
 invariant-loop-outline l =
-    with_outlines (seen_set l.whole.set.now) l.whole.shapes.now l.views (map seen_outline (drop l.outline-index l.list)) (linked l.code.items l.blocks.items)
-    ≡ with_outlines (seen_set l.whole.set.now) l.whole.shapes.now l.views (map seen_outline l.list) (linked l.fn.code.items l.fn.blocks.items)
+    with_outlines (seen_set l.whole.set.now) l.whole.shapes.now l.views.list.items (map seen_outline (drop l.outline-index l.list)) (linked l.code.items l.blocks.items)
+    ≡ with_outlines (seen_set l.whole.set.now) l.whole.shapes.now l.views.list.items (map seen_outline l.list) (linked l.fn.code.items l.fn.blocks.items)

@@ -18,7 +18,7 @@ returns c =
     let set = seen_set c.args.whole.now.set.now in
     let outline = c.args.outline.now in
     let found : body_at set c.args.unit ≡ Some (seen_body c.in-Some.body.now) = sym c.body_at.ensures ∙ ap (option_map lent_body) c.in-Some.is in
-    let numbers : seen_numbering c.site_in-site.result ≡ numbering_of c.args.whole.now.shapes.now c.args.views.now (seen_outline outline) =
-    c.site_in-site.ensures.views ∙ (ap (λ first. numbering_with c.args.whole.now.shapes.now c.args.views.now first c.calls_of.result.units.now) c.calls_of.ensures.first ∙ ap (λ units. numbering_with c.args.whole.now.shapes.now c.args.views.now outline.first units) c.calls_of.ensures.units) in
-    unit_linked set (numbering_of c.args.whole.now.shapes.now c.args.views.now (seen_outline outline)) (seen_numbering c.site_in-site.result) (seen_site c.site_in-site.result) (map lent_place c.args.places.now) (seen_body c.in-Some.body.now) outline.process c.args.unit
+    let numbers : seen_numbering c.site_in-site.result ≡ numbering_of c.args.whole.now.shapes.now c.args.views.now.list.items (seen_outline outline) =
+    c.site_in-site.ensures.views ∙ (ap (λ first. numbering_with c.args.whole.now.shapes.now c.args.views.now.list.items first c.calls_of.result.units.now) c.calls_of.ensures.first ∙ ap (λ units. numbering_with c.args.whole.now.shapes.now c.args.views.now.list.items outline.first units) c.calls_of.ensures.units) in
+    unit_linked set (numbering_of c.args.whole.now.shapes.now c.args.views.now.list.items (seen_outline outline)) (seen_numbering c.site_in-site.result) (seen_site c.site_in-site.result) (map lent_place c.args.placed.now.places.items) (seen_body c.in-Some.body.now) outline.process c.args.unit
     (linked c.args.code.now.items c.args.blocks.now.items) c.link_unit_at.result c.link_unit_at.new.code.items c.link_unit_at.new.blocks.items found c.requires.places c.site_in-site.ensures.seen numbers c.link_unit_at.ensures

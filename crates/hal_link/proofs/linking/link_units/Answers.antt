@@ -10,7 +10,7 @@ use Rattle.hal_link.proofs.linking.link_units.Goals as goal
 pub returns-in_err-link_unit : goal.returns-in_err-link_unit
 returns-in_err-link_unit c =
     let set = seen_set c.args.whole.now.set.now in
-    let numbers = numbering_of c.args.whole.now.shapes.now c.args.views.now (seen_outline c.args.outline.now) in
+    let numbers = numbering_of c.args.whole.now.shapes.now c.args.views.now.list.items (seen_outline c.args.outline.now) in
     let units = c.args.units.now in
     let p = err_from_is_err_and c.from_residual.result c.from_residual.ensures.1 in
     let failed : c.link_unit.result ≡ Err c.in_err-link_unit.field-0.0 = search (rules, c.in_err-link_unit.was) in

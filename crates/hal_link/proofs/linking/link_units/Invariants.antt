@@ -7,5 +7,5 @@ use Rattle.hal_link.proofs.linking.link_units.Given as goal
 
 abbrev pub invariant-loop-unit : goal.invariant-loop-unit
 invariant-loop-unit l =
-    with_units (seen_set l.whole.set.now) (numbering_of l.whole.shapes.now l.views (seen_outline l.outline)) l.outline.process (drop l.unit-index l.units) (linked l.code.items l.blocks.items)
-    ≡ with_units (seen_set l.whole.set.now) (numbering_of l.whole.shapes.now l.views (seen_outline l.outline)) l.outline.process l.units (linked l.fn.code.items l.fn.blocks.items)
+    with_units (seen_set l.whole.set.now) (numbering_of l.whole.shapes.now l.views.list.items (seen_outline l.outline)) l.outline.process (drop l.unit-index l.units) (linked l.code.items l.blocks.items)
+    ≡ with_units (seen_set l.whole.set.now) (numbering_of l.whole.shapes.now l.views.list.items (seen_outline l.outline)) l.outline.process l.units (linked l.fn.code.items l.fn.blocks.items)

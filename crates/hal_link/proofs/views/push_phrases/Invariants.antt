@@ -6,4 +6,4 @@ use Rattle.hal_link.proofs.views.push_phrases.Given as goal
 
 abbrev pub invariant-loop-phrase : goal.invariant-loop-phrase
 invariant-loop-phrase l =
-    with_phrases l.site.shapes.now (seen_site l.site) l.into.items (map seen_phrase (drop l.phrase-index l.phrases)) ≡ with_phrases l.site.shapes.now (seen_site l.site) l.fn.into.items (map seen_phrase l.phrases)
+    with_phrases l.site.shapes.now (seen_site l.site) l.into.list.items (map seen_phrase (drop l.phrase-index l.phrases)) ≡ with_phrases l.site.shapes.now (seen_site l.site) l.fn.into.list.items (map seen_phrase l.phrases)
