@@ -18,6 +18,7 @@ pub mod NumberIndex
 pub mod Steps
 pub mod BothOk
 pub mod Replaced
+pub mod Turning
 pub mod ReadingOn
 pub mod Cutting
 pub mod Raised

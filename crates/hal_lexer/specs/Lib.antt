@@ -3,6 +3,7 @@ pub mod Defined
 pub mod Compiled
 pub mod Numbers
 pub mod Opened
+pub mod Turned
 pub mod Walks
 pub mod Parts
 pub mod Nothing

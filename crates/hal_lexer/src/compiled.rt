@@ -37,7 +37,7 @@ impl Model for Compiled {
 }
 
 impl Compiled {
-    ghost use Rattle.std.specs.Prelude.{◌≡◌, ◌∷◌, [], ◌⊎◌, false, None, Some, IfSome, OnOk};
+    ghost use Rattle.std.specs.Prelude.{◌≡◌, ◌∷◌, [], ◌⊎◌, true, false, None, Some, IfSome, OnOk};
     ghost use Rattle.hal_lexer.specs.Compiled.{IsOrdered, children_at, number_of};
     ghost use Rattle.hal_lexer.specs.Numbers.{has_at, still};
 
@@ -49,11 +49,6 @@ impl Compiled {
             list: Vec::new(alloc),
             numbers: IndexMap::new(alloc),
         }
-    }
-
-    /// Whether no name is compiled.
-    pub(crate) fn is_empty(&self) -> bool {
-        self.list.is_empty()
     }
 
     /// Whether the name with this number is the one.
@@ -171,12 +166,35 @@ impl Compiled {
         self.push_at(slot, name, children)
     }
 
-    /// Forgets each name, where this one is among them.
-    pub(crate) fn forget(&mut self, name: &Name)
-        ensures { ((number_of self.old name.now ≡ None) × (self.new ≡ self.old)) ⊎ (self.new ≡ []) }
+    /// Forgets each name, unless all are to be kept.
+    pub(crate) fn clear_unless(&mut self, kept: bool)
+        ensures { ((kept ≡ true) × (self.new ≡ self.old)) ⊎ (self.new ≡ []) }
     {
-        if self.number(name).is_some() {
+        if !kept {
             self.list.clear();
+        }
+    }
+
+    /// Gives each name a slot that has one in the other one, where both gave their first names the same.
+    pub(crate) fn follow(&mut self, other: &Compiled) -> Result<(), AllocError>
+        ensures { OnOk result (self.new ≡ self.old) }
+    {
+        'slot: for slot in self.numbers.len()..other.numbers.len() {
+            self.follow_at(other, slot)?;
+        }
+        Ok(())
+    }
+
+    /// Gives the name a slot that has this one in the other one.
+    fn follow_at(&mut self, other: &Compiled, slot: usize) -> Result<(), AllocError>
+        ensures { OnOk result (self.new ≡ self.old) }
+    {
+        match other.numbers.get_index(slot) {
+            Some((name, _)) => {
+                self.slot(*name)?;
+                Ok(())
+            }
+            None => Ok(()),
         }
     }
 }

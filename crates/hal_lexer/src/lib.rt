@@ -19,6 +19,7 @@ mod temporaries;
 mod text;
 mod text_words;
 mod token_list;
+mod turned;
 mod walk;
 
 pub use file::tokens;

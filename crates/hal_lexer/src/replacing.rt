@@ -1,17 +1,17 @@
 //! The definitions of a file, and the words that stand in place of a word of the file.
 
-ghost use Rattle.std.specs.Prelude.{◌≡◌, ◌<◌, ◌∷◌, [], ◌++◌, ◌⊎◌, List, length, map, None, Some, OnOk, IfErr};
+ghost use Rattle.std.specs.Prelude.{◌≡◌, ◌<◌, ◌∷◌, [], ◌++◌, List, length, map, OnOk, IfErr};
 ghost use Rattle.hal_words.specs.declared.word.Word.TheVariants as word;
 ghost use Rattle.hal_words.specs.Pieces.{Is};
 ghost use Rattle.hal_words.specs.Lines as lines;
 ghost use Rattle.hal_words.specs.Lines.{item};
 ghost use Rattle.hal_words.specs.Replacing.{replaced_word};
-ghost use Rattle.hal_words.specs.Reserved.{look_up};
 ghost use Rattle.hal_words.specs.Words.{word_item};
 ghost use Rattle.hal_pieces.specs.Faults.{IsMemory};
-ghost use Rattle.hal_lexer.specs.Compiled.{IsCompiled, IsOrdered, children_at, gives, number_of};
+ghost use Rattle.hal_lexer.specs.Compiled.{IsCompiled, IsOrdered, children_at, gives};
 ghost use Rattle.hal_lexer.specs.Faults.{Explains};
 ghost use Rattle.hal_lexer.specs.Texts.{IsText};
+ghost use Rattle.hal_lexer.specs.Turned.{IsTurned};
 ghost use Rattle.hal_lexer.specs.Walks.{kept, left_words, length_left};
 
 use crate::child::Child;
@@ -23,17 +23,20 @@ use crate::places::Places;
 use crate::text::Text;
 use crate::text_words::is_replace;
 use crate::token_list::Tokens;
+use crate::turned::Turned;
 use crate::walk::Walk;
 use hal_base::{Fault, Place};
 use hal_pieces::broken;
 use hal_words::{Name, Word};
 use std::alloc::{AllocError, Global};
 
-/// The definitions so far, what of them is compiled, and in which order more is to be.
+/// The definitions so far, what of them is compiled, also for the text that a name had before, and in which
+/// order more is to be.
 #[derive(Drop)]
 pub(crate) struct Replacements<'a> {
     definitions: Definitions<'a>,
     compiled: Compiled,
+    turned: Turned<'a>,
     order: Order,
     places: Places,
 }
@@ -43,22 +46,27 @@ impl<'a> Replacements<'a> {
     pub(crate) fn new(alloc: Global) -> Replacements<'a>
         ensures definitions { result.definitions ≡ [] }
         ensures compiled { IsCompiled result.definitions result.compiled }
+        ensures turned { IsTurned result.definitions result.turned }
     {
         Replacements {
             definitions: Definitions::new(alloc),
             compiled: Compiled::new(alloc),
+            turned: Turned::new(alloc),
             order: Order::new(alloc),
             places: Places::new(alloc),
         }
     }
 
     /// Adds a definition. What is compiled rests on the definitions of its names, so where this name is
-    /// one of them and its text is another than before, each name is compiled anew at its next use.
+    /// one of them and its text is another than before, each name is compiled anew at its next use, or was
+    /// while the name had this text last.
     pub(crate) fn define(&mut self, alloc: Global, name: Name, text: &'a [u8]) -> Result<(), Fault>
         requires text { IsText text.now }
         requires compiled { IsCompiled self.old.definitions self.old.compiled }
+        requires turned { IsTurned self.old.definitions self.old.turned }
         ensures added { OnOk result (self.new.definitions ≡ (name, text.now) ∷ self.old.definitions) }
         ensures compiled { OnOk result (IsCompiled self.new.definitions self.new.compiled) }
+        ensures turned { OnOk result (IsTurned self.new.definitions self.new.turned) }
         ensures memory { IfErr result IsMemory }
     {
         let slot = self.compiled.slot(name).map_err(Fault::Memory)?;
@@ -68,8 +76,11 @@ impl<'a> Replacements<'a> {
         self.order
             .note_text(slot, cut.parts().unwrap_or(&[]))
             .map_err(Fault::Memory)?;
-        forget_changed(&mut self.compiled, &self.definitions, &name, text);
-        self.order.renew(self.compiled.is_empty());
+        let is_turned = self
+            .turned
+            .turn(&mut self.compiled, &self.definitions, &name, text)
+            .map_err(Fault::Memory)?;
+        self.order.renew(is_turned);
         let index = self.definitions.push(name, cut).map_err(Fault::Memory)?;
         self.order.note_index(slot, index).map_err(Fault::Memory)?;
         Ok(())
@@ -83,9 +94,11 @@ impl<'a> Replacements<'a> {
         word: Word,
         place: Place,
     ) -> Result<(), Fault>
-        requires { IsCompiled self.old.definitions self.old.compiled }
+        requires compiled { IsCompiled self.old.definitions self.old.compiled }
+        requires turned { IsTurned self.old.definitions self.old.turned }
         ensures same { OnOk result (self.new.definitions ≡ self.old.definitions) }
         ensures compiled { OnOk result (IsCompiled self.new.definitions self.new.compiled) }
+        ensures turned { OnOk result (IsTurned self.new.definitions self.new.turned) }
         ensures replaced { OnOk result (map word_item tokens.new
             ≡ map word_item tokens.old ++ replaced_word self.old.definitions (item (Is word) place)) }
         ensures broken { IfErr result (λ fault. (rest : List lines.Item) →
@@ -108,9 +121,11 @@ impl<'a> Replacements<'a> {
         name: Name,
         place: Place,
     ) -> Result<(), Fault>
-        requires { IsCompiled self.old.definitions self.old.compiled }
+        requires compiled { IsCompiled self.old.definitions self.old.compiled }
+        requires turned { IsTurned self.old.definitions self.old.turned }
         ensures same { OnOk result (self.new.definitions ≡ self.old.definitions) }
         ensures compiled { OnOk result (IsCompiled self.new.definitions self.new.compiled) }
+        ensures turned { OnOk result (IsTurned self.new.definitions self.new.turned) }
         ensures replaced { OnOk result (map word_item tokens.new
             ≡ map word_item tokens.old ++ replaced_word self.old.definitions (item (Is (word.Name name)) place)) }
         ensures broken { IfErr result (λ fault. (rest : List lines.Item) →
@@ -128,17 +143,6 @@ impl<'a> Replacements<'a> {
             Some(number) => write(alloc, &self.compiled, tokens, number, place),
             None => tokens.push(Word::Name(name), place),
         }
-    }
-}
-
-/// Forgets what is compiled, where it may rest on a text of this name that is another than this one.
-fn forget_changed(compiled: &mut Compiled, definitions: &Definitions, name: &Name, text: &[u8])
-    ensures { ((number_of compiled.old name.now ≡ None) × (compiled.new ≡ compiled.old))
-        ⊎ ((look_up definitions.now name.now ≡ Some text.now) × (compiled.new ≡ compiled.old))
-        ⊎ (compiled.new ≡ []) }
-{
-    if !definitions.has(name, text) {
-        compiled.forget(name);
     }
 }
 
