@@ -8,7 +8,7 @@ ghost use Rattle.hal_pieces.specs.Seen.{seen};
 ghost use Rattle.hal_pieces.specs.Faults.{seen_item};
 ghost use Rattle.hal_lexer.specs.Compiled.{IsCompiled};
 ghost use Rattle.hal_lexer.specs.Texts.{HoldsText, IsText, IsTextOf};
-ghost use Rattle.hal_lexer.specs.Turned.{IsTurned};
+ghost use Rattle.hal_lexer.specs.Turned.{AreTurned};
 ghost use Rattle.hal_lexer.specs.Faults.{Explains, Blames};
 
 use crate::replacing::Replacements;
@@ -66,11 +66,11 @@ fn take<'a>(
     requires some { 0 < length items.now }
     requires texts { All HoldsText (map seen_item items.now) }
     requires compiled { IsCompiled replacements.old.definitions replacements.old.compiled }
-    requires turned { IsTurned replacements.old.definitions replacements.old.turned }
+    requires turned { AreTurned replacements.old.definitions replacements.old.turns }
     ensures taken { IfOk result (λ count. map word_item tokens.new ++ replaced 0 replacements.new.definitions (map seen_item (drop count items.now))
         ≡ map word_item tokens.old ++ replaced 0 replacements.old.definitions (map seen_item items.now)) }
     ensures compiled { OnOk result (IsCompiled replacements.new.definitions replacements.new.compiled) }
-    ensures turned { OnOk result (IsTurned replacements.new.definitions replacements.new.turned) }
+    ensures turned { OnOk result (AreTurned replacements.new.definitions replacements.new.turns) }
     ensures some { IfOk result (λ count. 0 < count) }
     ensures within { IfOk result (λ count. count ≤ length items.now) }
     ensures broken { IfErr result (Explains (map word_item tokens.old ++ replaced 0 replacements.old.definitions (map seen_item items.now))) }
@@ -103,10 +103,10 @@ fn define<'a>(
 ) -> Result<(), Fault>
     requires texts { All HoldsText (map seen_item behind.now) }
     requires compiled { IsCompiled replacements.old.definitions replacements.old.compiled }
-    requires turned { IsTurned replacements.old.definitions replacements.old.turned }
+    requires turned { AreTurned replacements.old.definitions replacements.old.turns }
     ensures added { OnOk result (IsSomeAnd (definition (map seen_item behind.now)) (λ one. replacements.new.definitions ≡ one ∷ replacements.old.definitions)) }
     ensures compiled { OnOk result (IsCompiled replacements.new.definitions replacements.new.compiled) }
-    ensures turned { OnOk result (IsTurned replacements.new.definitions replacements.new.turned) }
+    ensures turned { OnOk result (AreTurned replacements.new.definitions replacements.new.turns) }
     ensures long { OnOk result (4 ≤ length behind.now) }
     ensures broken { IfErr result (λ fault. (done rest : List lines.Item) →
         Explains (done ++ (fault_of (definition (map seen_item behind.now)) (formless (map seen_item behind.now)) place ++ rest)) fault) }

@@ -20,6 +20,7 @@ mod text;
 mod text_words;
 mod token_list;
 mod turned;
+mod turns;
 mod walk;
 
 pub use file::tokens;

@@ -11,7 +11,7 @@ ghost use Rattle.hal_pieces.specs.Faults.{IsMemory};
 ghost use Rattle.hal_lexer.specs.Compiled.{IsCompiled, IsOrdered, children_at, gives};
 ghost use Rattle.hal_lexer.specs.Faults.{Explains};
 ghost use Rattle.hal_lexer.specs.Texts.{IsText};
-ghost use Rattle.hal_lexer.specs.Turned.{IsTurned};
+ghost use Rattle.hal_lexer.specs.Turned.{AreTurned};
 ghost use Rattle.hal_lexer.specs.Walks.{kept, left_words, length_left};
 
 use crate::child::Child;
@@ -23,20 +23,20 @@ use crate::places::Places;
 use crate::text::Text;
 use crate::text_words::is_replace;
 use crate::token_list::Tokens;
-use crate::turned::Turned;
+use crate::turns::Turns;
 use crate::walk::Walk;
 use hal_base::{Fault, Place};
 use hal_pieces::broken;
 use hal_words::{Name, Word};
 use std::alloc::{AllocError, Global};
 
-/// The definitions so far, what of them is compiled, also for the text that a name had before, and in which
+/// The definitions so far, what of them is compiled, also by the last texts that a name had, and in which
 /// order more is to be.
 #[derive(Drop)]
 pub(crate) struct Replacements<'a> {
     definitions: Definitions<'a>,
     compiled: Compiled,
-    turned: Turned<'a>,
+    turns: Turns<'a>,
     order: Order,
     places: Places,
 }
@@ -46,27 +46,27 @@ impl<'a> Replacements<'a> {
     pub(crate) fn new(alloc: Global) -> Replacements<'a>
         ensures definitions { result.definitions ≡ [] }
         ensures compiled { IsCompiled result.definitions result.compiled }
-        ensures turned { IsTurned result.definitions result.turned }
+        ensures turned { AreTurned result.definitions result.turns }
     {
         Replacements {
             definitions: Definitions::new(alloc),
             compiled: Compiled::new(alloc),
-            turned: Turned::new(alloc),
+            turns: Turns::new(alloc),
             order: Order::new(alloc),
             places: Places::new(alloc),
         }
     }
 
     /// Adds a definition. What is compiled rests on the definitions of its names, so where this name is
-    /// one of them and its text is another than before, each name is compiled anew at its next use, or was
-    /// while the name had this text last.
+    /// one of them and its text is another than before, each name is compiled anew at its next use, unless it
+    /// was while the name had this text before.
     pub(crate) fn define(&mut self, alloc: Global, name: Name, text: &'a [u8]) -> Result<(), Fault>
         requires text { IsText text.now }
         requires compiled { IsCompiled self.old.definitions self.old.compiled }
-        requires turned { IsTurned self.old.definitions self.old.turned }
+        requires turned { AreTurned self.old.definitions self.old.turns }
         ensures added { OnOk result (self.new.definitions ≡ (name, text.now) ∷ self.old.definitions) }
         ensures compiled { OnOk result (IsCompiled self.new.definitions self.new.compiled) }
-        ensures turned { OnOk result (IsTurned self.new.definitions self.new.turned) }
+        ensures turned { OnOk result (AreTurned self.new.definitions self.new.turns) }
         ensures memory { IfErr result IsMemory }
     {
         let slot = self.compiled.slot(name).map_err(Fault::Memory)?;
@@ -77,7 +77,7 @@ impl<'a> Replacements<'a> {
             .note_text(slot, cut.parts().unwrap_or(&[]))
             .map_err(Fault::Memory)?;
         let is_turned = self
-            .turned
+            .turns
             .turn(&mut self.compiled, &self.definitions, &name, text)
             .map_err(Fault::Memory)?;
         self.order.renew(is_turned);
@@ -95,10 +95,10 @@ impl<'a> Replacements<'a> {
         place: Place,
     ) -> Result<(), Fault>
         requires compiled { IsCompiled self.old.definitions self.old.compiled }
-        requires turned { IsTurned self.old.definitions self.old.turned }
+        requires turned { AreTurned self.old.definitions self.old.turns }
         ensures same { OnOk result (self.new.definitions ≡ self.old.definitions) }
         ensures compiled { OnOk result (IsCompiled self.new.definitions self.new.compiled) }
-        ensures turned { OnOk result (IsTurned self.new.definitions self.new.turned) }
+        ensures turned { OnOk result (AreTurned self.new.definitions self.new.turns) }
         ensures replaced { OnOk result (map word_item tokens.new
             ≡ map word_item tokens.old ++ replaced_word self.old.definitions (item (Is word) place)) }
         ensures broken { IfErr result (λ fault. (rest : List lines.Item) →
@@ -122,10 +122,10 @@ impl<'a> Replacements<'a> {
         place: Place,
     ) -> Result<(), Fault>
         requires compiled { IsCompiled self.old.definitions self.old.compiled }
-        requires turned { IsTurned self.old.definitions self.old.turned }
+        requires turned { AreTurned self.old.definitions self.old.turns }
         ensures same { OnOk result (self.new.definitions ≡ self.old.definitions) }
         ensures compiled { OnOk result (IsCompiled self.new.definitions self.new.compiled) }
-        ensures turned { OnOk result (IsTurned self.new.definitions self.new.turned) }
+        ensures turned { OnOk result (AreTurned self.new.definitions self.new.turns) }
         ensures replaced { OnOk result (map word_item tokens.new
             ≡ map word_item tokens.old ++ replaced_word self.old.definitions (item (Is (word.Name name)) place)) }
         ensures broken { IfErr result (λ fault. (rest : List lines.Item) →

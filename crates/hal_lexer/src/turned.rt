@@ -1,5 +1,4 @@
-//! What is compiled while one name has another text. So where a name is defined by two texts in turn, what
-//! rests on it is compiled once for each of them, and not at each turn.
+//! What is compiled while one name has another text.
 
 ghost use Rattle.std.specs.Prelude.{◌∷◌, [], ℕ, List, OnOk, IsTrue, IsFalse};
 ghost use Rattle.hal_words.specs.Replacing as replacing;
@@ -37,34 +36,8 @@ impl<'a> Turned<'a> {
         }
     }
 
-    /// Has names compiled by a definition more, which isn't added yet. Where its name had another text that
-    /// what is compiled rests on, that is kept, and what was kept takes its place if it is by this text; else
-    /// each name is compiled anew at its next use. The result is whether other names are compiled now.
-    pub(crate) fn turn(
-        &mut self,
-        compiled: &mut Compiled,
-        definitions: &Definitions<'a>,
-        name: &Name,
-        text: &[u8],
-    ) -> Result<bool, AllocError>
-        requires compiled { IsCompiled definitions.now compiled.old }
-        requires turned { IsTurned definitions.now self.old }
-        ensures compiled { OnOk result (IsCompiled ((name.now, text.now) ∷ definitions.now) compiled.new) }
-        ensures turned { OnOk result (IsTurned ((name.now, text.now) ∷ definitions.now) self.new) }
-    {
-        if definitions.has(name, text) {
-            return Ok(false);
-        }
-        if compiled.number(name).is_none() {
-            self.let_go(name);
-            return Ok(false);
-        }
-        self.exchange(compiled, definitions, name, text)?;
-        Ok(true)
-    }
-
     /// Has what is kept no longer where it rests on a text of this name that isn't the one of the change.
-    fn let_go(&mut self, name: &Name)
+    pub(crate) fn let_go(&mut self, name: &Name)
         ensures { (definitions : replacing.Definitions) (text : List ℕ) → IsTurned definitions self.old → IsTurned ((name.now, text) ∷ definitions) self.new }
     {
         if self.rests_on(name) {
@@ -84,7 +57,7 @@ impl<'a> Turned<'a> {
     }
 
     /// Keeps what is compiled by the text that this name has, and takes what was kept in its place.
-    fn exchange(
+    pub(crate) fn exchange(
         &mut self,
         compiled: &mut Compiled,
         definitions: &Definitions<'a>,
@@ -105,7 +78,7 @@ impl<'a> Turned<'a> {
     }
 
     /// Whether what is kept is compiled by a definition more, of this name by this text.
-    fn is_by(&self, name: &Name, text: &[u8]) -> bool
+    pub(crate) fn is_by(&self, name: &Name, text: &[u8]) -> bool
         ensures { IsTrue result → (definitions : replacing.Definitions) → IsTurned definitions self.now → IsCompiled ((name.now, text.now) ∷ definitions) self.now.compiled }
     {
         match &self.change {
