@@ -29,9 +29,19 @@ pub(crate) enum Kind {
     /// A name that stands for as many times another as there are eighths of the bytes, where the other
     /// comes to nothing by two texts in turn.
     Wide,
+    /// A name that stands for as many times another, which comes to nothing, and for one name more, which is
+    /// a word and nothing in turn.
+    Mixed,
+    /// 23 names that are the same one, all of which stand in each of as many texts as fill half of the bytes.
+    /// The one is a word and nothing in turn, and a name that stands for these texts is used behind nothing.
+    Many,
+    /// The chain whose end is defined by four texts in turn.
+    Fours,
+    /// The same by five texts.
+    Fives,
 }
 
-pub(crate) const KINDS: [Kind; 11] = [
+pub(crate) const KINDS: [Kind; 15] = [
     Kind::Ordinary,
     Kind::Comment,
     Kind::Line,
@@ -43,6 +53,10 @@ pub(crate) const KINDS: [Kind; 11] = [
     Kind::Same,
     Kind::Turns,
     Kind::Wide,
+    Kind::Mixed,
+    Kind::Many,
+    Kind::Fours,
+    Kind::Fives,
 ];
 
 /// A name that stands for a name, and so on, nine deep.
@@ -84,15 +98,41 @@ fn chain_to_head(alloc: Global, count: usize) -> Result<String, AllocError> {
     Ok(lines)
 }
 
-/// A line that defines HEAD as so many times Z0.
-fn wide(alloc: Global, count: usize) -> Result<String, AllocError> {
+/// A line that defines HEAD as so many times one name, and as another behind them.
+fn wide(alloc: Global, count: usize, one: &str, other: &str) -> Result<String, AllocError> {
     let mut line = String::new(alloc);
     line.push_str(" REPLACE HEAD BY \"")?;
     for _ in 0..count {
-        line.push_str("Z0 ")?;
+        line.push_str(one)?;
+        line.push_str(" ")?;
     }
+    line.push_str(other)?;
     line.push_str("\";\n")?;
     Ok(line)
+}
+
+/// 23 names of one letter.
+const LETTERS: &str = "A B C D E F G I J K L M N O P Q R S T U V W Y";
+
+/// Lines that define each of the letters as Z0, so many texts as all of the letters, and HEAD as these texts.
+fn many(alloc: Global, count: usize) -> Result<String, AllocError> {
+    let mut lines = String::new(alloc);
+    let mut heads = String::new(alloc);
+    let letters = LETTERS;
+    for letter in letters.split(' ') {
+        let line = format!(in alloc; " REPLACE {letter} BY \"Z0\";\n")?;
+        lines.push_str(line.as_str())?;
+    }
+    for number in 0..count {
+        let line = format!(in alloc; " REPLACE W{number} BY \"{letters}\";\n")?;
+        lines.push_str(line.as_str())?;
+        let head = format!(in alloc; "W{number} ")?;
+        heads.push_str(head.as_str())?;
+    }
+    let text = heads.as_str();
+    let line = format!(in alloc; " REPLACE HEAD BY \"{text}\";\n")?;
+    lines.push_str(line.as_str())?;
+    Ok(lines)
 }
 
 /// What the text begins with, what is repeated, and what it ends with.
@@ -117,6 +157,10 @@ impl Kind {
             Kind::Same => "same",
             Kind::Turns => "turns",
             Kind::Wide => "wide",
+            Kind::Mixed => "mixed",
+            Kind::Many => "many",
+            Kind::Fours => "fours",
+            Kind::Fives => "fives",
         }
     }
 
@@ -177,6 +221,26 @@ impl Kind {
                 repeat: " REPLACE Z0 BY \"\"; HEAD\n REPLACE Z0 BY \" \"; HEAD\n",
                 end: "",
             },
+            Kind::Mixed => Parts {
+                begin: " REPLACE B BY \"\";\n",
+                repeat: " REPLACE Z0 BY \"\"; HEAD\n REPLACE Z0 BY \"X\"; HEAD\n",
+                end: "",
+            },
+            Kind::Many => Parts {
+                begin: "",
+                repeat: " REPLACE Z0 BY \"\"; HEAD\n REPLACE Z0 BY \"X\"; Z0\n",
+                end: "",
+            },
+            Kind::Fours => Parts {
+                begin: "",
+                repeat: " REPLACE Z0 BY \"\"; HEAD\n REPLACE Z0 BY \"X\"; HEAD\n REPLACE Z0 BY \"Y\"; HEAD\n REPLACE Z0 BY \"0\"; HEAD\n",
+                end: "",
+            },
+            Kind::Fives => Parts {
+                begin: "",
+                repeat: " REPLACE Z0 BY \"\"; HEAD\n REPLACE Z0 BY \"X\"; HEAD\n REPLACE Z0 BY \"Y\"; HEAD\n REPLACE Z0 BY \"0\"; HEAD\n REPLACE Z0 BY \"1\"; HEAD\n",
+                end: "",
+            },
         }
     }
 
@@ -185,8 +249,10 @@ impl Kind {
         match self {
             Kind::Chain => chain(alloc, size / 64),
             Kind::Empties => empties(alloc, 40),
-            Kind::Same | Kind::Turns => chain_to_head(alloc, size / 75),
-            Kind::Wide => wide(alloc, size / 8),
+            Kind::Same | Kind::Turns | Kind::Fours | Kind::Fives => chain_to_head(alloc, size / 75),
+            Kind::Wide => wide(alloc, size / 8, "Z0", ""),
+            Kind::Mixed => wide(alloc, size / 4, "B", "Z0"),
+            Kind::Many => many(alloc, size / 140),
             _ => Ok(String::new(alloc)),
         }
     }
