@@ -1,2 +1,2 @@
-mod Pairing
+pub mod Pairing
 pub mod Sorting

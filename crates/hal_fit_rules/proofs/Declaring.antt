@@ -1,0 +1,180 @@
+-- Names of data that the unit itself declares agree.
+use Rattle.std.proofs.Common.{◌≡◌, ℕ, zero, suc, nat_lt, Bool, true, false, List, [], ◌∷◌, ◌++◌, Option, Some, None, slice_get, if◌then◌else◌, refl, sym, ap, ◌∙◌, subst, arith}
+use Rattle.std.specs.Prelude.{unwrap_or, pos}
+use Rattle.std.specs.Option.{option_or}
+use Rattle.std.proofs.lemmas.Bool.{lt-ltb}
+use Rattle.hal_grammar.specs.Leaves.{Naming}
+use Rattle.hal_grammar.specs.Expressions.{Expressions, NoExpressions, MoreExpressions}
+use Rattle.hal_grammar.specs.Declarations.{Kind, IntegerKind, BooleanKind, EventKind, BitKind, CharacterKind, StructureKind, Double, Attribute, Declared}
+use Rattle.hal_phrases.specs.Phrases.{Node, Phrase, OfItem, OfTemporaryGroup}
+use Rattle.hal_names.specs.Means.{means}
+use Rattle.hal_scope.specs.Sorts.{type_in, type_among, type_of}
+use Rattle.hal_scope.specs.Uses.{is_nil}
+use Rattle.hal_kinds.specs.declared.class.Class.TheVariants as class
+use Rattle.hal_kinds.specs.Attributes.{count_of, sizes_in, sizes_among, sizes_of, has_mark}
+use Rattle.hal_kinds.specs.Data.{class_of_type, has_copies, dimensions_of, data_with, data_of, data_at, is_event_type, is_structure_type}
+use Rattle.hal_values.specs.declared.value.Kind as values
+use Rattle.hal_values.specs.declared.value.Kind.TheVariants as kind
+use Rattle.hal_constants.specs.Known.{Known, bits_kind, text_kind, kind_of, kind_of_type, size_of}
+use Rattle.hal_constants.specs.Constants.{constant_of}
+use Rattle.hal_constants.specs.Naming.{is_value_item, value_at}
+use Rattle.hal_meaning.specs.Bodies.{standing_for}
+use Rattle.hal_meaning.specs.Elements.{Shape, component, sizes_given, shape_of, shape_of_type}
+use Rattle.hal_values.specs.declared.value.Value.TheVariants as value
+use Rattle.hal_states.specs.Spots.{Own}
+use Rattle.hal_meaning.specs.Places.{storing}
+use Rattle.hal_meaning.specs.ReportNames.{first_place}
+use Rattle.hal_meaning.specs.Variables.{Meant, MeantData, MeantConstant, MeantNothing, name_meant, declaration_meant, builtin_meant, event_meant, item_meant, meant_by, spot_of, temporary_shape, is_arrayed}
+use Rattle.hal_code.specs.Sorts.{Sort, I, B, T, sort_of}
+use Rattle.hal_agreement.specs.Sites.{Site, here_at}
+use Rattle.hal_fit_expr.specs.Uses.{Uses}
+use Rattle.hal_fit_classes.specs.Kinded.{sort_of_class}
+use Rattle.hal_fit_rules.specs.Agreeing.{AreAlike, NodeAgrees, PhraseAgrees, DeclarationAgrees, NameAgrees}
+use Rattle.hal_fit_rules.specs.Owned.{IsOwn, IsPlainData, IsTemporary}
+
+or_or : {X : Type 0} (x y z : Option X) → option_or (option_or x y) z ≡ option_or x (option_or y z)
+or_or None y z = refl
+or_or (Some v) y z = refl
+
+-- the type of a name that is declared is the first one among its attributes and those before the comma
+types_joined : (xs ys : List Attribute) → type_among (xs ++ ys) ≡ option_or (type_among xs) (type_among ys)
+unfolding type_among
+types_joined [] ys = refl
+types_joined (x ∷ xs) ys = ap (option_or (type_in x)) (types_joined xs ys) ∙ sym (or_or (type_in x) (type_among xs) (type_among ys))
+
+-- and so are its sizes
+sizes_joined : (xs ys : List Attribute) → sizes_among (xs ++ ys) ≡ option_or (sizes_among xs) (sizes_among ys)
+unfolding sizes_among
+sizes_joined [] ys = refl
+sizes_joined (x ∷ xs) ys = ap (option_or (sizes_in x)) (sizes_joined xs ys) ∙ sym (or_or (sizes_in x) (sizes_among xs) (sizes_among ys))
+
+-- cells of a type whose length is known have the sort of its class
+bits_cells : (o : Option ℕ) (cells : values.Kind) → bits_kind o ≡ Some cells → sort_of cells ≡ B
+unfolding bits_kind
+bits_cells None cells is = absurd (cc)
+bits_cells (Some n) (kind.Bits m) is = refl
+bits_cells (Some n) kind.Single is = absurd (cc)
+bits_cells (Some n) kind.Double is = absurd (cc)
+bits_cells (Some n) (kind.Text m) is = absurd (cc)
+
+text_cells : (o : Option ℕ) (cells : values.Kind) → text_kind o ≡ Some cells → sort_of cells ≡ T
+unfolding text_kind
+text_cells None cells is = absurd (cc)
+text_cells (Some n) (kind.Text m) is = refl
+text_cells (Some n) kind.Single is = absurd (cc)
+text_cells (Some n) kind.Double is = absurd (cc)
+text_cells (Some n) (kind.Bits m) is = absurd (cc)
+
+integer_cells : (double : Bool) (cells : values.Kind) → Some (if double then kind.Double else kind.Single) ≡ Some cells → sort_of cells ≡ I
+integer_cells double kind.Single is = refl
+integer_cells double kind.Double is = refl
+integer_cells true (kind.Bits m) is = absurd (cc)
+integer_cells false (kind.Bits m) is = absurd (cc)
+integer_cells true (kind.Text m) is = absurd (cc)
+integer_cells false (kind.Text m) is = absurd (cc)
+
+boolean_cells : (cells : values.Kind) → ◌≡◌ {A = Option values.Kind} (Some (kind.Bits 1)) (Some cells) → sort_of cells ≡ B
+boolean_cells (kind.Bits m) is = refl
+boolean_cells kind.Single is = absurd (cc)
+boolean_cells kind.Double is = absurd (cc)
+boolean_cells (kind.Text m) is = absurd (cc)
+
+same_sort : (t s : Sort) → Some t ≡ Some s → t ≡ s
+same_sort t s is = cc
+
+cells_of_type : (ps : List Phrase) (vs : Known) (p : Phrase) (double : Bool) (type_ : Kind) (cells : values.Kind) (s : Sort) → kind_of_type ps vs p double (Some type_) ≡ Some cells → sort_of_class (class_of_type type_) ≡ Some s → sort_of cells ≡ s
+unfolding kind_of_type kind_of class_of_type
+cells_of_type ps vs p double (IntegerKind place) cells s is worth = integer_cells double cells is ∙ same_sort I s worth
+cells_of_type ps vs p double (BooleanKind place) cells s is worth = boolean_cells cells is ∙ same_sort B s worth
+cells_of_type ps vs p double (EventKind place) cells s is worth = boolean_cells cells is ∙ same_sort B s worth
+cells_of_type ps vs p double (BitKind place size) cells s is worth = bits_cells (size_of 32 (constant_of ps vs p size)) cells is ∙ same_sort B s worth
+cells_of_type ps vs p double (CharacterKind place size) cells s is worth = text_cells (size_of 255 (constant_of ps vs p size)) cells is ∙ same_sort T s worth
+cells_of_type ps vs p double (StructureKind place template copies) cells s is worth = absurd (cc)
+
+-- data have dimensions where they have sizes
+arrayed_by : (ps : List Phrase) (vs : Known) (p : Phrase) (sizes : Option Expressions) → nat_lt 0 (dimensions_of sizes) ≡ is_arrayed (sizes_given ps vs p sizes)
+unfolding dimensions_of count_of
+arrayed_by ps vs p None = refl
+arrayed_by ps vs p (Some NoExpressions) = refl
+arrayed_by ps vs p (Some (MoreExpressions first others)) = lt-ltb 0 (suc (count_of others)) (omega arith)
+
+uncopied : (type_ : Kind) → is_structure_type (Some type_) ≡ false → has_copies type_ ≡ false
+unfolding has_copies is_structure_type
+uncopied (StructureKind place template copies) is = absurd (cc)
+uncopied other is = refl
+
+-- data of one component
+abbrev single_shape : List Phrase → Known → Phrase → List Attribute → Shape
+single_shape ps vs p attributes = record { copies = None; components = component ps vs p [] attributes ∷ [] }
+
+-- the shape of data that are no structure
+plain_shape : (ps : List Phrase) (vs : Known) (p : Phrase) (attributes : List Attribute) (type_ : Kind) → is_structure_type (Some type_) ≡ false
+    → shape_of_type ps vs p attributes (Some type_) ≡ single_shape ps vs p attributes
+unfolding is_structure_type
+plain_shape ps vs p attributes (StructureKind place template copies) is = absurd (cc)
+plain_shape ps vs p attributes other is = refl
+
+-- data that a phrase declares
+pub item_alike : (ps : List Phrase) (vs : Known) (p : Phrase) (common : List Attribute) (item : Declared) (type_ : Kind) (cells : values.Kind) → type_of common item ≡ Some type_ → is_structure_type (Some type_) ≡ false
+    → kind_of_type ps vs p (has_mark Double (item.attributes ++ common)) (Some type_) ≡ Some cells → AreAlike (data_at ps p [] (OfItem common item)) [] (shape_of ps vs p common item)
+unfolding data_at data_of is_nil
+item_alike ps vs p common item type_ cells typed unstructured sized =
+    let joined : type_among (item.attributes ++ common) ≡ Some type_ = types_joined item.attributes common ∙ typed in
+    let shape = ap (shape_of_type ps vs p (item.attributes ++ common)) joined ∙ plain_shape ps vs p (item.attributes ++ common) type_ unstructured in
+    subst (λ s. AreAlike (data_at ps p [] (OfItem common item)) [] s) (sym shape) (record {
+      declared = data_with (class_of_type type_) (dimensions_of (sizes_of common item)) (has_copies type_);
+      known = ap (λ o. data_of o (sizes_of common item)) typed;
+      sorted = λ s worth.
+          ap (λ o. sort_of (unwrap_or (kind_of_type ps vs p (has_mark Double (item.attributes ++ common)) o) kind.Single)) joined
+          ∙ (ap (λ o. sort_of (unwrap_or o kind.Single)) sized ∙ cells_of_type ps vs p (has_mark Double (item.attributes ++ common)) type_ cells s sized worth);
+      arrayed = λ plain. arrayed_by ps vs p (sizes_of common item) ∙ ap (λ o. is_arrayed (sizes_given ps vs p o)) (sym (sizes_joined item.attributes common));
+    })
+
+-- the variable of a DO FOR
+temporary_alike : (ps : List Phrase) (p : Phrase) (labels : List Naming) (variable : Naming) → AreAlike (data_at ps p [] (OfTemporaryGroup labels variable)) [] temporary_shape
+unfolding data_at is_nil
+temporary_alike ps p labels variable = record {
+  declared = data_with class.Integer zero false;
+  known = refl;
+  sorted = λ s worth. same_sort I s worth;
+  arrayed = λ plain. refl;
+}
+
+module _ (u : Uses) (site : Site) where
+  meant_itself : (name : List ℕ) (own : IsOwn site name) → name_meant (here_at site) name [] ≡ meant_by (here_at site) [] own.phrase own.phrase.node
+  meant_itself name own =
+      ap (λ o. elim o [ None ↦ builtin_meant name | Some k ↦ declaration_meant (here_at site) [] k ])
+      (ap (λ (o : Option ℕ). elim o [ None ↦ None | Some k ↦ Some (standing_for site.set.phrases k) ]) own.meant ∙ ap Some own.own)
+      ∙ ap (λ (o : Option Phrase). elim o [ None ↦ MeantNothing | Some p ↦ meant_by (here_at site) [] p p.node ]) own.there
+
+  -- a name agrees where what declares it does
+  agrees_by : (name : List ℕ) (own : IsOwn site name) (n : Node) (m : Meant) → own.phrase.node ≡ n → meant_by (here_at site) [] own.phrase n ≡ m → NodeAgrees u site site.set.phrases own.phrase [] n m
+      → NameAgrees u site site.set.phrases site.block name []
+  agrees_by name own n m declares is agrees =
+      let whole : name_meant (here_at site) name [] ≡ m = meant_itself name own ∙ (ap (meant_by (here_at site) [] own.phrase) declares ∙ is) in
+      let of_node : NodeAgrees u site site.set.phrases own.phrase [] own.phrase.node m = subst (λ (x : Node). NodeAgrees u site site.set.phrases own.phrase [] x m) (sym declares) agrees in
+      let of_phrase : PhraseAgrees u site site.set.phrases [] (slice_get site.set.phrases own.number) m =
+      subst (λ (o : Option Phrase). PhraseAgrees u site site.set.phrases [] o m) (sym own.there) of_node in
+      let of_number : DeclarationAgrees u site site.set.phrases name [] (means site.set.phrases site.block name) m =
+      subst (λ (o : Option ℕ). DeclarationAgrees u site site.set.phrases name [] o m) (sym own.meant) of_phrase in
+      subst (λ (x : Meant). DeclarationAgrees u site site.set.phrases name [] (means site.set.phrases site.block name) x) (sym whole) of_number
+
+  -- where data lie that a phrase declares
+  abbrev lying : Phrase → List Attribute → Declared → Meant
+  lying p common item = MeantData (spot_of (here_at site) [] p.number (storing site.set.phrases site.set.constants p (OfItem common item))) (shape_of site.set.phrases site.set.constants p common item)
+
+  item_meant_so : (p : Phrase) (common : List Attribute) (item : Declared) (type_ : Kind) → type_of common item ≡ Some type_ → is_event_type (Some type_) ≡ false → is_value_item common item ≡ false
+      → item_meant (here_at site) [] p common item ≡ lying p common item
+  item_meant_so p common item type_ typed eventless stored =
+      ap (λ b. if b then event_meant (here_at site) p.number else (if is_value_item common item then MeantConstant (unwrap_or (value_at site.set.constants p.number) (value.Int (pos 0))) else lying p common item)) (ap is_event_type typed ∙ eventless)
+      ∙ ap (λ b. if b then MeantConstant (unwrap_or (value_at site.set.constants p.number) (value.Int (pos 0))) else lying p common item) stored
+
+  pub plain_data_agree : (name : List ℕ) (own : IsOwn site name) → IsPlainData site own.phrase → NameAgrees u site site.set.phrases site.block name []
+  plain_data_agree name own is =
+      agrees_by name own (OfItem is.common is.item) (lying own.phrase is.common is.item) is.declares (item_meant_so own.phrase is.common is.item is.kind is.typed is.eventless is.stored)
+      (item_alike site.set.phrases site.set.constants own.phrase is.common is.item is.kind is.cells is.typed is.unstructured is.sized)
+
+  pub temporary_agrees : (name : List ℕ) (own : IsOwn site name) → IsTemporary own.phrase → NameAgrees u site site.set.phrases site.block name []
+  temporary_agrees name own is =
+      agrees_by name own (OfTemporaryGroup is.labels is.variable) (MeantData (Own (first_place site.places own.phrase.number)) temporary_shape) is.declares refl
+      (temporary_alike site.set.phrases own.phrase is.labels is.variable)

@@ -1,0 +1,276 @@
+-- Statements whose expressions agree fit, where the set that they stand in breaks no rule of types.
+use Rattle.std.proofs.Common.{◌≡◌, ℕ, suc, Bool, true, false, List, length, Option, Some, None, inl, inr, refl, sym, ap, ◌∙◌}
+use Rattle.std.specs.Option.{option_and_then}
+use Rattle.std.proofs.lemmas.Bool.{and_from}
+use Rattle.hal_grammar.specs.Leaves.{Naming}
+use Rattle.hal_grammar.specs.Expressions.{Expression, Decimal, Expressions, NoExpressions, MoreExpressions, place_of}
+use Rattle.hal_grammar.specs.Statements.{Guard, While, Until, Span, Stepped, Listed, Start, StartAt, StartIn, StartOn, Cycle, Cyclic, CyclicEvery, CyclicAfter, Schedule, Statement, Labelled, Basic, If, Do, DoCase, DoLoop, DoFor, Write, Update, Scheduled, Wait, WaitUntil, UpdatePriority, OnErrorStatement, Alternative, NoAlternative, Otherwise, Group, Groups, Statements, NoStatements, MoreStatements}
+use Rattle.hal_phrases.specs.declared.around.Around.{Around}
+use Rattle.hal_phrases.specs.declared.role.Role.{Role}
+use Rattle.hal_phrases.specs.declared.role.Role.TheVariants as role
+use Rattle.hal_phrases.specs.Surroundings.{inside, grouped, updated}
+use Rattle.hal_phrases.specs.Phrases.{Phrase, phrase, add, gathered_each, gathered_any, OfExpression, OfGroup, OfUpdate, OfHandler, OfWrite, OfRealTime}
+use Rattle.hal_phrases.specs.GatheredDeclarations.{gathered_optional}
+use Rattle.hal_phrases.specs.GatheredExpressions.{below, gathered, gathered_all}
+use Rattle.hal_phrases.specs.GatheredStatements.{gathered_label, gathered_process, gathered_guard, gathered_span, gathered_start, gathered_cycle, gathered_schedule, begun_for, around_for, gathered_statement, gathered_basic, gathered_alternative, gathered_group, gathered_statements}
+use Rattle.hal_scope.specs.Rules.{IsSound}
+use Rattle.hal_kinds.specs.declared.class.Class.{Class}
+use Rattle.hal_kinds.specs.declared.class.Class.TheVariants as class
+use Rattle.hal_kinds.specs.Classes.{class_of}
+use Rattle.hal_operands.specs.declared.want.Want.TheVariants as want
+use Rattle.hal_operands.specs.Pairs.{is_eventual}
+use Rattle.hal_operands.specs.Times.{misfit_of_time, mistimed, timed, time_fault}
+use Rattle.hal_operands.specs.Wants.{misfit, misfit_of_value, misfit_of_condition, misfit_of_whole, wanted}
+use Rattle.hal_types.specs.Rules.{operand_rows, type_rows}
+use Rattle.hal_meaning.specs.Marks.{after_statement, after_alternative}
+use Rattle.hal_code.specs.declared.image.ImageParts.{ImageParts}
+use Rattle.hal_code.specs.Sorts.{Sort, I, B, T}
+use Rattle.hal_agreement.specs.Sites.{Site, group_site}
+use Rattle.hal_fitting.specs.Fitting.{Ground}
+use Rattle.hal_fit_expr.specs.Uses.{Uses}
+use Rattle.hal_fit_expr.specs.Sorted.{sort_of_expression}
+use Rattle.hal_fit.specs.Received.{is_item, items_fit}
+use Rattle.hal_fit.specs.Spanned.{GuardFits, GuardsFit, StepFits, AreIntegers, SpanFits}
+use Rattle.hal_fit.specs.Stating.{StatementFits, BasicFits, AlternativeFits, GroupFits, StatementsFit}
+use Rattle.hal_fit.specs.Timed.{TimeFits, StartFits, PriorityFits, CycleFits, ScheduleFits}
+use Rattle.hal_fit_classes.specs.Kinded.{sort_of_class}
+use Rattle.hal_fit_classes.proofs.Pairing.{truth_sort, integer_sort}
+use Rattle.hal_fit_classes.proofs.Sorting as sorting
+use Rattle.hal_fit_rules.specs.Begun.{AreFirst}
+use Rattle.hal_fit_rules.specs.Leaves.{is_value_role}
+use Rattle.hal_fit_rules.specs.Agreeing.{Agrees, AllAgree}
+use Rattle.hal_fit_rules.specs.Stated.{AnyAgrees, GuardAgrees, AnyGuardAgrees, SpanAgrees, TimeAgrees, StartAgrees, CycleAgrees, ScheduleAgrees, StatementAgrees, BasicAgrees, AlternativeAgrees, GroupAgrees, StatementsAgree}
+use Rattle.hal_fit_rules.proofs.Beginning.{then_, among}
+use Rattle.hal_fit_rules.proofs.BegunExpressions.{own_first, expression_first, expressions_first}
+use Rattle.hal_fit_rules.proofs.BegunStatements.{close_first, optional_first, any_guard_first, any_cycle_first, any_limit_first, statement_first, alternative_first, group_first, statements_first}
+use Rattle.hal_fit_rules.proofs.Unbroken.{no_rule, unbroken, of_operands, matched}
+use Rattle.hal_fit_rules.proofs.Kinding.{kinded}
+use Rattle.hal_fit_rules.proofs.Classes.{is_decimal, class_known}
+use Rattle.hal_fit_rules.proofs.Agreeing.{known_leaves, of_role, sorted_of}
+
+condition_wanted : wanted role.Condition ≡ want.Truth
+unfolding wanted
+condition_wanted = refl
+
+case_wanted : wanted role.Case ≡ want.Integer
+unfolding wanted
+case_wanted = refl
+
+bound_wanted : wanted role.Bound ≡ want.Integer
+unfolding wanted
+bound_wanted = refl
+
+priority_wanted : wanted role.Priority ≡ want.Integer
+unfolding wanted
+priority_wanted = refl
+
+item_wanted : wanted role.Item ≡ want.Value
+unfolding wanted
+item_wanted = refl
+
+eventless_time : is_eventual role.Time ≡ false
+unfolding is_eventual
+eventless_time = refl
+
+-- a value is an item
+item_of : (c : Class) (sort : Option Sort) → misfit want.Value c ≡ None → ((s : Sort) → sort_of_class c ≡ Some s → sort ≡ Some s) → is_item sort ≡ true
+unfolding misfit misfit_of_value misfit_of_condition misfit_of_whole
+item_of class.Integer sort fits sorted = ap is_item (sorted I refl)
+item_of class.Bits sort fits sorted = ap is_item (sorted B refl)
+item_of class.Text sort fits sorted = ap is_item (sorted T refl)
+item_of class.Condition sort fits sorted = absurd (cc)
+item_of class.Structure sort fits sorted = absurd (cc)
+item_of class.Array sort fits sorted = absurd (cc)
+
+-- a time of a known class is an integer
+time_of : (c : Class) (sort : Option Sort) → misfit_of_time c ≡ None → ((s : Sort) → sort_of_class c ≡ Some s → sort ≡ Some s) → sort ≡ Some I
+unfolding misfit_of_time
+time_of class.Integer sort fits sorted = sorted I refl
+time_of class.Bits sort fits sorted = absurd (cc)
+time_of class.Text sort fits sorted = absurd (cc)
+time_of class.Condition sort fits sorted = absurd (cc)
+time_of class.Structure sort fits sorted = absurd (cc)
+time_of class.Array sort fits sorted = absurd (cc)
+
+module _ (u : Uses) (site : Site) (ps : List Phrase) (sound : IsSound type_rows ps) where
+  -- where a truth value is wanted it is bits
+  bits_of : (d : List Phrase) (a : Around) (r : Role) (t : Expression) → is_value_role r ≡ true → wanted r ≡ want.Truth → AreFirst (gathered d a r t) ps → Agrees u site ps a.block t → sort_of_expression u site t ≡ Some B
+  bits_of d a r t value wants begun agree =
+      let of = of_role u site ps sound d a r t value begun agree in
+      (sorted_of u site ps sound d a r t value begun agree).sorted of.found B of.known (truth_sort of.found (ap (λ w. misfit w of.found) (sym wants) ∙ of.fits))
+
+  -- where an integer is wanted it is one
+  integer_of : (d : List Phrase) (a : Around) (r : Role) (t : Expression) → is_value_role r ≡ true → wanted r ≡ want.Integer → AreFirst (gathered d a r t) ps → Agrees u site ps a.block t → sort_of_expression u site t ≡ Some I
+  integer_of d a r t value wants begun agree =
+      let of = of_role u site ps sound d a r t value begun agree in
+      (sorted_of u site ps sound d a r t value begun agree).sorted of.found I of.known (integer_sort of.found (ap (λ w. misfit w of.found) (sym wants) ∙ of.fits))
+
+  any_integer : (d : List Phrase) (a : Around) (r : Role) (o : Option Expression) → is_value_role r ≡ true → wanted r ≡ want.Integer → AreFirst (gathered_optional d a r o) ps → AnyAgrees u site ps a.block o → StepFits u site o
+  any_integer d a r None value wants begun agree = tt
+  any_integer d a r (Some t) value wants begun agree = integer_of d a r t value wants begun agree
+
+  priority_of : (d : List Phrase) (a : Around) (o : Option Expression) → AreFirst (gathered_optional d a role.Priority o) ps → AnyAgrees u site ps a.block o → PriorityFits u site o
+  priority_of d a None begun agree = tt
+  priority_of d a (Some t) begun agree = integer_of d a role.Priority t refl priority_wanted begun agree
+
+  integers_of : (d : List Phrase) (a : Around) (ts : Expressions) → AreFirst (gathered_all d a role.Bound ts) ps → AllAgree u site ps a.block ts → AreIntegers u site ts
+  unfolding gathered_all
+  integers_of d a NoExpressions begun agree = tt
+  integers_of d a (MoreExpressions first others) begun agree =
+      (integer_of d a role.Bound first refl bound_wanted (then_ (expressions_first (gathered d a role.Bound first) a role.Bound others) begun) agree.0, integers_of (gathered d a role.Bound first) a others begun agree.1)
+
+  items_of : (d : List Phrase) (a : Around) (ts : Expressions) → AreFirst (gathered_all d a role.Item ts) ps → AllAgree u site ps a.block ts → items_fit u site ts ≡ true
+  unfolding gathered_all
+  items_of d a NoExpressions begun agree = refl
+  items_of d a (MoreExpressions first others) begun agree =
+      let first_begun = then_ (expressions_first (gathered d a role.Item first) a role.Item others) begun in
+      let of = of_role u site ps sound d a role.Item first refl first_begun agree.0 in
+      let known = sorted_of u site ps sound d a role.Item first refl first_begun agree.0 in
+      and_from (is_item (sort_of_expression u site first)) (items_fit u site others)
+      (item_of of.found (sort_of_expression u site first) (ap (λ w. misfit w of.found) (sym item_wanted) ∙ of.fits) (λ s worth. known.sorted of.found s of.known worth))
+      (items_of (gathered d a role.Item first) a others begun agree.1)
+
+  guard_of : (d : List Phrase) (a : Around) (x : Guard) → AreFirst (gathered_guard a d x) ps → GuardAgrees u site ps a.block x → GuardFits u site x
+  unfolding gathered_guard
+  guard_of d a (While p condition) begun agree = bits_of d a role.Condition condition refl condition_wanted begun agree
+  guard_of d a (Until p condition) begun agree = bits_of d a role.Condition condition refl condition_wanted begun agree
+
+  any_guard_of : (d : List Phrase) (a : Around) (o : Option Guard) → AreFirst (gathered_any (gathered_guard a) d o) ps → AnyGuardAgrees u site ps a.block o → GuardsFit u site o
+  any_guard_of d a None begun agree = tt
+  any_guard_of d a (Some x) begun agree = guard_of d a x begun agree
+
+  span_of : (d : List Phrase) (a : Around) (x : Span) → AreFirst (gathered_span d a x) ps → SpanAgrees u site ps a.block x → SpanFits u site x
+  unfolding gathered_span
+  span_of d a (Stepped first last step) begun agree =
+      let e : List Phrase = gathered d a role.Bound first in
+      let f : List Phrase = gathered e a role.Bound last in
+      let last_begun = then_ (optional_first f a role.Bound step) begun in (
+        integer_of d a role.Bound first refl bound_wanted (then_ (expression_first e a role.Bound last) last_begun) agree.0,
+        integer_of e a role.Bound last refl bound_wanted last_begun agree.1,
+        any_integer f a role.Bound step refl bound_wanted begun agree.2,
+      )
+  span_of d a (Listed values) begun agree = integers_of d a values begun agree
+
+  -- a time that is no decimal
+  number_of : (d : List Phrase) (a : Around) (t : Expression) → is_decimal t ≡ false → AreFirst (gathered d a role.Time t) ps → Agrees u site ps a.block t
+      → sort_of_expression u site t ≡ Some I
+  unfolding operand_rows mistimed timed
+  number_of d a t other begun agree =
+      let own = then_ (own_first d a role.Time t) begun in
+      let leaves = known_leaves u site ps sound d a role.Time t eventless_time begun agree in
+      let is = kinded u site ps sound d a role.Time t eventless_time begun leaves in
+      let has = class_known u site ps a.block t leaves is (matched ps sound d a role.Time t eventless_time own) other in
+      let none : time_fault ps a.block t ≡ None =
+      unbroken type_rows ps sound (phrase (length d) a (OfExpression role.Time t)) (among ps d a (OfExpression role.Time t) own) (λ qs q. mistimed qs q q.node) (of_operands (λ qs q. mistimed qs q q.node) (inr (inl refl))) in
+      time_of has.0 (sort_of_expression u site t) (ap (option_and_then misfit_of_time) (sym has.1) ∙ no_rule (place_of t) (option_and_then misfit_of_time (class_of ps a.block t)) none)
+      (λ s worth. sorting.kinded u site ps a.block t is has.0 s has.1 worth)
+
+  time_fits : (d : List Phrase) (a : Around) (t : Expression) → AreFirst (gathered d a role.Time t) ps → TimeAgrees u site ps a.block t → TimeFits u site t
+  time_fits d a (Decimal place number) begun agree = agree
+  time_fits d a other begun agree = number_of d a other refl begun agree
+
+  start_of : (d : List Phrase) (a : Around) (o : Option Start) → AreFirst (gathered_any (gathered_start a) d o) ps → StartAgrees u site ps a.block o → StartFits u site o
+  unfolding gathered_start
+  start_of d a None begun agree = tt
+  start_of d a (Some (StartAt p t)) begun agree = time_fits d a t begun agree
+  start_of d a (Some (StartIn p t)) begun agree = time_fits d a t begun agree
+  start_of d a (Some (StartOn p t)) begun agree = tt
+
+  cycle_of : (d : List Phrase) (a : Around) (o : Option Cycle) → AreFirst (gathered_any (gathered_cycle a) d o) ps → CycleAgrees u site ps a.block o → CycleFits u site o
+  unfolding gathered_cycle
+  cycle_of d a None begun agree = tt
+  cycle_of d a (Some (Cyclic p)) begun agree = tt
+  cycle_of d a (Some (CyclicEvery p t)) begun agree = time_fits d a t begun agree
+  cycle_of d a (Some (CyclicAfter p t)) begun agree = time_fits d a t begun agree
+
+  schedule_of : (d : List Phrase) (a : Around) (s : Schedule) → AreFirst (gathered_schedule d a s) ps → ScheduleAgrees u site ps a.block s → ScheduleFits u site s
+  unfolding gathered_schedule
+  schedule_of d a s begun agree =
+      let e : List Phrase = gathered_process a d s.name in
+      let f : List Phrase = gathered_any (gathered_start a) e s.start in
+      let h : List Phrase = gathered_optional f a role.Priority s.priority in
+      let k : List Phrase = gathered_any (gathered_cycle a) h s.cycle in
+      let cycle_begun : AreFirst k ps = then_ (any_limit_first a k s.guard) begun in
+      let priority_begun : AreFirst h ps = then_ (any_cycle_first a h s.cycle) cycle_begun in
+      record {
+        first = start_of e a s.start (then_ (optional_first f a role.Priority s.priority) priority_begun) agree.first;
+        second = priority_of f a s.priority priority_begun agree.second;
+        third = cycle_of h a s.cycle cycle_begun agree.third;
+        fourth = agree.fourth;
+      }
+
+module _ (image : ImageParts) (g : Ground) (u : Bool → Uses) (ps : List Phrase) (sound : IsSound type_rows ps) where
+  mutual
+    unfolding gathered_statement gathered_basic gathered_alternative gathered_group gathered_statements
+
+    statement_fits : (within : Bool) (site : Site) (m : ℕ) (d : List Phrase) (a : Around) (x : Statement) → AreFirst (gathered_statement d a x) ps → StatementAgrees image g u ps within site m d a x
+        → StatementFits image g u within site m x
+    statement_fits within site m d a (Labelled labels basic) begun agree = basic_fits within site m (gathered_each (gathered_label a) d labels) a labels basic begun agree
+
+    basic_fits : (within : Bool) (site : Site) (m : ℕ) (d : List Phrase) (a : Around) (labels : List Naming) (x : Basic) → AreFirst (gathered_basic d a labels x) ps → BasicAgrees image g u ps within site m d a labels x
+        → BasicFits image g u within site m x
+    basic_fits within site m d a labels (If p condition consequence alternative) begun agree =
+        let e : List Phrase = gathered d a role.Condition condition in
+        let f : List Phrase = gathered_statement e (inside a) consequence in
+        let consequence_begun : AreFirst f ps = then_ (alternative_first f (inside a) alternative) begun in (
+          bits_of (u within) site ps sound d a role.Condition condition refl condition_wanted (then_ (statement_first e (inside a) consequence) consequence_begun) agree.0,
+          statement_fits within site m e (inside a) consequence consequence_begun agree.1,
+          alternative_fits within site (after_statement m consequence) f (inside a) alternative begun agree.2,
+        )
+    basic_fits within site m d a labels (Do p group) begun agree = group_fits within site (suc m) (add d a (OfGroup labels false)) (grouped (length d) a) group begun agree
+    basic_fits within site m d a labels (DoCase p number alternative group) begun agree =
+        let e : List Phrase = add d a (OfGroup labels false) in
+        let f : List Phrase = gathered e (below d a) role.Case number in
+        let h : List Phrase = gathered_alternative f (grouped (length d) a) alternative in
+        let alternative_begun : AreFirst h ps = then_ (group_first h (grouped (length d) a) group) begun in (
+          integer_of (u within) site ps sound e (below d a) role.Case number refl case_wanted (then_ (alternative_first f (grouped (length d) a) alternative) alternative_begun) agree.0,
+          group_fits within site (after_alternative (suc m) alternative) h (grouped (length d) a) group begun agree.1,
+          alternative_fits within site (suc m) f (grouped (length d) a) alternative alternative_begun agree.2,
+        )
+    basic_fits within site m d a labels (DoLoop p guard group) begun agree =
+        let e : List Phrase = add d a (OfGroup labels true) in
+        let f : List Phrase = gathered_guard (below d a) e guard in (
+          guard_of (u within) site ps sound e (below d a) guard (then_ (group_first f (grouped (length d) a) group) begun) agree.0,
+          group_fits within site (suc m) f (grouped (length d) a) group begun agree.1,
+        )
+    basic_fits within site m d a labels (DoFor p temporary variable span guard group) begun agree =
+        let o : Around = around_for d a temporary in
+        let e : List Phrase = begun_for d a labels temporary variable in
+        let f : List Phrase = gathered_span e o span in
+        let h : List Phrase = gathered_any (gathered_guard o) f guard in
+        let guard_begun : AreFirst h ps = then_ (group_first h o group) begun in (
+          record {
+            variable = agree.0.variable;
+            spanned = span_of (u within) (group_site site temporary m) ps sound e o span (then_ (any_guard_first o f guard) guard_begun) agree.0.spanned;
+            guarded = any_guard_of (u within) (group_site site temporary m) ps sound f o guard guard_begun agree.0.guarded;
+          },
+          group_fits within (group_site site temporary m) (suc m) h o group begun agree.1,
+        )
+    basic_fits within site m d a labels (Write p channel items) begun agree =
+        (agree.0, agree.1, items_of (u within) site ps sound (gathered (add d a (OfWrite p)) (below d a) role.Channel channel) (below d a) items begun agree.2)
+    basic_fits within site m d a labels (Update p body close) begun agree =
+        let e : List Phrase = add d a (OfUpdate p labels) in
+        (agree.0, statements_fit true site (suc m) e (updated (length d) a) body (then_ (close_first (updated (length d) a) (gathered_statements e (updated (length d) a) body) close) begun) agree.1)
+    basic_fits within site m d a labels (Scheduled p s) begun agree = (agree.0, schedule_of (u within) site ps sound (add d a (OfRealTime p)) (below d a) s begun agree.1)
+    basic_fits within site m d a labels (Wait p tree) begun agree = (agree.0, time_fits (u within) site ps sound (add d a (OfRealTime p)) (below d a) tree begun agree.1)
+    basic_fits within site m d a labels (WaitUntil p tree) begun agree = (agree.0, time_fits (u within) site ps sound (add d a (OfRealTime p)) (below d a) tree begun agree.1)
+    basic_fits within site m d a labels (UpdatePriority p name tree) begun agree =
+        (agree.0, integer_of (u within) site ps sound (gathered_any (gathered_process (below d a)) (add d a (OfRealTime p)) name) (below d a) role.Priority tree refl priority_wanted begun agree.1)
+    basic_fits within site m d a labels (OnErrorStatement p s handler) begun agree = statement_fits within site (suc m) (add d a (OfHandler p s)) (inside a) handler begun agree
+    basic_fits within site m d a labels other begun agree = agree
+
+    alternative_fits : (within : Bool) (site : Site) (m : ℕ) (d : List Phrase) (a : Around) (x : Alternative) → AreFirst (gathered_alternative d a x) ps → AlternativeAgrees image g u ps within site m d a x
+        → AlternativeFits image g u within site m x
+    alternative_fits within site m d a NoAlternative begun agree = tt
+    alternative_fits within site m d a (Otherwise statement) begun agree = statement_fits within site m d a statement begun agree
+
+    group_fits : (within : Bool) (site : Site) (m : ℕ) (d : List Phrase) (a : Around) (x : Group) → AreFirst (gathered_group d a x) ps → GroupAgrees image g u ps within site m d a x → GroupFits image g u within site m x
+    group_fits within site m d a (Groups list close) begun agree = statements_fit within site m d a list (then_ (close_first a (gathered_statements d a list) close) begun) agree
+
+    pub statements_fit : (within : Bool) (site : Site) (m : ℕ) (d : List Phrase) (a : Around) (x : Statements) → AreFirst (gathered_statements d a x) ps → StatementsAgree image g u ps within site m d a x
+        → StatementsFit image g u within site m x
+    statements_fit within site m d a NoStatements begun agree = tt
+    statements_fit within site m d a (MoreStatements first others) begun agree = (
+      statement_fits within site m d a first (then_ (statements_first (gathered_statement d a first) a others) begun) agree.0,
+      statements_fit within site (after_statement m first) (gathered_statement d a first) a others begun agree.1,
+    )

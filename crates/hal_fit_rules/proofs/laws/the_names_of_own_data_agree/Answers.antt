@@ -1,0 +1,8 @@
+use Rattle.hal_fit_rules.proofs.Declaring.{plain_data_agree, temporary_agrees}
+use Rattle.hal_fit_rules.proofs.laws.the_names_of_own_data_agree.Goals as goal
+
+pub returns-clause-declared : goal.returns-clause-declared
+returns-clause-declared c u site name own is = plain_data_agree u site name own is
+
+pub returns-clause-temporary : goal.returns-clause-temporary
+returns-clause-temporary c u site name own is = temporary_agrees u site name own is

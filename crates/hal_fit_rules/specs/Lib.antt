@@ -1,0 +1,5 @@
+pub mod Begun
+pub mod Leaves
+pub mod Agreeing
+pub mod Stated
+pub mod Owned

@@ -1,0 +1,114 @@
+-- Statements whose expressions have names that agree where they stand. What no rule of operands speaks of has to fit itself.
+use Rattle.std.specs.Prelude.{◌≡◌, ℕ, suc, Bool, true, false, List, [], Option, Some, None, length}
+use Rattle.hal_grammar.specs.Leaves.{Naming}
+use Rattle.hal_grammar.specs.Expressions.{Expression, Decimal}
+use Rattle.hal_grammar.specs.Statements.{Guard, While, Until, Span, Stepped, Listed, Start, StartAt, StartIn, StartOn, Cycle, Cyclic, CyclicEvery, CyclicAfter, Schedule, Statement, Labelled, Basic, If, Do, DoCase, DoLoop, DoFor, Write, Scheduled, UpdatePriority, Wait, WaitUntil, Update, OnErrorStatement, Alternative, NoAlternative, Otherwise, Group, Groups, Statements, NoStatements, MoreStatements}
+use Rattle.hal_phrases.specs.declared.around.Around.{Around}
+use Rattle.hal_phrases.specs.declared.role.Role.TheVariants as role
+use Rattle.hal_phrases.specs.Surroundings.{inside, grouped, updated}
+use Rattle.hal_phrases.specs.Phrases.{Phrase, add, gathered_each, gathered_any, OfGroup, OfUpdate, OfHandler}
+use Rattle.hal_phrases.specs.GatheredExpressions.{below, gathered}
+use Rattle.hal_phrases.specs.GatheredStatements.{gathered_label, gathered_guard, gathered_span, begun_for, around_for, gathered_statement, gathered_alternative}
+use Rattle.hal_meaning.specs.Marks.{after_statement, after_alternative}
+use Rattle.hal_code.specs.declared.image.ImageParts.{ImageParts}
+use Rattle.hal_code.specs.declared.operand.Time.TheVariants as time
+use Rattle.hal_code.specs.Operands.{is_time}
+use Rattle.hal_code.specs.Sorts.{I}
+use Rattle.hal_agreement.specs.Sites.{Site, group_site}
+use Rattle.hal_fitting.specs.Fitting.{Ground}
+use Rattle.hal_fit_expr.specs.Uses.{Uses}
+use Rattle.hal_fit_expr.specs.Sorted.{sort_of_name}
+use Rattle.hal_fit.specs.Stating.{ChannelFits, BasicFits}
+use Rattle.hal_fit.specs.Timed.{LimitFits}
+use Rattle.hal_fit_rules.specs.Agreeing.{Agrees, AllAgree}
+
+-- an expression that may be there
+abbrev pub AnyAgrees : Uses → Site → List Phrase → ℕ → Option Expression → Type 0
+AnyAgrees u site ps block None = Unit {0}
+AnyAgrees u site ps block (Some tree) = Agrees u site ps block tree
+
+abbrev pub GuardAgrees : Uses → Site → List Phrase → ℕ → Guard → Type 0
+GuardAgrees u site ps block (While place condition) = Agrees u site ps block condition
+GuardAgrees u site ps block (Until place condition) = Agrees u site ps block condition
+
+abbrev pub AnyGuardAgrees : Uses → Site → List Phrase → ℕ → Option Guard → Type 0
+AnyGuardAgrees u site ps block None = Unit {0}
+AnyGuardAgrees u site ps block (Some guard) = GuardAgrees u site ps block guard
+
+abbrev pub SpanAgrees : Uses → Site → List Phrase → ℕ → Span → Type 0
+SpanAgrees u site ps block (Stepped first last step) = Agrees u site ps block first × Agrees u site ps block last × AnyAgrees u site ps block step
+SpanAgrees u site ps block (Listed values) = AllAgree u site ps block values
+
+-- a time: the milliseconds of a decimal are within the limit
+abbrev pub TimeAgrees : Uses → Site → List Phrase → ℕ → Expression → Type 0
+TimeAgrees u site ps block (Decimal place number) = is_time (time.Milliseconds number) ≡ true
+TimeAgrees u site ps block tree = Agrees u site ps block tree
+
+abbrev pub StartAgrees : Uses → Site → List Phrase → ℕ → Option Start → Type 0
+StartAgrees u site ps block None = Unit {0}
+StartAgrees u site ps block (Some (StartAt place tree)) = TimeAgrees u site ps block tree
+StartAgrees u site ps block (Some (StartIn place tree)) = TimeAgrees u site ps block tree
+StartAgrees u site ps block (Some (StartOn place tree)) = Unit {0}
+
+abbrev pub CycleAgrees : Uses → Site → List Phrase → ℕ → Option Cycle → Type 0
+CycleAgrees u site ps block None = Unit {0}
+CycleAgrees u site ps block (Some (Cyclic place)) = Unit {0}
+CycleAgrees u site ps block (Some (CyclicEvery place tree)) = TimeAgrees u site ps block tree
+CycleAgrees u site ps block (Some (CyclicAfter place tree)) = TimeAgrees u site ps block tree
+
+-- SCHEDULE, what ends its cycles aside
+pub record ScheduleAgrees (u : Uses) (site : Site) (ps : List Phrase) (block : ℕ) (s : Schedule) : Type 0 where
+  pub first : StartAgrees u site ps block s.start
+  pub second : AnyAgrees u site ps block s.priority
+  pub third : CycleAgrees u site ps block s.cycle
+  pub fourth : LimitFits u site s.guard
+
+-- DO FOR, whose variable has this name
+pub record ForAgrees (u : Uses) (site : Site) (ps : List Phrase) (block : ℕ) (name : List ℕ) (span : Span) (guard : Option Guard) : Type 0 where
+  pub variable : sort_of_name u site name [] ≡ Some I
+  pub spanned : SpanAgrees u site ps block span
+  pub guarded : AnyGuardAgrees u site ps block guard
+
+abbrev mutual
+  -- a statement whose phrases stand behind these, with what is around them
+  pub StatementAgrees : ImageParts → Ground → (Bool → Uses) → List Phrase → Bool → Site → ℕ → List Phrase → Around → Statement → Type 0
+  StatementAgrees image g u ps within site m d a (Labelled labels basic) = BasicAgrees image g u ps within site m (gathered_each (gathered_label a) d labels) a labels basic
+
+  pub BasicAgrees : ImageParts → Ground → (Bool → Uses) → List Phrase → Bool → Site → ℕ → List Phrase → Around → List Naming → Basic → Type 0
+  BasicAgrees image g u ps within site m d a labels (If place condition consequence alternative) =
+      Agrees (u within) site ps a.block condition × StatementAgrees image g u ps within site m (gathered d a role.Condition condition) (inside a) consequence
+      × AlternativeAgrees image g u ps within site (after_statement m consequence) (gathered_statement (gathered d a role.Condition condition) (inside a) consequence) (inside a) alternative
+  BasicAgrees image g u ps within site m d a labels (Do place group) = GroupAgrees image g u ps within site (suc m) (add d a (OfGroup labels false)) (grouped (length d) a) group
+  BasicAgrees image g u ps within site m d a labels (DoCase place number alternative group) =
+      Agrees (u within) site ps a.block number
+      × GroupAgrees image g u ps within site (after_alternative (suc m) alternative) (gathered_alternative (gathered (add d a (OfGroup labels false)) (below d a) role.Case number) (grouped (length d) a) alternative) (grouped (length d) a) group
+      × AlternativeAgrees image g u ps within site (suc m) (gathered (add d a (OfGroup labels false)) (below d a) role.Case number) (grouped (length d) a) alternative
+  BasicAgrees image g u ps within site m d a labels (DoLoop place guard group) =
+      GuardAgrees (u within) site ps a.block guard × GroupAgrees image g u ps within site (suc m) (gathered_guard (below d a) (add d a (OfGroup labels true)) guard) (grouped (length d) a) group
+  BasicAgrees image g u ps within site m d a labels (DoFor place temporary variable span guard group) =
+      ForAgrees (u within) (group_site site temporary m) ps (around_for d a temporary).block variable.name span guard
+      × GroupAgrees image g u ps within (group_site site temporary m) (suc m)
+      (gathered_any (gathered_guard (around_for d a temporary)) (gathered_span (begun_for d a labels temporary variable) (around_for d a temporary) span) guard) (around_for d a temporary) group
+  BasicAgrees image g u ps within site m d a labels (Write place channel items) = (within ≡ false) × ChannelFits site channel × AllAgree (u within) site ps a.block items
+  BasicAgrees image g u ps within site m d a labels (Update place body close) = (within ≡ false) × StatementsAgree image g u ps true site (suc m) (add d a (OfUpdate place labels)) (updated (length d) a) body
+  BasicAgrees image g u ps within site m d a labels (Scheduled place s) = (within ≡ false) × ScheduleAgrees (u within) site ps a.block s
+  BasicAgrees image g u ps within site m d a labels (Wait place tree) = (within ≡ false) × TimeAgrees (u within) site ps a.block tree
+  BasicAgrees image g u ps within site m d a labels (WaitUntil place tree) = (within ≡ false) × TimeAgrees (u within) site ps a.block tree
+  BasicAgrees image g u ps within site m d a labels (UpdatePriority place name tree) = (within ≡ false) × Agrees (u within) site ps a.block tree
+  BasicAgrees image g u ps within site m d a labels (OnErrorStatement place s handler) = StatementAgrees image g u ps within site (suc m) (add d a (OfHandler place s)) (inside a) handler
+  BasicAgrees image g u ps within site m d a labels other = BasicFits image g u within site m other
+
+  -- what stands after ELSE
+  pub AlternativeAgrees : ImageParts → Ground → (Bool → Uses) → List Phrase → Bool → Site → ℕ → List Phrase → Around → Alternative → Type 0
+  AlternativeAgrees image g u ps within site m d a NoAlternative = Unit {0}
+  AlternativeAgrees image g u ps within site m d a (Otherwise one) = StatementAgrees image g u ps within site m d a one
+
+  -- the statements of a group
+  pub GroupAgrees : ImageParts → Ground → (Bool → Uses) → List Phrase → Bool → Site → ℕ → List Phrase → Around → Group → Type 0
+  GroupAgrees image g u ps within site m d a (Groups list close) = StatementsAgree image g u ps within site m d a list
+
+  -- statements one after another
+  pub StatementsAgree : ImageParts → Ground → (Bool → Uses) → List Phrase → Bool → Site → ℕ → List Phrase → Around → Statements → Type 0
+  StatementsAgree image g u ps within site m d a NoStatements = Unit {0}
+  StatementsAgree image g u ps within site m d a (MoreStatements first others) =
+      StatementAgrees image g u ps within site m d a first × StatementsAgree image g u ps within site (after_statement m first) (gathered_statement d a first) a others
