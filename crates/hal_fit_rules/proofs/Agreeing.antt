@@ -71,7 +71,7 @@ module _ (u : Uses) (site : Site) (ps : List Phrase) (sound : IsSound type_rows 
       let of = wanted_of u site ps sound d a r want.Integer t value wants begun leaves is in
       sorting.kinded u site ps a.block t is of.found I of.known (integer_sort of.found of.fits)
 
-  subscripted_right : (d : List Phrase) (a : Around) (r : Role) (t : Reference) → AreFirst (add d a (OfReference r t)) ps → reference_fault ps a.block t ≡ None
+  pub subscripted_right : (d : List Phrase) (a : Around) (r : Role) (t : Reference) → AreFirst (add d a (OfReference r t)) ps → reference_fault ps a.block t ≡ None
   unfolding use_rows missubscripted
   subscripted_right d a r t first =
       unbroken type_rows ps sound (phrase (length d) a (OfReference r t)) (among ps d a (OfReference r t) first) (λ qs q. missubscripted qs q q.node)

@@ -29,7 +29,7 @@ process_first a d o = any (gathered_process a) (λ e x. one e a _) d o
 event_first : (a : Around) (d : List Phrase) (o : Option Eventful) → AreFirst d (gathered_any (gathered_event a) d o)
 event_first a d o = any (gathered_event a) (λ e x. one e a _) d o
 
-receivers_first : (a : Around) (r : Role) (d : List Phrase) (xs : List Reference) → AreFirst d (gathered_each (gathered_receiver a r) d xs)
+pub receivers_first : (a : Around) (r : Role) (d : List Phrase) (xs : List Reference) → AreFirst d (gathered_each (gathered_receiver a r) d xs)
 receivers_first a r d xs = each (gathered_receiver a r) (λ e x. reference_first e a r x) d xs
 
 pub optional_first : (d : List Phrase) (a : Around) (r : Role) (o : Option Expression) → AreFirst d (gathered_optional d a r o)

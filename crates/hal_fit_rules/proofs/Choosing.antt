@@ -64,7 +64,7 @@ string_places class.Array eventful s is worth = absurd (cc)
 string_places class.Bits eventful s is worth = absurd (cc)
 string_places class.Text eventful s is worth = absurd (cc)
 
-same_none : (list : Subscripts) → is_missing list ≡ kinds.is_none list
+pub same_none : (list : Subscripts) → is_missing list ≡ kinds.is_none list
 unfolding is_missing subscript_count
 same_none NoSubscripts = refl
 same_none (MoreSubscripts first others) = sym (ne_eqb (suc (subscript_count others)) 0 (λ same. omega (arith, same)))
@@ -81,7 +81,7 @@ SubscriptRight u site (ByInteger place at number) = Unit {0}
 SubscriptRight u site (ByParts place copies arrays components) = AreRight u site copies × AreRight u site arrays × AreRight u site components
 
 -- what three parts choose, where those without a mark are of the array or not
-abbrev marked : Bool → Subscripts → Subscripts → Subscripts → Choice
+abbrev pub marked : Bool → Subscripts → Subscripts → Subscripts → Choice
 marked placed copies arrays components =
     if placed then kinds.choice (subscript_count copies) (subscript_count components) 0 (kinds.are_many copies) (kinds.are_many components)
     else kinds.choice (subscript_count copies) (subscript_count arrays) (subscript_count components) (kinds.are_many copies) (kinds.are_many arrays)

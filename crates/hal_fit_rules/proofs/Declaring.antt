@@ -30,6 +30,7 @@ use Rattle.hal_agreement.specs.Sites.{Site, here_at}
 use Rattle.hal_fit_expr.specs.Uses.{Uses}
 use Rattle.hal_fit_classes.specs.Kinded.{sort_of_class}
 use Rattle.hal_fit_rules.specs.Agreeing.{AreAlike, NodeAgrees, PhraseAgrees, DeclarationAgrees, NameAgrees}
+use Rattle.hal_fit_rules.proofs.Cells.{same_sort}
 use Rattle.hal_fit_rules.specs.Owned.{IsOwn, IsPlainData, IsTemporary}
 
 or_or : {X : Type 0} (x y z : Option X) → option_or (option_or x y) z ≡ option_or x (option_or y z)
@@ -78,9 +79,6 @@ boolean_cells (kind.Bits m) is = refl
 boolean_cells kind.Single is = absurd (cc)
 boolean_cells kind.Double is = absurd (cc)
 boolean_cells (kind.Text m) is = absurd (cc)
-
-same_sort : (t s : Sort) → Some t ≡ Some s → t ≡ s
-same_sort t s is = cc
 
 cells_of_type : (ps : List Phrase) (vs : Known) (p : Phrase) (double : Bool) (type_ : Kind) (cells : values.Kind) (s : Sort) → kind_of_type ps vs p double (Some type_) ≡ Some cells → sort_of_class (class_of_type type_) ≡ Some s → sort_of cells ≡ s
 unfolding kind_of_type kind_of class_of_type

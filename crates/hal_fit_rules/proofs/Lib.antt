@@ -9,3 +9,5 @@ pub mod Agreeing
 mod BegunStatements
 pub mod Stating
 pub mod Declaring
+mod Cells
+pub mod Receiving

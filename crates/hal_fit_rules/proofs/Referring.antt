@@ -109,11 +109,11 @@ module _ (u : Uses) (site : Site) (path : List Naming) where
   cell_sort (ByParts p copies arrays components) at shape s is right has = cell_chosen (ByParts p copies arrays components) at shape s is right has
 
   -- the class of what is chosen of data
-  class_of_chosen : (d : Data) (found : Option Data) (x : Subscript) → found ≡ Some d → is_miscounted d (kinds.chosen d x) ≡ false
+  pub class_of_chosen : (d : Data) (found : Option Data) (x : Subscript) → found ≡ Some d → is_miscounted d (kinds.chosen d x) ≡ false
       → option_and_then (λ (e : Data). class_left e (kinds.chosen e x)) found ≡ Some (class_in d (kinds.chosen d x))
   class_of_chosen d found x is counted = ap (option_and_then (λ (e : Data). class_left e (kinds.chosen e x))) is ∙ ap (λ b. if b then None else Some (class_in d (kinds.chosen d x))) counted
 
-  data_right : (d : Data) (found : Option Data) (eventful : Bool) (x : Subscript) → found ≡ Some d → data_fault eventful x found ≡ None → IsRight (is_string d.class && not eventful) d (kinds.chosen d x)
+  pub data_right : (d : Data) (found : Option Data) (eventful : Bool) (x : Subscript) → found ≡ Some d → data_fault eventful x found ≡ None → IsRight (is_string d.class && not eventful) d (kinds.chosen d x)
   unfolding data_fault
   data_right d found eventful x is none = choice_right eventful d (kinds.chosen d x) (ap (data_fault eventful x) (sym is) ∙ none)
 

@@ -2,51 +2,58 @@
 use Rattle.std.proofs.Common.{◌≡◌, ℕ, suc, Bool, true, false, List, length, Option, Some, None, inl, inr, refl, sym, ap, ◌∙◌}
 use Rattle.std.specs.Option.{option_and_then}
 use Rattle.std.proofs.lemmas.Bool.{and_from}
+use Rattle.hal_base.specs.declared.refusal.Place.{Place}
 use Rattle.hal_grammar.specs.Leaves.{Naming}
-use Rattle.hal_grammar.specs.Expressions.{Expression, Decimal, Expressions, NoExpressions, MoreExpressions, place_of}
-use Rattle.hal_grammar.specs.Statements.{Guard, While, Until, Span, Stepped, Listed, Start, StartAt, StartIn, StartOn, Cycle, Cyclic, CyclicEvery, CyclicAfter, Schedule, Statement, Labelled, Basic, If, Do, DoCase, DoLoop, DoFor, Write, Update, Scheduled, Wait, WaitUntil, UpdatePriority, OnErrorStatement, Alternative, NoAlternative, Otherwise, Group, Groups, Statements, NoStatements, MoreStatements}
+use Rattle.hal_grammar.specs.Expressions.{Expression, Decimal, Expressions, NoExpressions, MoreExpressions, Reference, place_of}
+use Rattle.hal_grammar.specs.Statements.{Guard, While, Until, Span, Stepped, Listed, Start, StartAt, StartIn, StartOn, Cycle, Cyclic, CyclicEvery, CyclicAfter, Schedule, Statement, Labelled, Basic, Assignment, If, Do, DoCase, DoLoop, DoFor, Write, Update, Scheduled, Wait, WaitUntil, UpdatePriority, OnErrorStatement, Alternative, NoAlternative, Otherwise, Group, Groups, Statements, NoStatements, MoreStatements}
 use Rattle.hal_phrases.specs.declared.around.Around.{Around}
 use Rattle.hal_phrases.specs.declared.role.Role.{Role}
 use Rattle.hal_phrases.specs.declared.role.Role.TheVariants as role
 use Rattle.hal_phrases.specs.Surroundings.{inside, grouped, updated}
-use Rattle.hal_phrases.specs.Phrases.{Phrase, phrase, add, gathered_each, gathered_any, OfExpression, OfGroup, OfUpdate, OfHandler, OfWrite, OfRealTime}
+use Rattle.hal_phrases.specs.Phrases.{Phrase, phrase, add, gathered_each, gathered_any, OfExpression, OfAssignment, OfGroup, OfUpdate, OfHandler, OfWrite, OfRealTime}
 use Rattle.hal_phrases.specs.GatheredDeclarations.{gathered_optional}
 use Rattle.hal_phrases.specs.GatheredExpressions.{below, gathered, gathered_all}
-use Rattle.hal_phrases.specs.GatheredStatements.{gathered_label, gathered_process, gathered_guard, gathered_span, gathered_start, gathered_cycle, gathered_schedule, begun_for, around_for, gathered_statement, gathered_basic, gathered_alternative, gathered_group, gathered_statements}
-use Rattle.hal_scope.specs.Rules.{IsSound}
+use Rattle.hal_phrases.specs.GatheredStatements.{gathered_label, gathered_receiver, gathered_process, gathered_guard, gathered_span, gathered_start, gathered_cycle, gathered_schedule, begun_for, around_for, gathered_statement, gathered_basic, gathered_alternative, gathered_group, gathered_statements}
+use Rattle.hal_scope.specs.Rules.{IsSound, ruled}
+use Rattle.hal_scope.specs.Uses.{unless}
 use Rattle.hal_kinds.specs.declared.class.Class.{Class}
 use Rattle.hal_kinds.specs.declared.class.Class.TheVariants as class
 use Rattle.hal_kinds.specs.Classes.{class_of}
 use Rattle.hal_operands.specs.declared.want.Want.TheVariants as want
 use Rattle.hal_operands.specs.Pairs.{is_eventual}
+use Rattle.hal_operands.specs.Taken.{all_take, assigned_taken, is_taken, untaken}
 use Rattle.hal_operands.specs.Times.{misfit_of_time, mistimed, timed, time_fault}
 use Rattle.hal_operands.specs.Wants.{misfit, misfit_of_value, misfit_of_condition, misfit_of_whole, wanted}
 use Rattle.hal_types.specs.Rules.{operand_rows, type_rows}
 use Rattle.hal_meaning.specs.Marks.{after_statement, after_alternative}
 use Rattle.hal_code.specs.declared.image.ImageParts.{ImageParts}
+use Rattle.hal_code.specs.Effects.{is_value}
 use Rattle.hal_code.specs.Sorts.{Sort, I, B, T}
 use Rattle.hal_agreement.specs.Sites.{Site, group_site}
 use Rattle.hal_fitting.specs.Fitting.{Ground}
 use Rattle.hal_fit_expr.specs.Uses.{Uses}
 use Rattle.hal_fit_expr.specs.Sorted.{sort_of_expression}
-use Rattle.hal_fit.specs.Received.{is_item, items_fit}
+use Rattle.hal_fit.specs.Received.{is_assigned, is_item, items_fit}
 use Rattle.hal_fit.specs.Spanned.{GuardFits, GuardsFit, StepFits, AreIntegers, SpanFits}
 use Rattle.hal_fit.specs.Stating.{StatementFits, BasicFits, AlternativeFits, GroupFits, StatementsFit}
 use Rattle.hal_fit.specs.Timed.{TimeFits, StartFits, PriorityFits, CycleFits, ScheduleFits}
 use Rattle.hal_fit_classes.specs.Kinded.{sort_of_class}
-use Rattle.hal_fit_classes.proofs.Pairing.{truth_sort, integer_sort}
+use Rattle.hal_fit_classes.proofs.Pairing.{truth_sort, integer_sort, value_sort}
 use Rattle.hal_fit_classes.proofs.Sorting as sorting
 use Rattle.hal_fit_rules.specs.Begun.{AreFirst}
 use Rattle.hal_fit_rules.specs.Leaves.{is_value_role}
 use Rattle.hal_fit_rules.specs.Agreeing.{Agrees, AllAgree}
+use Rattle.hal_fit_rules.specs.Received.{ReceiversAgree}
 use Rattle.hal_fit_rules.specs.Stated.{AnyAgrees, GuardAgrees, AnyGuardAgrees, SpanAgrees, TimeAgrees, StartAgrees, CycleAgrees, ScheduleAgrees, StatementAgrees, BasicAgrees, AlternativeAgrees, GroupAgrees, StatementsAgree}
-use Rattle.hal_fit_rules.proofs.Beginning.{then_, among}
+use Rattle.hal_fit_rules.proofs.Beginning.{then_, there, among}
 use Rattle.hal_fit_rules.proofs.BegunExpressions.{own_first, expression_first, expressions_first}
-use Rattle.hal_fit_rules.proofs.BegunStatements.{close_first, optional_first, any_guard_first, any_cycle_first, any_limit_first, statement_first, alternative_first, group_first, statements_first}
-use Rattle.hal_fit_rules.proofs.Unbroken.{no_rule, unbroken, of_operands, matched}
+use Rattle.hal_fit_rules.proofs.BegunStatements.{close_first, receivers_first, optional_first, any_guard_first, any_cycle_first, any_limit_first, statement_first, alternative_first, group_first, statements_first}
+use Rattle.hal_fit_rules.proofs.Unbroken.{no_rule, ruled_none, unbroken, of_operands, matched}
 use Rattle.hal_fit_rules.proofs.Kinding.{kinded}
 use Rattle.hal_fit_rules.proofs.Classes.{is_decimal, class_known}
 use Rattle.hal_fit_rules.proofs.Agreeing.{known_leaves, of_role, sorted_of}
+use Rattle.hal_fit_rules.proofs.Cells.{same_sort}
+use Rattle.hal_fit_rules.proofs.Receiving.{receivers_right}
 
 condition_wanted : wanted role.Condition ≡ want.Truth
 unfolding wanted
@@ -68,6 +75,10 @@ item_wanted : wanted role.Item ≡ want.Value
 unfolding wanted
 item_wanted = refl
 
+assigned_wanted : wanted role.Assigned ≡ want.Value
+unfolding wanted
+assigned_wanted = refl
+
 eventless_time : is_eventual role.Time ≡ false
 unfolding is_eventual
 eventless_time = refl
@@ -81,6 +92,16 @@ item_of class.Text sort fits sorted = ap is_item (sorted T refl)
 item_of class.Condition sort fits sorted = absurd (cc)
 item_of class.Structure sort fits sorted = absurd (cc)
 item_of class.Array sort fits sorted = absurd (cc)
+
+-- and its sort is that of one
+sort_value : (c : Class) (s : Sort) → misfit want.Value c ≡ None → sort_of_class c ≡ Some s → is_value s ≡ true
+unfolding misfit misfit_of_value misfit_of_condition misfit_of_whole
+sort_value class.Integer s fits worth = ap is_value (sym (same_sort I s worth))
+sort_value class.Bits s fits worth = ap is_value (sym (same_sort B s worth))
+sort_value class.Text s fits worth = ap is_value (sym (same_sort T s worth))
+sort_value class.Condition s fits worth = absurd (cc)
+sort_value class.Structure s fits worth = absurd (cc)
+sort_value class.Array s fits worth = absurd (cc)
 
 -- a time of a known class is an integer
 time_of : (c : Class) (sort : Option Sort) → misfit_of_time c ≡ None → ((s : Sort) → sort_of_class c ≡ Some s → sort ≡ Some s) → sort ≡ Some I
@@ -199,6 +220,38 @@ module _ (u : Uses) (site : Site) (ps : List Phrase) (sound : IsSound type_rows 
         fourth = agree.fourth;
       }
 
+  not_untaken : (b : Bool) (place : Place) → unless b place ≡ None → b ≡ true
+  not_untaken true place none = refl
+  not_untaken false place none = absurd (cc)
+
+  -- receivers take what is assigned
+  taken_of : (d : List Phrase) (a : Around) (ts : List Reference) (t : Expression) → AreFirst (gathered (gathered_each (gathered_receiver (below d a) role.Receiver) (add d a (OfAssignment ts t)) ts) (below d a) role.Assigned t) ps
+      → all_take ps a.block (class_of ps a.block t) ts ≡ true
+  unfolding operand_rows untaken is_taken assigned_taken
+  taken_of d a ts t begun =
+      let e : List Phrase = add d a (OfAssignment ts t) in
+      let f : List Phrase = gathered_each (gathered_receiver (below d a) role.Receiver) e ts in
+      let own : AreFirst (add f (below d a) (OfExpression role.Assigned t)) ps = then_ (own_first f (below d a) role.Assigned t) begun in
+      let stated = there ps d a (OfAssignment ts t) (then_ (receivers_first (below d a) role.Receiver e ts) (then_ (expression_first f (below d a) role.Assigned t) begun)) in
+      let none = ruled_none 702 (untaken ps (phrase (length f) (below d a) (OfExpression role.Assigned t)) (OfExpression role.Assigned t))
+      (unbroken type_rows ps sound (phrase (length f) (below d a) (OfExpression role.Assigned t)) (among ps f (below d a) (OfExpression role.Assigned t) own) (λ qs q. ruled 702 (untaken qs q q.node))
+      (of_operands (λ qs q. ruled 702 (untaken qs q q.node)) (inr (inr (inr (inr (inl refl))))))) in
+      let taken = not_untaken (is_taken ps (phrase (length f) (below d a) (OfExpression role.Assigned t)) role.Assigned t) (place_of t) none in
+      ap (λ (o : Option Phrase). elim o [ None ↦ true | Some q ↦ assigned_taken ps a.block (class_of ps a.block t) q.node ]) (sym stated) ∙ taken
+
+  assigned_of : (d : List Phrase) (a : Around) (ts : List Reference) (t : Expression) → AreFirst (gathered (gathered_each (gathered_receiver (below d a) role.Receiver) (add d a (OfAssignment ts t)) ts) (below d a) role.Assigned t) ps
+      → ReceiversAgree u site ps a.block ts → Agrees u site ps a.block t → is_assigned u site ts (sort_of_expression u site t) ≡ true
+  assigned_of d a ts t begun receivers agree =
+      let e : List Phrase = add d a (OfAssignment ts t) in
+      let f : List Phrase = gathered_each (gathered_receiver (below d a) role.Receiver) e ts in
+      let of = of_role u site ps sound f (below d a) role.Assigned t refl begun agree in
+      let fits : misfit want.Value of.found ≡ None = ap (λ w. misfit w of.found) (sym assigned_wanted) ∙ of.fits in
+      let worth = value_sort of.found fits in
+      let sorted : sort_of_expression u site t ≡ Some worth.0 = (sorted_of u site ps sound f (below d a) role.Assigned t refl begun agree).sorted of.found worth.0 of.known worth.1 in
+      ap (is_assigned u site ts) sorted
+      ∙ receivers_right u site ps sound e (below d a) ts of.found worth.0 (then_ (expression_first f (below d a) role.Assigned t) begun) receivers
+      (ap (λ c. all_take ps a.block c ts) (sym of.known) ∙ taken_of d a ts t begun) fits worth.1 (sort_value of.found worth.0 fits worth.1)
+
 module _ (image : ImageParts) (g : Ground) (u : Bool → Uses) (ps : List Phrase) (sound : IsSound type_rows ps) where
   mutual
     unfolding gathered_statement gathered_basic gathered_alternative gathered_group gathered_statements
@@ -209,6 +262,7 @@ module _ (image : ImageParts) (g : Ground) (u : Bool → Uses) (ps : List Phrase
 
     basic_fits : (within : Bool) (site : Site) (m : ℕ) (d : List Phrase) (a : Around) (labels : List Naming) (x : Basic) → AreFirst (gathered_basic d a labels x) ps → BasicAgrees image g u ps within site m d a labels x
         → BasicFits image g u within site m x
+    basic_fits within site m d a labels (Assignment p receivers tree) begun agree = assigned_of (u within) site ps sound d a receivers tree begun agree.0 agree.1
     basic_fits within site m d a labels (If p condition consequence alternative) begun agree =
         let e : List Phrase = gathered d a role.Condition condition in
         let f : List Phrase = gathered_statement e (inside a) consequence in

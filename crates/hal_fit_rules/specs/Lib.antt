@@ -3,3 +3,4 @@ pub mod Leaves
 pub mod Agreeing
 pub mod Stated
 pub mod Owned
+pub mod Received

@@ -2,7 +2,7 @@
 use Rattle.std.specs.Prelude.{◌≡◌, ℕ, suc, Bool, true, false, List, [], Option, Some, None, length}
 use Rattle.hal_grammar.specs.Leaves.{Naming}
 use Rattle.hal_grammar.specs.Expressions.{Expression, Decimal}
-use Rattle.hal_grammar.specs.Statements.{Guard, While, Until, Span, Stepped, Listed, Start, StartAt, StartIn, StartOn, Cycle, Cyclic, CyclicEvery, CyclicAfter, Schedule, Statement, Labelled, Basic, If, Do, DoCase, DoLoop, DoFor, Write, Scheduled, UpdatePriority, Wait, WaitUntil, Update, OnErrorStatement, Alternative, NoAlternative, Otherwise, Group, Groups, Statements, NoStatements, MoreStatements}
+use Rattle.hal_grammar.specs.Statements.{Guard, While, Until, Span, Stepped, Listed, Start, StartAt, StartIn, StartOn, Cycle, Cyclic, CyclicEvery, CyclicAfter, Schedule, Statement, Labelled, Basic, Assignment, If, Do, DoCase, DoLoop, DoFor, Write, Scheduled, UpdatePriority, Wait, WaitUntil, Update, OnErrorStatement, Alternative, NoAlternative, Otherwise, Group, Groups, Statements, NoStatements, MoreStatements}
 use Rattle.hal_phrases.specs.declared.around.Around.{Around}
 use Rattle.hal_phrases.specs.declared.role.Role.TheVariants as role
 use Rattle.hal_phrases.specs.Surroundings.{inside, grouped, updated}
@@ -21,6 +21,7 @@ use Rattle.hal_fit_expr.specs.Sorted.{sort_of_name}
 use Rattle.hal_fit.specs.Stating.{ChannelFits, BasicFits}
 use Rattle.hal_fit.specs.Timed.{LimitFits}
 use Rattle.hal_fit_rules.specs.Agreeing.{Agrees, AllAgree}
+use Rattle.hal_fit_rules.specs.Received.{ReceiversAgree}
 
 -- an expression that may be there
 abbrev pub AnyAgrees : Uses → Site → List Phrase → ℕ → Option Expression → Type 0
@@ -75,6 +76,7 @@ abbrev mutual
   StatementAgrees image g u ps within site m d a (Labelled labels basic) = BasicAgrees image g u ps within site m (gathered_each (gathered_label a) d labels) a labels basic
 
   pub BasicAgrees : ImageParts → Ground → (Bool → Uses) → List Phrase → Bool → Site → ℕ → List Phrase → Around → List Naming → Basic → Type 0
+  BasicAgrees image g u ps within site m d a labels (Assignment place receivers tree) = ReceiversAgree (u within) site ps a.block receivers × Agrees (u within) site ps a.block tree
   BasicAgrees image g u ps within site m d a labels (If place condition consequence alternative) =
       Agrees (u within) site ps a.block condition × StatementAgrees image g u ps within site m (gathered d a role.Condition condition) (inside a) consequence
       × AlternativeAgrees image g u ps within site (after_statement m consequence) (gathered_statement (gathered d a role.Condition condition) (inside a) consequence) (inside a) alternative
