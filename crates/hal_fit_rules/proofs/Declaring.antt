@@ -1,16 +1,23 @@
 -- Names of data that the unit itself declares agree.
-use Rattle.std.proofs.Common.{◌≡◌, ℕ, zero, suc, nat_lt, Bool, true, false, List, [], ◌∷◌, ◌++◌, Option, Some, None, slice_get, if◌then◌else◌, refl, sym, ap, ◌∙◌, subst, arith}
+use Rattle.std.proofs.Common.{◌≡◌, ℕ, zero, suc, nat_lt, Bool, true, false, List, [], ◌∷◌, ◌++◌, Option, Some, None, slice_get, if◌then◌else◌, refl, sym, ap, ◌∙◌, subst, arith, ◌&&◌}
 use Rattle.std.specs.Prelude.{unwrap_or, pos}
-use Rattle.std.specs.Option.{option_or}
+use Rattle.std.specs.Option.{option_or, option_and_then}
 use Rattle.std.proofs.lemmas.Bool.{lt-ltb}
 use Rattle.hal_grammar.specs.Leaves.{Naming}
 use Rattle.hal_grammar.specs.Expressions.{Expressions, NoExpressions, MoreExpressions}
 use Rattle.hal_grammar.specs.Declarations.{Kind, IntegerKind, BooleanKind, EventKind, BitKind, CharacterKind, StructureKind, Double, Attribute, Declared}
-use Rattle.hal_phrases.specs.Phrases.{Node, Phrase, OfItem, OfTemporaryGroup}
+use Rattle.hal_grammar.specs.Units.{Function, Returns, NoKind, HasKind}
+use Rattle.hal_phrases.specs.Phrases.{Node, Phrase, OfUnit, OfItem, OfTemporaryGroup}
 use Rattle.hal_names.specs.Means.{means}
+use Rattle.hal_scope.specs.declared.builtin.Builtin.{Builtin}
+use Rattle.hal_scope.specs.declared.builtin.Builtin.TheVariants as builtin
+use Rattle.hal_scope.specs.declared.builtin.Form.TheVariants as form
+use Rattle.hal_scope.specs.Builtins.{builtin_named, form_of}
 use Rattle.hal_scope.specs.Sorts.{type_in, type_among, type_of}
 use Rattle.hal_scope.specs.Uses.{is_nil}
+use Rattle.hal_kinds.specs.declared.class.Class.{Class}
 use Rattle.hal_kinds.specs.declared.class.Class.TheVariants as class
+use Rattle.hal_kinds.specs.Classes.{class_of_builtin, class_of_form, class_of_head, class_of_result, class_of_returns}
 use Rattle.hal_kinds.specs.Attributes.{count_of, sizes_in, sizes_among, sizes_of, has_mark}
 use Rattle.hal_kinds.specs.Data.{class_of_type, has_copies, dimensions_of, data_with, data_of, data_at, is_event_type, is_structure_type}
 use Rattle.hal_values.specs.declared.value.Kind as values
@@ -19,19 +26,23 @@ use Rattle.hal_constants.specs.Known.{Known, bits_kind, text_kind, kind_of, kind
 use Rattle.hal_constants.specs.Constants.{constant_of}
 use Rattle.hal_constants.specs.Naming.{is_value_item, value_at}
 use Rattle.hal_meaning.specs.Bodies.{standing_for}
+use Rattle.hal_meaning.specs.Calls.{is_function, zero_of, zero_of_returns}
 use Rattle.hal_meaning.specs.Elements.{Shape, component, sizes_given, shape_of, shape_of_type}
 use Rattle.hal_values.specs.declared.value.Value.TheVariants as value
-use Rattle.hal_states.specs.Spots.{Own}
+use Rattle.hal_states.specs.Spots.{Spot, Own}
 use Rattle.hal_meaning.specs.Places.{storing}
 use Rattle.hal_meaning.specs.ReportNames.{first_place}
-use Rattle.hal_meaning.specs.Variables.{Meant, MeantData, MeantConstant, MeantNothing, name_meant, declaration_meant, builtin_meant, event_meant, item_meant, meant_by, spot_of, temporary_shape, is_arrayed}
+use Rattle.hal_meaning.specs.Variables.{Meant, MeantData, MeantConstant, MeantNothing, name_meant, declaration_meant, builtin_meant, event_meant, item_meant, meant_by, spot_of, temporary_shape, is_arrayed, MeantBlock, MeantBuiltin}
 use Rattle.hal_code.specs.Sorts.{Sort, I, B, T, sort_of}
 use Rattle.hal_agreement.specs.Sites.{Site, here_at}
 use Rattle.hal_fit_expr.specs.Uses.{Uses}
+use Rattle.hal_fit_expr.specs.Sorted.{sort_of_builtin, sort_of_value, sort_of_body, sort_of_call}
 use Rattle.hal_fit_classes.specs.Kinded.{sort_of_class}
 use Rattle.hal_fit_rules.specs.Agreeing.{AreAlike, NodeAgrees, PhraseAgrees, DeclarationAgrees, NameAgrees}
 use Rattle.hal_fit_rules.proofs.Cells.{same_sort}
-use Rattle.hal_fit_rules.specs.Owned.{IsOwn, IsPlainData, IsTemporary}
+use Rattle.hal_fit_rules.specs.Leaves.{IsKnown}
+use Rattle.hal_fit_rules.specs.Received.{AreCells, CellsAgree}
+use Rattle.hal_fit_rules.specs.Owned.{IsOwn, IsPlainData, IsTemporary, is_asking, IsBuiltinName, IsFunction}
 
 or_or : {X : Type 0} (x y z : Option X) → option_or (option_or x y) z ≡ option_or x (option_or y z)
 or_or None y z = refl
@@ -176,3 +187,74 @@ module _ (u : Uses) (site : Site) where
   temporary_agrees name own is =
       agrees_by name own (OfTemporaryGroup is.labels is.variable) (MeantData (Own (first_place site.places own.phrase.number)) temporary_shape) is.declares refl
       (temporary_alike site.set.phrases own.phrase is.labels is.variable)
+
+  -- what receivers are that it declares
+  cells_by : (name : List ℕ) (own : IsOwn site name) (n : Node) (at : Spot) (shape : Shape) → own.phrase.node ≡ n → meant_by (here_at site) [] own.phrase n ≡ MeantData at shape
+      → AreAlike (data_at site.set.phrases own.phrase [] n) [] shape → CellsAgree site.set.phrases [] (means site.set.phrases site.block name) (name_meant (here_at site) name [])
+  cells_by name own n at shape declares is alike =
+      let whole : name_meant (here_at site) name [] ≡ MeantData at shape = meant_itself name own ∙ (ap (meant_by (here_at site) [] own.phrase) declares ∙ is) in
+      let of_node : AreAlike (data_at site.set.phrases own.phrase [] own.phrase.node) [] shape = subst (λ (x : Node). AreAlike (data_at site.set.phrases own.phrase [] x) [] shape) (sym declares) alike in
+      let of_phrase : AreCells site.set.phrases [] (slice_get site.set.phrases own.number) (MeantData at shape) =
+      subst (λ (o : Option Phrase). AreCells site.set.phrases [] o (MeantData at shape)) (sym own.there) of_node in
+      let of_number : CellsAgree site.set.phrases [] (means site.set.phrases site.block name) (MeantData at shape) =
+      subst (λ (o : Option ℕ). CellsAgree site.set.phrases [] o (MeantData at shape)) (sym own.meant) of_phrase in
+      subst (λ (x : Meant). CellsAgree site.set.phrases [] (means site.set.phrases site.block name) x) (sym whole) of_number
+
+  pub plain_cells_agree : (name : List ℕ) (own : IsOwn site name) → IsPlainData site own.phrase → CellsAgree site.set.phrases [] (means site.set.phrases site.block name) (name_meant (here_at site) name [])
+  plain_cells_agree name own is =
+      cells_by name own (OfItem is.common is.item) (spot_of (here_at site) [] own.phrase.number (storing site.set.phrases site.set.constants own.phrase (OfItem is.common is.item)))
+      (shape_of site.set.phrases site.set.constants own.phrase is.common is.item) is.declares (item_meant_so own.phrase is.common is.item is.kind is.typed is.eventless is.stored)
+      (item_alike site.set.phrases site.set.constants own.phrase is.common is.item is.kind is.cells is.typed is.unstructured is.sized)
+
+  pub temporary_cells_agree : (name : List ℕ) (own : IsOwn site name) → IsTemporary own.phrase → CellsAgree site.set.phrases [] (means site.set.phrases site.block name) (name_meant (here_at site) name [])
+  temporary_cells_agree name own is =
+      cells_by name own (OfTemporaryGroup is.labels is.variable) (Own (first_place site.places own.phrase.number)) temporary_shape is.declares refl
+      (temporary_alike site.set.phrases own.phrase is.labels is.variable)
+
+  -- a built-in function without a list gives an integer
+  builtin_known : (b : Builtin) → form_of b ≡ form.Alone → (is_asking b ≡ true → u.asks ≡ true) → IsKnown (class_of_builtin (Some b)) (sort_of_builtin u b)
+  unfolding class_of_builtin class_of_form
+  builtin_known builtin.Errgrp alone asked = record { found = class.Integer; known = refl; sorted = λ one s of_one worth. ap (option_and_then sort_of_class) of_one ∙ worth }
+  builtin_known builtin.Errnum alone asked = record { found = class.Integer; known = refl; sorted = λ one s of_one worth. ap (option_and_then sort_of_class) of_one ∙ worth }
+  builtin_known builtin.Runtime alone asked = record {
+    found = class.Integer;
+    known = refl;
+    sorted = λ one s of_one worth. ap (λ b. if b then Some I else None) (asked refl) ∙ (ap (option_and_then sort_of_class) of_one ∙ worth);
+  }
+  builtin_known other alone asked = absurd (cc)
+
+  pub builtin_agrees : (name : List ℕ) → IsBuiltinName u site name → NameAgrees u site site.set.phrases site.block name []
+  unfolding is_nil
+  builtin_agrees name is =
+      let whole : name_meant (here_at site) name [] ≡ MeantBuiltin is.function =
+      ap (λ o. elim o [ None ↦ builtin_meant name | Some k ↦ declaration_meant (here_at site) [] k ])
+      (ap (λ (o : Option ℕ). elim o [ None ↦ None | Some k ↦ Some (standing_for site.set.phrases k) ]) is.undeclared)
+      ∙ ap (λ (o : Option Builtin). elim o [ None ↦ MeantNothing | Some b ↦ MeantBuiltin b ]) is.named in
+      let of_value : IsKnown (class_of_builtin (builtin_named name)) (sort_of_builtin u is.function) =
+      subst (λ (o : Option Builtin). IsKnown (class_of_builtin o) (sort_of_builtin u is.function)) (sym is.named) (builtin_known is.function is.alone is.asked) in
+      let of_number : DeclarationAgrees u site site.set.phrases name [] (means site.set.phrases site.block name) (MeantBuiltin is.function) =
+      subst (λ (o : Option ℕ). DeclarationAgrees u site site.set.phrases name [] o (MeantBuiltin is.function)) (sym is.undeclared) (refl, of_value) in
+      subst (λ (x : Meant). DeclarationAgrees u site site.set.phrases name [] (means site.set.phrases site.block name) x) (sym whole) of_number
+
+  returned_sort : (returns : Returns) (c : Class) (s : Sort) → class_of_returns returns ≡ Some c → sort_of_class c ≡ Some s → sort_of_value (zero_of_returns returns) ≡ Some s
+  unfolding class_of_returns class_of_result class_of_type
+  returned_sort NoKind c s is worth = absurd (cc)
+  returned_sort (HasKind (IntegerKind place) precision) c s is worth = ap (option_and_then sort_of_class) is ∙ worth
+  returned_sort (HasKind (BooleanKind place) precision) c s is worth = ap (option_and_then sort_of_class) is ∙ worth
+  returned_sort (HasKind (BitKind place size) precision) c s is worth = ap (option_and_then sort_of_class) is ∙ worth
+  returned_sort (HasKind (CharacterKind place size) precision) c s is worth = ap (option_and_then sort_of_class) is ∙ worth
+  returned_sort (HasKind (EventKind place) precision) c s is worth = absurd (cc)
+  returned_sort (HasKind (StructureKind place template copies) precision) c s is worth = absurd (cc)
+
+  pub function_agrees : (name : List ℕ) (own : IsOwn site name) → IsFunction u site own.phrase → NameAgrees u site site.set.phrases site.block name []
+  unfolding class_of_head
+  function_agrees name own is =
+      let unit : ℕ = own.phrase.number in
+      let called : sort_of_call u site unit ≡ sort_of_value (zero_of_returns is.returns) =
+      ap (option_and_then (sort_of_body u unit)) is.unit
+      ∙ (ap (λ h. if u.calls unit && is_function h then sort_of_value (zero_of h) else None) is.head ∙ ap (λ b. if b && true then sort_of_value (zero_of_returns is.returns) else None) is.calls) in
+      agrees_by name own (OfUnit is.name (Function is.place is.inputs is.returns is.mode) is.declarations) (MeantBlock unit) is.declares refl (record {
+        found = is.result;
+        known = is.gives;
+        sorted = λ one s of_one worth. called ∙ returned_sort is.returns one s of_one worth;
+      })
