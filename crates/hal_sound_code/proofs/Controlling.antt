@@ -27,6 +27,7 @@ use Rattle.hal_sound_code.specs.Lying.{sort_of_value, sorts_of, AllLead}
 use Rattle.hal_sound_code.specs.Standing.{Stands, AllEnter, AreBelow}
 use Rattle.hal_sound_code.specs.Typed.{IsKept}
 use Rattle.hal_sound_code.proofs.Computing.{Onward}
+use Rattle.hal_sound_code.proofs.Selecting.{none_in_without}
 use Rattle.hal_sound_code.proofs.Points.{flow, Faces, entry_stands}
 use Rattle.hal_sound_code.proofs.Raising.{Typed-turned, Typed-raised}
 use Rattle.hal_sound_code.proofs.Rights.{Whole}
@@ -95,7 +96,7 @@ without_enter s number inside sel [] enter = tt
 without_enter s number inside sel (e ∷ es) enter = kept_or_not (without_enter s number inside sel es enter.1) (not (same_selector sel e.selector))
   where
     kept_or_not : AllEnter s number inside (without sel es) → (b : Bool) → AllEnter s number inside (if b then e ∷ without sel es else without sel es)
-    kept_or_not others true = (enter.0, others)
+    kept_or_not others true = (enter.0, others, enter.2, none_in_without sel e.selector es enter.3)
     kept_or_not others false = others
 
 module _ (s : Setting) (most : ℕ) where

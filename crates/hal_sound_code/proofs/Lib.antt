@@ -14,6 +14,7 @@ pub mod Views
 pub mod Rows
 pub mod Addressing
 pub mod Copying
+pub mod Selecting
 pub mod Controlling
 pub mod Returning
 pub mod Times
@@ -25,3 +26,4 @@ pub mod Coursing
 pub mod Frames
 pub mod Fitting
 pub mod Rooms
+pub mod Sparing

@@ -16,18 +16,20 @@ use Rattle.hal_code.specs.declared.operand.Response.{Response}
 use Rattle.hal_code.specs.declared.operand.Response.TheVariants as response
 use Rattle.hal_code.specs.declared.row.Block.{Block}
 use Rattle.hal_code.specs.Asking.{act_open, act_close}
-use Rattle.hal_code.specs.Blocks.{is_of_process, outward}
+use Rattle.hal_code.specs.Blocks.{code_of, is_of_process, outward}
 use Rattle.hal_code.specs.Controlling.{returned, act_return, selector_of, side_of, act_of, act_on, act_off, act_raise}
 use Rattle.hal_code.specs.Cores.{Return, Frame, Setting, Core, core, going, with_entries, Opens, Moves}
 use Rattle.hal_code.specs.Effects.{Sorts, returned_sorts}
 use Rattle.hal_code.specs.Flow.{is_entry, jumps}
 use Rattle.hal_code.specs.Raising.{stuck}
 use Rattle.hal_code.specs.Right.{stands_right}
+use Rattle.hal_sound_code.specs.Entries.{selectors_in, is_among}
 use Rattle.hal_sound_code.specs.Lying.{sorts_of}
 use Rattle.hal_sound_code.specs.Standing.{Stands, Enters, AllEnter, AreBelow}
 use Rattle.hal_sound_code.proofs.Controlling.{Typed-returned, without_enter}
 use Rattle.hal_sound_code.proofs.Entering.{Under}
 use Rattle.hal_sound_code.proofs.Points.{not_both, flow, Faces, entry_stands}
+use Rattle.hal_sound_code.proofs.Selecting.{among_code, none_without}
 use Rattle.hal_sound_code.proofs.Taking.{some_is}
 use Rattle.hal_sound_code.proofs.Raising.{Typed-raised}
 use Rattle.hal_sound_code.proofs.Stepping.{Well, Typed, moves, awaits}
@@ -118,6 +120,9 @@ module _ (s : Setting) (most : ℕ) (c : Core) (well : Well s most c) where
       enter = (
         act_enters r (side_of change event) target well.typed.number well.typed.inside (λ is. entry_stands s well.typed.number well.typed.inside c.at (sorts_of c.stack) _ f target (statement r is f.jumped)),
         without_enter s well.typed.number well.typed.inside (selector_of group number) c.entries well.typed.enter,
+        subst (λ o. is_among (selector_of group number) (elim o [ None ↦ [] | Some block ↦ selectors_in (code_of s.image block) ]) ≡ true) (sym f.row)
+            (among_code group number (choice.Known r) (choice.Known change) event target (code_of s.image f.block) f.place f.found),
+        none_without (selector_of group number) c.entries,
       );
       below = well.typed.below;
       kept = well.typed.kept;

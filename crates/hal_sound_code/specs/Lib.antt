@@ -1,3 +1,4 @@
+pub mod Entries
 pub mod Lying
 pub mod Standing
 pub mod Typed

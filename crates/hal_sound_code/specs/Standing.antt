@@ -9,6 +9,8 @@ use Rattle.hal_code.specs.Controlling.{zero_of, with_result}
 use Rattle.hal_code.specs.Blocks.{is_common, code_of, is_of_process}
 use Rattle.hal_code.specs.Effects.{Sorts}
 use Rattle.hal_code.specs.Flow.{flow_of, part_at, is_inside}
+use Rattle.hal_values.specs.Searching.{entry_for}
+use Rattle.hal_sound_code.specs.Entries.{selectors_of, is_among}
 use Rattle.hal_sound_code.specs.Lying.{sorts_of, AllLead}
 
 -- control stands at an instruction of the block with this number, inside an UPDATE block or outside, where the stack before it has these sorts
@@ -29,9 +31,11 @@ Enters s number inside (act.System side) = Unit {0}
 Enters s number inside (act.Ignore side) = Unit {0}
 Enters s number inside (act.Statement at) = Stands s number inside at []
 
+-- so it is with all entries, each of which comes of an ON instruction of the block, and no two of which have the same selector
 abbrev pub AllEnter : Setting → ℕ → Bool → List Entry → Type 0
 AllEnter s number inside [] = Unit {0}
-AllEnter s number inside (one ∷ entries) = Enters s number inside one.act × AllEnter s number inside entries
+AllEnter s number inside (one ∷ entries) =
+    Enters s number inside one.act × AllEnter s number inside entries × (is_among one.selector (selectors_of s.image number) ≡ true) × (entry_for one.selector entries ≡ None)
 
 -- a block that called the block with this number; what is said of the blocks below is said of its number and of whether the call stands inside an UPDATE block
 pub record Calls (s : Setting) (callee : ℕ) (entries : List Entry) (back : Return) (Below : ℕ → Bool → Type 0) : Type 0 where

@@ -12,6 +12,7 @@ ghost use Rattle.hal_code.specs.Courses.{setting_of, course, next, load_of};
 ghost use Rattle.hal_code.specs.Images.{tables_of};
 ghost use Rattle.hal_code.specs.Machine.{begun, stepped, after_answer};
 ghost use Rattle.hal_code.specs.Right.{IsRight};
+ghost use Rattle.hal_sound_code.specs.Entries.{on_count, entry_count};
 ghost use Rattle.hal_sound_code.specs.Room.{room_below, operand_count};
 ghost use Rattle.hal_sound_code.specs.Standing.{call_count};
 ghost use Rattle.hal_sound_code.specs.Typed.{IsTyped, IsTypedStep, Awaits, IsAwaited};
@@ -51,4 +52,10 @@ pub fn a_right_image_calls_downwards()
 /// All operands together, those of the running block and of each block that called, have room where each block has as many as the deepest stack of its flow.
 pub fn operands_have_room()
     ensures { (turns : ℕ) (image : ImageParts) (p : ℕ) (c : Core) → IsTyped (setting_of turns image p) c → operand_count c ≤ room_below image (length image.blocks) }
+{}
+
+/// All entries for errors together, those of the running block and of each block below it, have room where there are twice as many as ON instructions: each comes
+/// of one of its block, no two of a block have the same selector, and a block and an UPDATE block in it have entries of their own.
+pub fn entries_have_room()
+    ensures { (turns : ℕ) (image : ImageParts) (p : ℕ) (c : Core) → IsRight image → IsTyped (setting_of turns image p) c → entry_count c ≤ 2 * on_count image.code }
 {}

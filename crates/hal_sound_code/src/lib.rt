@@ -6,5 +6,5 @@ mod laws;
 
 pub use laws::{
     a_right_image_calls_downwards, a_right_image_is_never_stuck, each_step_of_a_right_image_fits,
-    operands_have_room, the_stack_of_a_right_image_has_its_sorts,
+    entries_have_room, operands_have_room, the_stack_of_a_right_image_has_its_sorts,
 };
