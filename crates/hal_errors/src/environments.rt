@@ -30,7 +30,7 @@ impl Model for Environments {
 }
 
 impl Environments {
-    ghost use Rattle.std.specs.Prelude.{◌≡◌, ◌<◌, ◌≤◌, ◌+◌, [], ◌∷◌, length, drop, IfOk, OnOk, OnErr};
+    ghost use Rattle.std.specs.Prelude.{◌≡◌, ◌<◌, ◌≤◌, [], ◌∷◌, length, drop, IfOk};
     ghost use Rattle.hal_values.specs.Searching.{entered, search, with_entry, without};
     ghost use Rattle.hal_errors.specs.Environments.{environment, entry_count, with_latest};
     ghost use Rattle.hal_errors.specs.Found.{found_seen};
@@ -109,23 +109,18 @@ impl Environments {
         self.entries.clear();
     }
 
-    /// There is room for so many blocks more, and for so many entries more.
-    #[tactic(auto, using(crate::proofs::Blocks::length_reversed_seen, crate::proofs::Blocks::count_seen))]
-    pub fn make_room(&mut self, blocks: usize, entries: usize) -> Result<(), AllocError>
-        ensures entered { self.new.entered ≡ self.old.entered }
-        ensures kept { self.old.blocks ≤ self.new.blocks }
-        ensures blocks { OnOk result (length self.new.entered + blocks ≤ self.new.blocks) }
-        ensures entries { OnOk result (entry_count self.new.entered + entries ≤ self.new.entries) }
+    /// For how many blocks there is room.
+    pub fn block_room(&self) -> usize
+        ensures { result ≡ self.now.blocks }
     {
-        self.blocks.try_reserve(blocks)?;
-        self.entries.try_reserve(entries)?;
-        Ok(())
+        self.blocks.capacity()
     }
 
-    /// The same environments once more, with at least the room for as many blocks.
+    /// The same environments once more, with at least the room for as many blocks and entries.
     pub fn copy(&self, alloc: Global) -> Result<Environments, AllocError>
         ensures entered { IfOk result (λ copy. copy.entered ≡ self.now.entered) }
-        ensures room { IfOk result (λ copy. self.now.blocks ≤ copy.blocks) }
+        ensures blocks { IfOk result (λ copy. self.now.blocks ≤ copy.blocks) }
+        ensures entries { IfOk result (λ copy. self.now.entries ≤ copy.entries) }
     {
         let mut blocks = Vec::with_capacity(alloc, self.blocks.capacity())?;
         blocks.extend_from_slice(self.blocks.as_slice())?;

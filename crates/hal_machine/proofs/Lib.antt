@@ -1,4 +1,5 @@
 mod InStep
+mod Cutting
 mod Mapping
 mod Stuck
 mod Returning

@@ -42,7 +42,8 @@ impl Setting<'_> {
 impl Machine {
     /// This is asked, and this is done with the answer.
     pub fn asks(&mut self, setting: &Setting<'_>, request: Request, wait: Wait) -> Stepped
-        ensures { step_seen setting.now.image.now result self.new ≡ cores.Waits request (wait_seen setting.now.image.now wait) (core_seen self.old) }
+        ensures does { step_seen setting.now.image.now result self.new ≡ cores.Waits request (wait_seen setting.now.image.now wait) (core_seen self.old) }
+        ensures room { self.new.blocks.room ≡ self.old.blocks.room }
     {
         self.request = request;
         self.wait = wait;
@@ -51,7 +52,8 @@ impl Machine {
 
     /// A turn is asked for, and nothing is done with the answer.
     pub(crate) fn passes(&mut self, setting: &Setting<'_>) -> Stepped
-        ensures { step_seen setting.now.image.now result self.new ≡ cores.Waits request.Pass (cores.Then cores.Goes) (core_seen self.old) }
+        ensures does { step_seen setting.now.image.now result self.new ≡ cores.Waits request.Pass (cores.Then cores.Goes) (core_seen self.old) }
+        ensures room { self.new.blocks.room ≡ self.old.blocks.room }
     {
         self.asks(setting, Request::Pass, Wait::Then(Rest::Nothing))
     }
@@ -59,7 +61,8 @@ impl Machine {
     /// BEGIN.
     pub fn begin(&mut self, setting: &Setting<'_>) -> Stepped
         requires { self.old.at < 2 ^ 64 - 1 }
-        ensures { step_seen setting.now.image.now result self.new ≡ cores.Waits request.Begin (cores.Then cores.Goes) (with_line [] (going (suc self.old.at) (stack_seen self.old.operands) (core_seen self.old))) }
+        ensures does { step_seen setting.now.image.now result self.new ≡ cores.Waits request.Begin (cores.Then cores.Goes) (with_line [] (going (suc self.old.at) (stack_seen self.old.operands) (core_seen self.old))) }
+        ensures room { self.new.blocks.room ≡ self.old.blocks.room }
     {
         self.line.clear();
         self.at += 1;
@@ -68,7 +71,8 @@ impl Machine {
 
     /// FINISH.
     pub fn finish(&mut self, setting: &Setting<'_>) -> Stepped
-        ensures { step_seen setting.now.image.now result self.new ≡ cores.Waits request.Finish cores.Renews (core_seen self.old) }
+        ensures does { step_seen setting.now.image.now result self.new ≡ cores.Waits request.Finish cores.Renews (core_seen self.old) }
+        ensures room { self.new.blocks.room ≡ self.old.blocks.room }
     {
         self.asks(setting, Request::Finish, Wait::Renews)
     }
@@ -76,7 +80,8 @@ impl Machine {
     /// Something is asked behind the instruction.
     fn asks_behind(&mut self, setting: &Setting<'_>, request: Request, wait: Wait) -> Stepped
         requires { self.old.at < 2 ^ 64 - 1 }
-        ensures { step_seen setting.now.image.now result self.new ≡ cores.Waits request (wait_seen setting.now.image.now wait) (going (suc self.old.at) (stack_seen self.old.operands) (core_seen self.old)) }
+        ensures does { step_seen setting.now.image.now result self.new ≡ cores.Waits request (wait_seen setting.now.image.now wait) (going (suc self.old.at) (stack_seen self.old.operands) (core_seen self.old)) }
+        ensures room { self.new.blocks.room ≡ self.old.blocks.room }
     {
         self.at += 1;
         self.asks(setting, request, wait)
@@ -85,7 +90,8 @@ impl Machine {
     /// INPUT.
     pub fn input(&mut self, setting: &Setting<'_>, channel: u8, kind: Kind, target: u64) -> Stepped
         requires { self.old.at < 2 ^ 64 - 1 }
-        ensures { step_seen setting.now.image.now result self.new ≡ cores.Waits (request.Input channel kind) (cores.Takes target) (going (suc self.old.at) (stack_seen self.old.operands) (core_seen self.old)) }
+        ensures does { step_seen setting.now.image.now result self.new ≡ cores.Waits (request.Input channel kind) (cores.Takes target) (going (suc self.old.at) (stack_seen self.old.operands) (core_seen self.old)) }
+        ensures room { self.new.blocks.room ≡ self.old.blocks.room }
     {
         self.asks_behind(
             setting,
@@ -97,7 +103,8 @@ impl Machine {
     /// NOW.
     pub fn now(&mut self, setting: &Setting<'_>) -> Stepped
         requires { self.old.at < 2 ^ 64 - 1 }
-        ensures { step_seen setting.now.image.now result self.new ≡ cores.Waits request.Now (cores.Pushes kind.Double) (going (suc self.old.at) (stack_seen self.old.operands) (core_seen self.old)) }
+        ensures does { step_seen setting.now.image.now result self.new ≡ cores.Waits request.Now (cores.Pushes kind.Double) (going (suc self.old.at) (stack_seen self.old.operands) (core_seen self.old)) }
+        ensures room { self.new.blocks.room ≡ self.old.blocks.room }
     {
         self.asks_behind(setting, Request::Now, Wait::Pushes(Kind::Double))
     }
@@ -105,7 +112,8 @@ impl Machine {
     /// CANCEL.
     pub fn cancel(&mut self, setting: &Setting<'_>, process: u8) -> Stepped
         requires { self.old.at < 2 ^ 64 - 1 }
-        ensures { step_seen setting.now.image.now result self.new ≡ act_named (setting_seen setting.now) request.Cancel process (core_seen self.old) }
+        ensures does { step_seen setting.now.image.now result self.new ≡ act_named (setting_seen setting.now) request.Cancel process (core_seen self.old) }
+        ensures room { self.new.blocks.room ≡ self.old.blocks.room }
     {
         self.at += 1;
         let process = setting.named(process);
@@ -119,7 +127,8 @@ impl Machine {
     /// TERMINATE.
     pub fn terminate(&mut self, setting: &Setting<'_>, process: u8) -> Stepped
         requires { self.old.at < 2 ^ 64 - 1 }
-        ensures { step_seen setting.now.image.now result self.new ≡ act_named (setting_seen setting.now) request.Terminate process (core_seen self.old) }
+        ensures does { step_seen setting.now.image.now result self.new ≡ act_named (setting_seen setting.now) request.Terminate process (core_seen self.old) }
+        ensures room { self.new.blocks.room ≡ self.old.blocks.room }
     {
         self.at += 1;
         let process = setting.named(process);
@@ -133,7 +142,8 @@ impl Machine {
     /// SIGNAL.
     pub fn signal(&mut self, setting: &Setting<'_>, event: u16) -> Stepped
         requires { self.old.at < 2 ^ 64 - 1 }
-        ensures { step_seen setting.now.image.now result self.new ≡ act_event_change (setting_seen setting.now) request.Signal event (core_seen self.old) }
+        ensures does { step_seen setting.now.image.now result self.new ≡ act_event_change (setting_seen setting.now) request.Signal event (core_seen self.old) }
+        ensures room { self.new.blocks.room ≡ self.old.blocks.room }
     {
         self.at += 1;
         if setting.has_event(event) {
@@ -146,7 +156,8 @@ impl Machine {
     /// SET.
     pub fn set(&mut self, setting: &Setting<'_>, event: u16) -> Stepped
         requires { self.old.at < 2 ^ 64 - 1 }
-        ensures { step_seen setting.now.image.now result self.new ≡ act_event_change (setting_seen setting.now) request.Set event (core_seen self.old) }
+        ensures does { step_seen setting.now.image.now result self.new ≡ act_event_change (setting_seen setting.now) request.Set event (core_seen self.old) }
+        ensures room { self.new.blocks.room ≡ self.old.blocks.room }
     {
         self.at += 1;
         if setting.has_event(event) {
@@ -159,7 +170,8 @@ impl Machine {
     /// RESET.
     pub fn reset(&mut self, setting: &Setting<'_>, event: u16) -> Stepped
         requires { self.old.at < 2 ^ 64 - 1 }
-        ensures { step_seen setting.now.image.now result self.new ≡ act_event_change (setting_seen setting.now) request.Reset event (core_seen self.old) }
+        ensures does { step_seen setting.now.image.now result self.new ≡ act_event_change (setting_seen setting.now) request.Reset event (core_seen self.old) }
+        ensures room { self.new.blocks.room ≡ self.old.blocks.room }
     {
         self.at += 1;
         if setting.has_event(event) {
@@ -172,7 +184,8 @@ impl Machine {
     /// EVENT.
     pub fn event(&mut self, setting: &Setting<'_>, event: u16) -> Result<Stepped, AllocError>
         requires { self.old.at < 2 ^ 64 - 1 }
-        ensures { Does setting.now.image.now result self.new (act_event (setting_seen setting.now) event (core_seen self.old)) }
+        ensures does { Does setting.now.image.now result self.new (act_event (setting_seen setting.now) event (core_seen self.old)) }
+        ensures room { self.new.blocks.room ≡ self.old.blocks.room }
     {
         if setting.has_event(event) {
             Ok(self.asks_behind(

@@ -1,6 +1,6 @@
 //! Where calls go on.
 
-ghost use Rattle.std.specs.Prelude.{◌≡◌, map, IfOk};
+ghost use Rattle.std.specs.Prelude.{◌≡◌, ◌≤◌, map, vec_capacity, IfOk};
 ghost use Rattle.hal_code.specs.Controlling.{zero_of};
 ghost use Rattle.hal_machine.specs.Blocks.{Gives};
 ghost use Rattle.hal_machine.specs.Stacks.{return_seen, back_seen};
@@ -55,14 +55,16 @@ fn back_of(alloc: Global, back: &Option<Return>) -> Result<Option<Return>, Alloc
     }
 }
 
-/// The same of some.
+/// The same of some, with at least this room.
 pub(crate) fn backs_of(
     alloc: Global,
+    room: usize,
     backs: &[Option<Return>],
 ) -> Result<Vec<Option<Return>>, AllocError>
-    ensures { IfOk result (λ copy. map back_seen copy.items ≡ map back_seen backs.now) }
+    ensures same { IfOk result (λ copy. map back_seen copy.items ≡ map back_seen backs.now) }
+    ensures room { IfOk result (λ copy. room ≤ vec_capacity copy) }
 {
-    let mut copy = Vec::new(alloc);
+    let mut copy = Vec::with_capacity(alloc, room)?;
     for back in backs {
         copy.push(back_of(alloc, back)?)?;
     }

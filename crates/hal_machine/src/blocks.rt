@@ -6,8 +6,8 @@ use hal_values::{Entry, ErrNo, Selector};
 use std::alloc::{AllocError, Global};
 use std::marker::Model;
 
-/// The running block and those below it, with their error entries. A contract sees the entries of the running block, and the frames of the blocks below it, the
-/// latest first.
+/// The running block and those below it, with their error entries, in room that is taken at once. A contract sees the entries of the running block, the frames of
+/// the blocks below it, the latest first, and the room.
 #[derive(Drop)]
 pub struct Blocks {
     environments: Environments,
@@ -16,41 +16,42 @@ pub struct Blocks {
 }
 
 impl Model for Blocks {
-    ghost use Rattle.std.specs.Prelude.{◌<◌, map, reverse};
-    ghost use Rattle.hal_machine.specs.Blocks.{Running, running_in, AreInStep};
+    ghost use Rattle.std.specs.Prelude.{◌<◌, ◌≤◌, map, reverse, vec_capacity};
+    ghost use Rattle.hal_machine.specs.Blocks.{Running, running_in, room_for, AreInStep};
     ghost use Rattle.hal_machine.specs.Stacks.{back_seen};
 
     ghost Value = { Running };
 
-    ghost view = { λ b. running_in b.environments.entered (map back_seen (reverse b.backs.items)) };
+    ghost view = { λ b. running_in b.environments.entered (map back_seen (reverse b.backs.items)) (room_for b.environments.blocks b.environments.entries) };
 
-    ghost invariant = { λ b. AreInStep b.environments.entered (map back_seen (reverse b.backs.items)) × (0 < b.environments.blocks) };
+    ghost invariant = { λ b. AreInStep b.environments.entered (map back_seen (reverse b.backs.items)) × (0 < b.environments.blocks) × (b.environments.blocks ≤ vec_capacity b.backs) };
 }
 
 impl Blocks {
-    ghost use Rattle.std.specs.Prelude.{◌≡◌, [], ◌∷◌, None, IfOk, OnOk, IfSome, IfNone};
+    ghost use Rattle.std.specs.Prelude.{◌≡◌, ◌<◌, [], ◌∷◌, None, IfOk, IfSome, IfNone};
     ghost use Rattle.std.specs.Bool.{OnTrue, OnFalse};
     ghost use Rattle.hal_values.specs.Searching.{search, with_entry, without};
     ghost use Rattle.hal_code.specs.Cores.{all_entered};
     ghost use Rattle.hal_errors.specs.Found.{found_seen};
-    ghost use Rattle.hal_machine.specs.Blocks.{running, frame, Wants, IsNotUpdating};
+    ghost use Rattle.hal_machine.specs.Blocks.{running, room_for, frame, HasBlock, HasEntry, HasAsMuch, Wants, IsNotUpdating};
     ghost use Rattle.hal_machine.specs.Stacks.{back_seen};
 
-    /// The outermost block runs, and has no entries.
-    pub fn new(alloc: Global) -> Result<Blocks, AllocError>
-        ensures { IfOk result (λ b. b ≡ running [] []) }
+    /// The outermost block runs, and has no entries. There is room for so many blocks, it among them, and for so many entries of them together.
+    pub fn new(alloc: Global, blocks: usize, entries: usize) -> Result<Blocks, AllocError>
+        requires { 0 < blocks }
+        ensures { IfOk result (λ b. b ≡ running [] [] (room_for blocks entries)) }
     {
-        let mut environments = Environments::new(alloc, 1, 0)?;
+        let mut environments = Environments::new(alloc, blocks, entries)?;
         environments.enter(false);
         Ok(Blocks {
             environments,
-            backs: Vec::new(alloc),
+            backs: Vec::with_capacity(alloc, blocks)?,
         })
     }
 
     /// The outermost block runs again, and has no entries.
     pub fn restart(&mut self)
-        ensures { self.new ≡ running [] [] }
+        ensures { self.new ≡ running [] [] self.old.room }
     {
         self.environments.clear();
         self.environments.enter(false);
@@ -58,15 +59,14 @@ impl Blocks {
     }
 
     /// A block is entered, behind which the running one goes on so, if it does.
-    #[tactic(auto, using(crate::proofs::InStep::same_none))]
-    pub fn enter(&mut self, back: Option<Return>) -> Result<(), AllocError>
-        ensures { OnOk result (self.new ≡ running [] (frame self.old.entries (back_seen back) ∷ self.old.frames)) }
+    #[tactic(auto, using(crate::proofs::InStep::same_none, crate::proofs::InStep::entered_count, crate::proofs::InStep::many_in_step, crate::proofs::InStep::many_seen, crate::proofs::InStep::last_seen))]
+    pub fn enter(&mut self, back: Option<Return>)
+        requires { HasBlock self.old }
+        ensures { self.new ≡ running [] (frame self.old.entries (back_seen back) ∷ self.old.frames) self.old.room }
     {
-        self.environments.make_room(1, 0)?;
-        let update = back.is_none();
-        self.backs.push(back)?;
-        self.environments.enter(update);
-        Ok(())
+        self.environments.enter(back.is_none());
+        // The contract of `push` doesn't say that the room stays the same.
+        self.backs.insert(self.backs.len(), back).unwrap();
     }
 
     /// The running block is left. It tells how the one below it goes on.
@@ -74,6 +74,7 @@ impl Blocks {
     pub fn leave(&mut self) -> Option<Option<Return>>
         ensures last { IfNone result ((self.old.frames ≡ []) × (self.new ≡ self.old)) }
         ensures left { IfSome result (λ back. self.old.frames ≡ frame self.new.entries (back_seen back) ∷ self.new.frames) }
+        ensures room { self.new.room ≡ self.old.room }
     {
         let back = self.backs.pop()?;
         self.environments.leave();
@@ -85,6 +86,7 @@ impl Blocks {
     pub fn close(&mut self) -> bool
         ensures closed { OnTrue result (self.old.frames ≡ frame self.new.entries None ∷ self.new.frames) }
         ensures other { OnFalse result ((self.new ≡ self.old) × IsNotUpdating self.old.frames) }
+        ensures room { self.new.room ≡ self.old.room }
     {
         match self.backs.pop() {
             None => false,
@@ -111,19 +113,18 @@ impl Blocks {
     }
 
     /// ON ERROR: the running block has this entry, in the place of one with the same selector.
-    #[tactic(auto, using(crate::proofs::InStep::some_entered, crate::proofs::InStep::changed_in_step, crate::proofs::InStep::changed_running))]
-    pub fn set(&mut self, entry: Entry) -> Result<(), AllocError>
-        ensures { OnOk result (self.new ≡ running (with_entry entry self.old.entries) self.old.frames) }
+    #[tactic(auto, using(crate::proofs::InStep::some_entered, crate::proofs::InStep::entries_in_step, crate::proofs::InStep::changed_in_step, crate::proofs::InStep::changed_running))]
+    pub fn set(&mut self, entry: Entry)
+        requires { HasEntry self.old }
+        ensures { self.new ≡ running (with_entry entry self.old.entries) self.old.frames self.old.room }
     {
-        self.environments.make_room(0, 1)?;
         self.environments.set(entry);
-        Ok(())
     }
 
     /// OFF ERROR: the running block has no entry with this selector.
     #[tactic(auto, using(crate::proofs::InStep::some_entered, crate::proofs::InStep::changed_in_step, crate::proofs::InStep::changed_running))]
     pub fn off(&mut self, selector: Selector)
-        ensures { self.new ≡ running (without selector self.old.entries) self.old.frames }
+        ensures { self.new ≡ running (without selector self.old.entries) self.old.frames self.old.room }
     {
         self.environments.off(selector);
     }
@@ -136,14 +137,18 @@ impl Blocks {
         self.environments.find(spent, error)
     }
 
-    /// The same blocks once more.
+    /// The same blocks once more, with at least the same room.
     #[tactic(auto, using(crate::proofs::Mapping::reversed_same))]
     pub fn copy(&self, alloc: Global) -> Result<Blocks, AllocError>
-        ensures { IfOk result (λ copy. copy ≡ self.now) }
+        ensures entries { IfOk result (λ copy. copy.entries ≡ self.now.entries) }
+        ensures frames { IfOk result (λ copy. copy.frames ≡ self.now.frames) }
+        ensures room { IfOk result (λ copy. HasAsMuch self.now.room copy.room) }
     {
+        let environments = self.environments.copy(alloc)?;
+        let backs = backs_of(alloc, environments.block_room(), self.backs.as_slice())?;
         Ok(Blocks {
-            environments: self.environments.copy(alloc)?,
-            backs: backs_of(alloc, self.backs.as_slice())?,
+            environments,
+            backs,
         })
     }
 }

@@ -8,13 +8,13 @@ ghost use Rattle.hal_code.specs.Asking.{act_open, act_close};
 ghost use Rattle.hal_code.specs.Cores as cores;
 ghost use Rattle.hal_code.specs.Cores.{going, with_entries, Val, Moves};
 ghost use Rattle.hal_code.specs.Raising.{raised};
-ghost use Rattle.hal_machine.specs.Blocks.{Wants};
+ghost use Rattle.hal_machine.specs.Blocks.{HasBlock, HasEntry, Wants};
 ghost use Rattle.hal_machine.specs.Seen.{core_seen, stack_seen, setting_seen, step_seen, Does};
 
 use crate::back::Return;
 use crate::machine::{Machine, Setting};
 use crate::operands::{Operands, Slot};
-use crate::step::{Rest, Stepped, Wait};
+use crate::step::{Stepped, Wait};
 use hal_code::{Block, EventChange, Response};
 use hal_values::{Act, Entry, ErrNo, Request, Selector, Side, Value};
 use std::alloc::AllocError;
@@ -65,14 +65,16 @@ impl Machine {
     /// The next instruction is the one behind this one.
     pub fn go_on(&mut self)
         requires { self.old.at < 2 ^ 64 - 1 }
-        ensures { core_seen self.new ≡ going (suc self.old.at) (stack_seen self.old.operands) (core_seen self.old) }
+        ensures does { core_seen self.new ≡ going (suc self.old.at) (stack_seen self.old.operands) (core_seen self.old) }
+        ensures room { self.new.blocks.room ≡ self.old.blocks.room }
     {
         self.at += 1;
     }
 
     /// JUMP.
     pub fn jump(&mut self, setting: &Setting<'_>, target: usize) -> Stepped
-        ensures { step_seen setting.now.image.now result self.new ≡ Moves (going target (stack_seen self.old.operands) (core_seen self.old)) }
+        ensures does { step_seen setting.now.image.now result self.new ≡ Moves (going target (stack_seen self.old.operands) (core_seen self.old)) }
+        ensures room { self.new.blocks.room ≡ self.old.blocks.room }
     {
         self.at = target;
         Stepped::Moves
@@ -81,7 +83,8 @@ impl Machine {
     /// Control goes on behind the instruction, or at the target.
     fn branch(&mut self, setting: &Setting<'_>, goes_on: bool, target: usize) -> Stepped
         requires { self.old.at < 2 ^ 64 - 1 }
-        ensures { step_seen setting.now.image.now result self.new ≡ Moves (going (if goes_on then suc self.old.at else target) (stack_seen self.old.operands) (core_seen self.old)) }
+        ensures does { step_seen setting.now.image.now result self.new ≡ Moves (going (if goes_on then suc self.old.at else target) (stack_seen self.old.operands) (core_seen self.old)) }
+        ensures room { self.new.blocks.room ≡ self.old.blocks.room }
     {
         self.at = if goes_on { self.at + 1 } else { target };
         Stepped::Moves
@@ -90,7 +93,8 @@ impl Machine {
     /// JUMPNOT.
     pub fn jump_not(&mut self, setting: &Setting<'_>, target: usize) -> Result<Stepped, AllocError>
         requires { self.old.at < 2 ^ 64 - 1 }
-        ensures { Does setting.now.image.now result self.new (act_jump_not target (stack_seen self.old.operands) (core_seen self.old)) }
+        ensures does { Does setting.now.image.now result self.new (act_jump_not target (stack_seen self.old.operands) (core_seen self.old)) }
+        ensures room { self.new.blocks.room ≡ self.old.blocks.room }
     {
         match self.operands.slots.pop() {
             Some(Slot::Int(_)) => Ok(self.branch(setting, false, target)),
@@ -114,7 +118,8 @@ impl Machine {
     /// TURN.
     pub fn turn(&mut self, setting: &Setting<'_>, target: usize) -> Stepped
         requires { self.old.at < 2 ^ 64 - 1 }
-        ensures { step_seen setting.now.image.now result self.new ≡ act_turn (setting_seen setting.now) target (core_seen self.old) }
+        ensures does { step_seen setting.now.image.now result self.new ≡ act_turn (setting_seen setting.now) target (core_seen self.old) }
+        ensures room { self.new.blocks.room ≡ self.old.blocks.room }
     {
         match self.groups {
             None => {
@@ -136,31 +141,30 @@ impl Machine {
     /// RAISE.
     pub fn raise(&mut self, setting: &Setting<'_>, group: u8, number: u8) -> Stepped
         requires { self.old.at < 2 ^ 64 - 1 }
-        ensures { step_seen setting.now.image.now result self.new ≡ raised (setting_seen setting.now) (error group number) (going (suc self.old.at) (stack_seen self.old.operands) (core_seen self.old)) }
+        ensures does { step_seen setting.now.image.now result self.new ≡ raised (setting_seen setting.now) (error group number) (going (suc self.old.at) (stack_seen self.old.operands) (core_seen self.old)) }
+        ensures room { self.new.blocks.room ≡ self.old.blocks.room }
     {
         self.go_on();
         self.raised(setting, ErrNo { group, number })
     }
 
     /// ON, of an entry.
-    pub fn on(
-        &mut self,
-        setting: &Setting<'_>,
-        selector: Selector,
-        act: Act,
-    ) -> Result<Stepped, AllocError>
-        requires { self.old.at < 2 ^ 64 - 1 }
-        ensures { Does setting.now.image.now result self.new (Moves (with_entries (with_entry (record { selector = selector; act = act }) (core_seen self.old).entries) (going (suc self.old.at) (stack_seen self.old.operands) (core_seen self.old)))) }
+    pub fn on(&mut self, setting: &Setting<'_>, selector: Selector, act: Act) -> Stepped
+        requires at { self.old.at < 2 ^ 64 - 1 }
+        requires room { HasEntry self.old.blocks }
+        ensures does { step_seen setting.now.image.now result self.new ≡ Moves (with_entries (with_entry (record { selector = selector; act = act }) (core_seen self.old).entries) (going (suc self.old.at) (stack_seen self.old.operands) (core_seen self.old))) }
+        ensures room { self.new.blocks.room ≡ self.old.blocks.room }
     {
-        self.blocks.set(Entry { selector, act })?;
+        self.blocks.set(Entry { selector, act });
         self.at += 1;
-        Ok(Stepped::Moves)
+        Stepped::Moves
     }
 
     /// OFF.
     pub fn off(&mut self, setting: &Setting<'_>, group: u8, number: u8) -> Stepped
         requires { self.old.at < 2 ^ 64 - 1 }
-        ensures { step_seen setting.now.image.now result self.new ≡ act_off group number (core_seen self.old) }
+        ensures does { step_seen setting.now.image.now result self.new ≡ act_off group number (core_seen self.old) }
+        ensures room { self.new.blocks.room ≡ self.old.blocks.room }
     {
         self.blocks.off(selector_of(group, number));
         self.at += 1;
@@ -171,7 +175,8 @@ impl Machine {
     #[tactic(auto, using(crate::proofs::Returning::not_updating))]
     pub fn close(&mut self, setting: &Setting<'_>) -> Result<Stepped, AllocError>
         requires { self.old.at < 2 ^ 64 - 1 }
-        ensures { Does setting.now.image.now result self.new (act_close (core_seen self.old).frames (core_seen self.old)) }
+        ensures does { Does setting.now.image.now result self.new (act_close (core_seen self.old).frames (core_seen self.old)) }
+        ensures room { self.new.blocks.room ≡ self.old.blocks.room }
     {
         if !self.blocks.close() {
             return Ok(self.stuck(setting));
@@ -182,19 +187,23 @@ impl Machine {
     }
 
     /// OPEN.
-    pub fn open_update(&mut self, setting: &Setting<'_>, groups: u16) -> Result<Stepped, AllocError>
-        requires { self.old.at < 2 ^ 64 - 1 }
-        ensures { Does setting.now.image.now result self.new (act_open groups (core_seen self.old)) }
+    pub fn open_update(&mut self, setting: &Setting<'_>, groups: u16) -> Stepped
+        requires at { self.old.at < 2 ^ 64 - 1 }
+        requires room { HasBlock self.old.blocks }
+        ensures does { step_seen setting.now.image.now result self.new ≡ act_open groups (core_seen self.old) }
+        ensures room { self.new.blocks.room ≡ self.old.blocks.room }
     {
-        self.blocks.enter(None)?;
+        self.blocks.enter(None);
         self.at += 1;
-        Ok(self.asks(setting, Request::Update(groups), Wait::Opens(groups)))
+        self.asks(setting, Request::Update(groups), Wait::Opens(groups))
     }
 
     /// The block that runs is put under the one that it calls.
-    fn call_to(&mut self, setting: &Setting<'_>, block: &Block) -> Result<(), AllocError>
-        requires { self.old.at < 2 ^ 64 - 1 }
-        ensures { OnOk result (core_seen self.new ≡ cores.core block.now.first [] [] [] (calling (zero_of block.now.result) (core_seen self.old) ∷ (core_seen self.old).frames) (core_seen self.old).kept (core_seen self.old).mode) }
+    fn call_to(&mut self, setting: &Setting<'_>, block: &Block)
+        requires at { self.old.at < 2 ^ 64 - 1 }
+        requires room { HasBlock self.old.blocks }
+        ensures does { core_seen self.new ≡ cores.core block.now.first [] [] [] (calling (zero_of block.now.result) (core_seen self.old) ∷ (core_seen self.old).frames) (core_seen self.old).kept (core_seen self.old).mode }
+        ensures room { self.new.blocks.room ≡ self.old.blocks.room }
     {
         let back = Return {
             at: self.at + 1,
@@ -202,15 +211,15 @@ impl Machine {
             line: std::mem::replace(&mut self.line, Vec::new(setting.alloc)),
             result: block.result,
         };
-        self.blocks.enter(Some(back))?;
+        self.blocks.enter(Some(back));
         self.at = block.first as usize;
-        Ok(())
     }
 
     /// A block isn't called, since turns are used up.
     fn call_spent(&mut self, setting: &Setting<'_>, block: &Block) -> Result<Stepped, AllocError>
         requires { self.old.at < 2 ^ 64 - 1 }
-        ensures { Does setting.now.image.now result self.new (raised (setting_seen setting.now) (error 1 8) (going (suc self.old.at) (with_result (zero_of block.now.result) (stack_seen self.old.operands)) (core_seen self.old))) }
+        ensures does { Does setting.now.image.now result self.new (raised (setting_seen setting.now) (error 1 8) (going (suc self.old.at) (with_result (zero_of block.now.result) (stack_seen self.old.operands)) (core_seen self.old))) }
+        ensures room { self.new.blocks.room ≡ self.old.blocks.room }
     {
         self.operands.push_zero(block.result)?;
         self.go_on();
@@ -219,17 +228,19 @@ impl Machine {
 
     /// CALL of a block.
     pub fn call(&mut self, setting: &Setting<'_>, block: &Block) -> Result<Stepped, AllocError>
-        requires { self.old.at < 2 ^ 64 - 1 }
-        ensures { Does setting.now.image.now result self.new (called (setting_seen setting.now) block.now (core_seen self.old)) }
+        requires at { self.old.at < 2 ^ 64 - 1 }
+        requires room { HasBlock self.old.blocks }
+        ensures does { Does setting.now.image.now result self.new (called (setting_seen setting.now) block.now (core_seen self.old)) }
+        ensures room { self.new.blocks.room ≡ self.old.blocks.room }
     {
         match self.groups {
             None => {
-                self.call_to(setting, block)?;
+                self.call_to(setting, block);
                 Ok(self.passes(setting))
             }
             Some(_) if self.turns == 0 => self.call_spent(setting, block),
             Some(_) => {
-                self.call_to(setting, block)?;
+                self.call_to(setting, block);
                 self.turns -= 1;
                 Ok(Stepped::Counts)
             }
@@ -238,7 +249,8 @@ impl Machine {
 
     /// Control goes on there, behind a call.
     fn go_back(&mut self, back: Return)
-        ensures { core_seen self.new ≡ cores.core back.at (stack_seen back.operands) back.line.items (core_seen self.old).entries (core_seen self.old).frames (core_seen self.old).kept (core_seen self.old).mode }
+        ensures does { core_seen self.new ≡ cores.core back.at (stack_seen back.operands) back.line.items (core_seen self.old).entries (core_seen self.old).frames (core_seen self.old).kept (core_seen self.old).mode }
+        ensures room { self.new.blocks.room ≡ self.old.blocks.room }
     {
         self.at = back.at;
         self.operands = back.operands;
@@ -248,7 +260,8 @@ impl Machine {
     /// Control goes back to the block that called, with this value on its stack.
     #[tactic(auto, using(crate::proofs::Returning::one_returned, crate::proofs::Returning::none_below, crate::proofs::Returning::update_below))]
     fn return_one(&mut self, setting: &Setting<'_>, one: Value) -> Result<Stepped, AllocError>
-        ensures { Wants (Some true) (core_seen self.old).frames → Does setting.now.image.now result self.new (act_return (core_seen self.old).frames (going self.old.at (Val one ∷ stack_seen self.old.operands) (core_seen self.old))) }
+        ensures does { Wants (Some true) (core_seen self.old).frames → Does setting.now.image.now result self.new (act_return (core_seen self.old).frames (going self.old.at (Val one ∷ stack_seen self.old.operands) (core_seen self.old))) }
+        ensures room { self.new.blocks.room ≡ self.old.blocks.room }
     {
         match self.blocks.leave() {
             Some(Some(back)) => {
@@ -265,7 +278,8 @@ impl Machine {
     /// Control goes back to the block that called, which wants a value.
     #[tactic(auto, using(crate::proofs::Returning::no_value_to_return))]
     fn return_value(&mut self, setting: &Setting<'_>) -> Result<Stepped, AllocError>
-        ensures { Wants (Some true) (core_seen self.old).frames → Does setting.now.image.now result self.new (act_return (core_seen self.old).frames (core_seen self.old)) }
+        ensures does { Wants (Some true) (core_seen self.old).frames → Does setting.now.image.now result self.new (act_return (core_seen self.old).frames (core_seen self.old)) }
+        ensures room { self.new.blocks.room ≡ self.old.blocks.room }
     {
         match self.operands.take()? {
             None => Ok(self.stuck(setting)),
@@ -276,7 +290,8 @@ impl Machine {
     /// Control goes back to the block that called, which wants no value.
     #[tactic(auto, using(crate::proofs::Returning::none_returned, crate::proofs::Returning::none_below, crate::proofs::Returning::update_below))]
     fn return_plain(&mut self, setting: &Setting<'_>) -> Stepped
-        ensures { Wants (Some false) (core_seen self.old).frames → step_seen setting.now.image.now result self.new ≡ act_return (core_seen self.old).frames (core_seen self.old) }
+        ensures does { Wants (Some false) (core_seen self.old).frames → step_seen setting.now.image.now result self.new ≡ act_return (core_seen self.old).frames (core_seen self.old) }
+        ensures room { self.new.blocks.room ≡ self.old.blocks.room }
     {
         match self.blocks.leave() {
             Some(Some(back)) => {
@@ -291,7 +306,8 @@ impl Machine {
     /// RETURN.
     #[tactic(auto, using(crate::proofs::Returning::not_called))]
     pub fn return_back(&mut self, setting: &Setting<'_>) -> Result<Stepped, AllocError>
-        ensures { Does setting.now.image.now result self.new (act_return (core_seen self.old).frames (core_seen self.old)) }
+        ensures does { Does setting.now.image.now result self.new (act_return (core_seen self.old).frames (core_seen self.old)) }
+        ensures room { self.new.blocks.room ≡ self.old.blocks.room }
     {
         match self.blocks.wants_value() {
             None => Ok(self.stuck(setting)),

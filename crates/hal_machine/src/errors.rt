@@ -1,6 +1,6 @@
 //! What errors come to.
 
-ghost use Rattle.std.specs.Prelude.{◌≡◌, ◌<◌, ◌^◌, nat_lt, Some, None};
+ghost use Rattle.std.specs.Prelude.{◌≡◌, ◌<◌, ◌^◌, ℕ, nat_lt, suc, [], Some, None};
 ghost use Rattle.hal_values.specs.Searching as searching;
 ghost use Rattle.hal_states.specs.Modes.{are_spent};
 ghost use Rattle.hal_values.specs.Tables.{event_count};
@@ -9,6 +9,7 @@ ghost use Rattle.hal_code.specs.Cores as cores;
 ghost use Rattle.hal_code.specs.Cores.{all_entered};
 ghost use Rattle.hal_code.specs.Raising as raising;
 ghost use Rattle.hal_errors.specs.Found.{found_seen};
+ghost use Rattle.std.specs.Bool.{OnTrue, OnFalse};
 ghost use Rattle.hal_machine.specs.Seen.{core_seen, setting_seen, step_seen, asks_or, Does};
 
 use crate::machine::{Machine, Setting};
@@ -37,7 +38,8 @@ impl Setting<'_> {
 impl Machine {
     /// No instruction is there that fits the operands.
     pub fn stuck(&mut self, setting: &Setting<'_>) -> Stepped
-        ensures { step_seen setting.now.image.now result self.new ≡ raising.stuck (core_seen self.old) }
+        ensures does { step_seen setting.now.image.now result self.new ≡ raising.stuck (core_seen self.old) }
+        ensures room { self.new.blocks.room ≡ self.old.blocks.room }
     {
         self.asks(setting, Request::Stop(NO_ERROR), Wait::Halts(NO_ERROR))
     }
@@ -59,23 +61,48 @@ impl Machine {
         self.blocks.find(self.is_spent(), error)
     }
 
-    /// So many later blocks are left, and control goes on at the target.
-    fn cut(&mut self, level: usize, target: usize)
-        ensures { core_seen self.new ≡ raising.cut level target (core_seen self.old).frames (core_seen self.old) }
+    /// The latest block is left, if one lies below it. An UPDATE block that is left ends.
+    #[tactic(auto, using(crate::proofs::Cutting::one_left))]
+    fn leave_latest(&mut self) -> bool
+        ensures left { OnTrue result ((n place : ℕ) → raising.cut (suc n) place (core_seen self.old).frames (core_seen self.old) ≡ raising.cut n place (core_seen self.new).frames (core_seen self.new)) }
+        ensures last { OnFalse result ((self.new ≡ self.old) × ((core_seen self.old).frames ≡ [])) }
+        ensures room { self.new.blocks.room ≡ self.old.blocks.room }
     {
+        match self.blocks.leave() {
+            None => false,
+            Some(None) => {
+                self.groups = None;
+                true
+            }
+            Some(Some(_)) => true,
+        }
+    }
+
+    /// So many later blocks are left, as far as there are any.
+    #[tactic(auto, using(crate::proofs::Cutting::one_less, crate::proofs::Cutting::none_left, crate::proofs::Cutting::all_left))]
+    fn leave_later(&mut self, level: usize)
+        ensures does { (place : ℕ) → raising.cut level place (core_seen self.old).frames (core_seen self.old) ≡ raising.cut 0 place (core_seen self.new).frames (core_seen self.new) }
+        ensures room { self.new.blocks.room ≡ self.old.blocks.room }
+    {
+        let mut left = level;
+        while left > 0 {
+            if !self.leave_latest() {
+                return;
+            }
+            left -= 1;
+        }
+    }
+
+    /// So many later blocks are left, and control goes on at the target.
+    #[tactic(auto, using(crate::proofs::Cutting::cut_there))]
+    fn cut(&mut self, level: usize, target: usize)
+        ensures does { core_seen self.new ≡ raising.cut level target (core_seen self.old).frames (core_seen self.old) }
+        ensures room { self.new.blocks.room ≡ self.old.blocks.room }
+    {
+        self.leave_later(level);
         self.at = target;
         self.operands.clear();
         self.line.clear();
-        if level == 0 {
-            return;
-        }
-        let Some(back) = self.blocks.leave() else {
-            return;
-        };
-        if back.is_none() {
-            self.groups = None;
-        }
-        self.cut(level - 1, target);
     }
 
     /// What is asked to change an event before SYSTEM or IGNORE takes effect.
@@ -98,7 +125,8 @@ impl Machine {
 
     /// The error ends the process.
     pub(crate) fn ended(&mut self, setting: &Setting<'_>, error: ErrNo, side: Side) -> Stepped
-        ensures { step_seen setting.now.image.now result self.new ≡ raising.sided (setting_seen setting.now) self.old.groups side (cores.Halts error) (cores.Waits (Request.Stop error) (cores.Halts error) (core_seen self.old)) (core_seen self.old) }
+        ensures does { step_seen setting.now.image.now result self.new ≡ raising.sided (setting_seen setting.now) self.old.groups side (cores.Halts error) (cores.Waits (Request.Stop error) (cores.Halts error) (core_seen self.old)) (core_seen self.old) }
+        ensures room { self.new.blocks.room ≡ self.old.blocks.room }
     {
         match self.change(setting, side) {
             Some(request) => self.asks(setting, request, Wait::Halts(error)),
@@ -108,7 +136,8 @@ impl Machine {
 
     /// A statement of ON ERROR is entered, which is a turn.
     pub(crate) fn entered(&mut self, setting: &Setting<'_>, level: usize, target: u64) -> Stepped
-        ensures { step_seen setting.now.image.now result self.new ≡ raising.entered_at (raising.cut level target (core_seen self.old).frames (core_seen self.old)) }
+        ensures does { step_seen setting.now.image.now result self.new ≡ raising.entered_at (raising.cut level target (core_seen self.old).frames (core_seen self.old)) }
+        ensures room { self.new.blocks.room ≡ self.old.blocks.room }
     {
         self.cut(level, target as usize);
         match self.groups {
@@ -123,7 +152,8 @@ impl Machine {
 
     /// An error arises.
     pub fn raised(&mut self, setting: &Setting<'_>, error: ErrNo) -> Stepped
-        ensures { step_seen setting.now.image.now result self.new ≡ raising.raised (setting_seen setting.now) error (core_seen self.old) }
+        ensures does { step_seen setting.now.image.now result self.new ≡ raising.raised (setting_seen setting.now) error (core_seen self.old) }
+        ensures room { self.new.blocks.room ≡ self.old.blocks.room }
     {
         let found = self.search(error);
         self.last = error;

@@ -53,7 +53,8 @@ impl Machine {
     /// A value is added to the line.
     fn add_item(&mut self, one: &Value) -> Result<(), AllocError>
         requires { Takes op1.Character one.now }
-        ensures { OnOk result (core_seen self.new ≡ with_line (self.old.line.items ++ item_of one.now) (core_seen self.old)) }
+        ensures does { OnOk result (core_seen self.new ≡ with_line (self.old.line.items ++ item_of one.now) (core_seen self.old)) }
+        ensures room { self.new.blocks.room ≡ self.old.blocks.room }
     {
         self.line.push(b' ')?;
         self.line.extend_from_slice(text_of(one).bytes())?;
@@ -65,7 +66,8 @@ impl Machine {
     pub fn item(&mut self, setting: &Setting<'_>) -> Result<Stepped, AllocError>
         requires at { self.old.at < 2 ^ 64 - 1 }
         requires fits { OneFits (choice.Known op1.Character) (stack_seen self.old.operands) }
-        ensures { Does setting.now.image.now result self.new (act_item (stack_seen self.old.operands) (core_seen self.old)) }
+        ensures does { Does setting.now.image.now result self.new (act_item (stack_seen self.old.operands) (core_seen self.old)) }
+        ensures room { self.new.blocks.room ≡ self.old.blocks.room }
     {
         let Some(one) = self.operands.take()? else {
             return Ok(self.stuck(setting));
@@ -79,7 +81,8 @@ impl Machine {
     fn print_line(&mut self, setting: &Setting<'_>, channel: u8) -> Stepped
         requires at { self.old.at < 2 ^ 64 - 1 }
         requires fits { length self.old.line.items ≤ 1000 }
-        ensures { step_seen setting.now.image.now result self.new ≡ cores.Waits (request.Print channel self.old.line.items) (cores.Then cores.Goes) (with_line [] (going (suc self.old.at) (stack_seen self.old.operands) (core_seen self.old))) }
+        ensures does { step_seen setting.now.image.now result self.new ≡ cores.Waits (request.Print channel self.old.line.items) (cores.Then cores.Goes) (with_line [] (going (suc self.old.at) (stack_seen self.old.operands) (core_seen self.old))) }
+        ensures room { self.new.blocks.room ≡ self.old.blocks.room }
     {
         let line = line_of(self.line.as_slice());
         self.line.clear();
@@ -94,7 +97,8 @@ impl Machine {
     /// PRINT.
     pub fn print(&mut self, setting: &Setting<'_>, channel: u8) -> Result<Stepped, AllocError>
         requires { self.old.at < 2 ^ 64 - 1 }
-        ensures { Does setting.now.image.now result self.new (act_print (setting_seen setting.now) channel (core_seen self.old)) }
+        ensures does { Does setting.now.image.now result self.new (act_print (setting_seen setting.now) channel (core_seen self.old)) }
+        ensures room { self.new.blocks.room ≡ self.old.blocks.room }
     {
         if self.line.len() <= LENGTH_LIMIT {
             return Ok(self.print_line(setting, channel));

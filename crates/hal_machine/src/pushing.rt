@@ -1,6 +1,6 @@
 //! Instructions that put values on the stack or take them off, and jumps.
 
-ghost use Rattle.std.specs.Prelude.{◌<◌, ◌^◌, ◌-◌, pos};
+ghost use Rattle.std.specs.Prelude.{◌≡◌, ◌<◌, ◌^◌, ◌-◌, pos};
 ghost use Rattle.hal_values.specs.declared.value.Value.TheVariants as value;
 ghost use Rattle.hal_code.specs.Addressing.{pushed};
 ghost use Rattle.hal_code.specs.Computing.{act_drop};
@@ -16,7 +16,8 @@ impl Machine {
     /// INT.
     pub fn int(&mut self, setting: &Setting<'_>, number: i32) -> Result<Stepped, AllocError>
         requires { self.old.at < 2 ^ 64 - 1 }
-        ensures { Does setting.now.image.now result self.new (pushed (value.Int number) (stack_seen self.old.operands) (core_seen self.old)) }
+        ensures does { Does setting.now.image.now result self.new (pushed (value.Int number) (stack_seen self.old.operands) (core_seen self.old)) }
+        ensures room { self.new.blocks.room ≡ self.old.blocks.room }
     {
         self.operands.push_int(number)?;
         self.at += 1;
@@ -26,7 +27,8 @@ impl Machine {
     /// BITS.
     pub fn bits(&mut self, setting: &Setting<'_>, len: u8, word: u32) -> Result<Stepped, AllocError>
         requires { self.old.at < 2 ^ 64 - 1 }
-        ensures { Does setting.now.image.now result self.new (pushed (value.Bits len word) (stack_seen self.old.operands) (core_seen self.old)) }
+        ensures does { Does setting.now.image.now result self.new (pushed (value.Bits len word) (stack_seen self.old.operands) (core_seen self.old)) }
+        ensures room { self.new.blocks.room ≡ self.old.blocks.room }
     {
         self.operands.push_bits(len, word)?;
         self.at += 1;
@@ -36,7 +38,8 @@ impl Machine {
     /// TEXT.
     pub fn text(&mut self, setting: &Setting<'_>, text: &Text) -> Result<Stepped, AllocError>
         requires { self.old.at < 2 ^ 64 - 1 }
-        ensures { Does setting.now.image.now result self.new (pushed (value.Text text.now) (stack_seen self.old.operands) (core_seen self.old)) }
+        ensures does { Does setting.now.image.now result self.new (pushed (value.Text text.now) (stack_seen self.old.operands) (core_seen self.old)) }
+        ensures room { self.new.blocks.room ≡ self.old.blocks.room }
     {
         self.operands.push_text(text.copy())?;
         self.at += 1;
@@ -46,7 +49,8 @@ impl Machine {
     /// ERRGRP.
     pub fn error_group(&mut self, setting: &Setting<'_>) -> Result<Stepped, AllocError>
         requires { self.old.at < 2 ^ 64 - 1 }
-        ensures { Does setting.now.image.now result self.new (pushed (value.Int (pos self.old.last.group)) (stack_seen self.old.operands) (core_seen self.old)) }
+        ensures does { Does setting.now.image.now result self.new (pushed (value.Int (pos self.old.last.group)) (stack_seen self.old.operands) (core_seen self.old)) }
+        ensures room { self.new.blocks.room ≡ self.old.blocks.room }
     {
         self.int(setting, i32::from(self.last.group))
     }
@@ -54,7 +58,8 @@ impl Machine {
     /// ERRNUM.
     pub fn error_number(&mut self, setting: &Setting<'_>) -> Result<Stepped, AllocError>
         requires { self.old.at < 2 ^ 64 - 1 }
-        ensures { Does setting.now.image.now result self.new (pushed (value.Int (pos self.old.last.number)) (stack_seen self.old.operands) (core_seen self.old)) }
+        ensures does { Does setting.now.image.now result self.new (pushed (value.Int (pos self.old.last.number)) (stack_seen self.old.operands) (core_seen self.old)) }
+        ensures room { self.new.blocks.room ≡ self.old.blocks.room }
     {
         self.int(setting, i32::from(self.last.number))
     }
@@ -62,7 +67,8 @@ impl Machine {
     /// DROP.
     pub fn drop_top(&mut self, setting: &Setting<'_>) -> Result<Stepped, AllocError>
         requires { self.old.at < 2 ^ 64 - 1 }
-        ensures { Does setting.now.image.now result self.new (act_drop (stack_seen self.old.operands) (core_seen self.old)) }
+        ensures does { Does setting.now.image.now result self.new (act_drop (stack_seen self.old.operands) (core_seen self.old)) }
+        ensures room { self.new.blocks.room ≡ self.old.blocks.room }
     {
         match self.operands.slots.pop() {
             Some(Slot::Int(_)) => {}

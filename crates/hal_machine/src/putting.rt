@@ -41,7 +41,8 @@ impl Machine {
     /// An own place gets a value.
     #[tactic(auto, using(crate::proofs::Mapping::map_set, crate::proofs::Mapping::set_past, crate::proofs::Mapping::length_map))]
     pub fn put_own(&mut self, number: usize, one: Value)
-        ensures { core_seen self.new ≡ with_kept (kept (slice_set (core_seen self.old).kept.places number (Holds one)) self.old.last) (core_seen self.old) }
+        ensures does { core_seen self.new ≡ with_kept (kept (slice_set (core_seen self.old).kept.places number (Holds one)) self.old.last) (core_seen self.old) }
+        ensures room { self.new.blocks.room ≡ self.old.blocks.room }
     {
         if number < self.places.len() {
             self.places[number] = Held::Value(one);
@@ -51,7 +52,8 @@ impl Machine {
     /// An UPDATE block writes a cell of its groups.
     #[tactic(auto, using(crate::proofs::Mapping::set_past))]
     fn note(&mut self, groups: u16, number: u16, cell: &Cell, one: Value) -> Result<(), AllocError>
-        ensures { OnOk result (core_seen self.new ≡ with_mode (noted groups number cell.now one (core_seen self.old).mode) (core_seen self.old)) }
+        ensures does { OnOk result (core_seen self.new ≡ with_mode (noted groups number cell.now one (core_seen self.old).mode) (core_seen self.old)) }
+        ensures room { self.new.blocks.room ≡ self.old.blocks.room }
     {
         if !has_bit(groups, cell.group) {
             return Ok(());
@@ -66,7 +68,8 @@ impl Machine {
 
     /// The executive is asked to write a cell.
     fn writes_to(&mut self, setting: &Setting<'_>, number: u16, one: Value) -> Stepped
-        ensures { step_seen setting.now.image.now result self.new ≡ cores.Waits (request.Write number one) (cores.Then cores.Goes) (core_seen self.old) }
+        ensures does { step_seen setting.now.image.now result self.new ≡ cores.Waits (request.Write number one) (cores.Then cores.Goes) (core_seen self.old) }
+        ensures room { self.new.blocks.room ≡ self.old.blocks.room }
     {
         self.asks(
             setting,
@@ -84,7 +87,8 @@ impl Machine {
         one: Value,
     ) -> Result<Stepped, AllocError>
         requires { number < 65536 }
-        ensures { Does setting.now.image.now result self.new (raising.put_cell number cell.now one self.old.groups (core_seen self.old)) }
+        ensures does { Does setting.now.image.now result self.new (raising.put_cell number cell.now one self.old.groups (core_seen self.old)) }
+        ensures room { self.new.blocks.room ≡ self.old.blocks.room }
     {
         match self.groups {
             None => Ok(self.writes_to(setting, number as u16, one)),
@@ -102,7 +106,8 @@ impl Machine {
         place: Place,
         one: Value,
     ) -> Result<Stepped, AllocError>
-        ensures { Does setting.now.image.now result self.new (raising.put (setting_seen setting.now) (spot_seen place) one (core_seen self.old)) }
+        ensures does { Does setting.now.image.now result self.new (raising.put (setting_seen setting.now) (spot_seen place) one (core_seen self.old)) }
+        ensures room { self.new.blocks.room ≡ self.old.blocks.room }
     {
         match place {
             Place::Shared(number) => match setting.cells.get(number as usize) {
@@ -124,7 +129,8 @@ impl Machine {
         error: ErrNo,
         request: Request,
     ) -> Stepped
-        ensures { step_seen setting.now.image.now result self.new ≡ raising.raised_before (setting_seen setting.now) error (Tries request) (core_seen self.old) }
+        ensures does { step_seen setting.now.image.now result self.new ≡ raising.raised_before (setting_seen setting.now) error (Tries request) (core_seen self.old) }
+        ensures room { self.new.blocks.room ≡ self.old.blocks.room }
     {
         let found = self.search(error);
         self.last = error;
@@ -140,7 +146,8 @@ impl Machine {
 
     /// The cycle of a plan is tested, and then it is asked for.
     pub fn planned(&mut self, setting: &Setting<'_>, plan: Plan, again: Again) -> Stepped
-        ensures { step_seen setting.now.image.now result self.new ≡ raising.planned (setting_seen setting.now) plan (again_seen again) (core_seen self.old) }
+        ensures does { step_seen setting.now.image.now result self.new ≡ raising.planned (setting_seen setting.now) plan (again_seen again) (core_seen self.old) }
+        ensures room { self.new.blocks.room ≡ self.old.blocks.room }
     {
         if is_again(again) {
             self.asks(setting, Request::Schedule(plan), Wait::Tried)
@@ -151,7 +158,8 @@ impl Machine {
 
     /// The rest of an instruction.
     pub fn rested(&mut self, setting: &Setting<'_>, rest: Rest) -> Result<Stepped, AllocError>
-        ensures { Does setting.now.image.now result self.new (raising.rested (setting_seen setting.now) (rest_seen rest) (core_seen self.old)) }
+        ensures does { Does setting.now.image.now result self.new (raising.rested (setting_seen setting.now) (rest_seen rest) (core_seen self.old)) }
+        ensures room { self.new.blocks.room ≡ self.old.blocks.room }
     {
         match rest {
             Rest::Nothing => Ok(Stepped::Moves),
@@ -169,7 +177,8 @@ impl Machine {
         side: Side,
         rest: Rest,
     ) -> Result<Stepped, AllocError>
-        ensures { Does setting.now.image.now result self.new (raising.sided (setting_seen setting.now) self.old.groups side (cores.Then (rest_seen rest)) (raising.rested (setting_seen setting.now) (rest_seen rest) (core_seen self.old)) (core_seen self.old)) }
+        ensures does { Does setting.now.image.now result self.new (raising.sided (setting_seen setting.now) self.old.groups side (cores.Then (rest_seen rest)) (raising.rested (setting_seen setting.now) (rest_seen rest) (core_seen self.old)) (core_seen self.old)) }
+        ensures room { self.new.blocks.room ≡ self.old.blocks.room }
     {
         match self.change(setting, side) {
             Some(change) => Ok(self.asks(setting, change, Wait::Then(rest))),
@@ -184,7 +193,8 @@ impl Machine {
         error: ErrNo,
         rest: Rest,
     ) -> Result<Stepped, AllocError>
-        ensures { Does setting.now.image.now result self.new (raising.raised_before (setting_seen setting.now) error (rest_seen rest) (core_seen self.old)) }
+        ensures does { Does setting.now.image.now result self.new (raising.raised_before (setting_seen setting.now) error (rest_seen rest) (core_seen self.old)) }
+        ensures room { self.new.blocks.room ≡ self.old.blocks.room }
     {
         let found = self.search(error);
         self.last = error;

@@ -37,7 +37,8 @@ impl Machine {
     /// The operands above this depth are taken off, and the instruction is done.
     fn take_off(&mut self, depth: usize)
         requires { self.old.at < 2 ^ 64 - 1 }
-        ensures { core_seen self.new ≡ going (suc self.old.at) (drop depth (stack_seen self.old.operands)) (core_seen self.old) }
+        ensures does { core_seen self.new ≡ going (suc self.old.at) (drop depth (stack_seen self.old.operands)) (core_seen self.old) }
+        ensures room { self.new.blocks.room ≡ self.old.blocks.room }
     {
         self.operands.drop_some(depth);
         self.go_on();
@@ -46,7 +47,8 @@ impl Machine {
     /// WAIT.
     pub fn wait(&mut self, setting: &Setting<'_>, delay: Delay) -> Stepped
         requires { self.old.at < 2 ^ 64 - 1 }
-        ensures { step_seen setting.now.image.now result self.new ≡ asking.act_wait (setting_seen setting.now) delay (core_seen self.old) }
+        ensures does { step_seen setting.now.image.now result self.new ≡ asking.act_wait (setting_seen setting.now) delay (core_seen self.old) }
+        ensures room { self.new.blocks.room ≡ self.old.blocks.room }
     {
         match self.operands.delay_at(setting, delay, 0) {
             None => self.stuck(setting),
@@ -59,7 +61,8 @@ impl Machine {
 
     /// A process is to have a priority, as it is written.
     fn prioritized(&mut self, setting: &Setting<'_>, process: u8, priority: i32) -> Stepped
-        ensures { step_seen setting.now.image.now result self.new ≡ asking.prioritized (setting_seen setting.now) process priority (core_seen self.old) }
+        ensures does { step_seen setting.now.image.now result self.new ≡ asking.prioritized (setting_seen setting.now) process priority (core_seen self.old) }
+        ensures room { self.new.blocks.room ≡ self.old.blocks.room }
     {
         let request = Request::Priority(process, nearest_priority(priority));
         if is_priority(priority) {
@@ -72,7 +75,8 @@ impl Machine {
     /// PRIORITY, where this lies on top.
     fn priority_on_top(&mut self, setting: &Setting<'_>, process: u8, top: Option<i32>) -> Stepped
         requires { self.old.at < 2 ^ 64 - 1 }
-        ensures { step_seen setting.now.image.now result self.new ≡ prioritized_by (setting_seen setting.now) process (drop 1 (stack_seen self.old.operands)) (core_seen self.old) top }
+        ensures does { step_seen setting.now.image.now result self.new ≡ prioritized_by (setting_seen setting.now) process (drop 1 (stack_seen self.old.operands)) (core_seen self.old) top }
+        ensures room { self.new.blocks.room ≡ self.old.blocks.room }
     {
         match top {
             None => self.stuck(setting),
@@ -88,7 +92,8 @@ impl Machine {
     #[tactic(auto, using(crate::proofs::TakenTops::priority_by_top))]
     pub fn priority(&mut self, setting: &Setting<'_>, process: u8) -> Stepped
         requires { self.old.at < 2 ^ 64 - 1 }
-        ensures { step_seen setting.now.image.now result self.new ≡ asking.act_priority (setting_seen setting.now) process (stack_seen self.old.operands) (core_seen self.old) }
+        ensures does { step_seen setting.now.image.now result self.new ≡ asking.act_priority (setting_seen setting.now) process (stack_seen self.old.operands) (core_seen self.old) }
+        ensures room { self.new.blocks.room ≡ self.old.blocks.room }
     {
         let top = self.operands.integer_at(0);
         self.priority_on_top(setting, setting.named(process), top)
@@ -102,7 +107,8 @@ impl Machine {
         priority: i32,
         again: Again,
     ) -> Result<Stepped, AllocError>
-        ensures { Does setting.now.image.now result self.new (asking.scheduled (setting_seen setting.now) draft.process draft.when priority draft.dependent (again_seen again) draft.guard (core_seen self.old)) }
+        ensures does { Does setting.now.image.now result self.new (asking.scheduled (setting_seen setting.now) draft.process draft.when priority draft.dependent (again_seen again) draft.guard (core_seen self.old)) }
+        ensures room { self.new.blocks.room ≡ self.old.blocks.room }
     {
         let plan = Plan {
             process: draft.process,
@@ -129,7 +135,8 @@ impl Machine {
         start: Option<(When, usize)>,
     ) -> Result<Stepped, AllocError>
         requires { self.old.at < 2 ^ 64 - 1 }
-        ensures { Does setting.now.image.now result self.new (asking.with_start (setting_seen setting.now) draft.process priority draft.dependent (again_seen again) draft.guard (taken_seen (λ (one : When). one) (stack_seen self.old.operands) start) (core_seen self.old)) }
+        ensures does { Does setting.now.image.now result self.new (asking.with_start (setting_seen setting.now) draft.process priority draft.dependent (again_seen again) draft.guard (taken_seen (λ (one : When). one) (stack_seen self.old.operands) start) (core_seen self.old)) }
+        ensures room { self.new.blocks.room ≡ self.old.blocks.room }
     {
         match start {
             None => Ok(self.stuck(setting)),
@@ -150,7 +157,8 @@ impl Machine {
         priority: Option<(i32, usize)>,
     ) -> Result<Stepped, AllocError>
         requires { self.old.at < 2 ^ 64 - 1 }
-        ensures { Does setting.now.image.now result self.new (asking.with_priority (setting_seen setting.now) draft.process start draft.dependent (again_seen again) draft.guard (taken_seen (λ (one : ℤ). one) (stack_seen self.old.operands) priority) (core_seen self.old)) }
+        ensures does { Does setting.now.image.now result self.new (asking.with_priority (setting_seen setting.now) draft.process start draft.dependent (again_seen again) draft.guard (taken_seen (λ (one : ℤ). one) (stack_seen self.old.operands) priority) (core_seen self.old)) }
+        ensures room { self.new.blocks.room ≡ self.old.blocks.room }
     {
         match priority {
             None => Ok(self.stuck(setting)),
@@ -171,7 +179,8 @@ impl Machine {
         again: Option<(Again, usize)>,
     ) -> Result<Stepped, AllocError>
         requires { self.old.at < 2 ^ 64 - 1 }
-        ensures { Does setting.now.image.now result self.new (asking.with_round (setting_seen setting.now) draft.process start priority draft.dependent draft.guard (taken_seen again_seen (stack_seen self.old.operands) again) (core_seen self.old)) }
+        ensures does { Does setting.now.image.now result self.new (asking.with_round (setting_seen setting.now) draft.process start priority draft.dependent draft.guard (taken_seen again_seen (stack_seen self.old.operands) again) (core_seen self.old)) }
+        ensures room { self.new.blocks.room ≡ self.old.blocks.room }
     {
         match again {
             None => Ok(self.stuck(setting)),
@@ -192,7 +201,8 @@ impl Machine {
         limit: Option<(Guard, usize)>,
     ) -> Result<Stepped, AllocError>
         requires { self.old.at < 2 ^ 64 - 1 }
-        ensures { Does setting.now.image.now result self.new (asking.with_limit (setting_seen setting.now) process plan.start plan.priority (choice.Known dependent) plan.round (taken_seen (λ (one : Guard). one) (stack_seen self.old.operands) limit) (core_seen self.old)) }
+        ensures does { Does setting.now.image.now result self.new (asking.with_limit (setting_seen setting.now) process plan.start plan.priority (choice.Known dependent) plan.round (taken_seen (λ (one : Guard). one) (stack_seen self.old.operands) limit) (core_seen self.old)) }
+        ensures room { self.new.blocks.room ≡ self.old.blocks.room }
     {
         match limit {
             None => Ok(self.stuck(setting)),
@@ -219,7 +229,8 @@ impl Machine {
         plan: Written,
     ) -> Result<Stepped, AllocError>
         requires { self.old.at < 2 ^ 64 - 1 }
-        ensures { Does setting.now.image.now result self.new (asking.with_limit (setting_seen setting.now) process plan.start plan.priority plan.dependent plan.round (asking.limit_taken (setting_seen setting.now).tables plan.limit (stack_seen self.old.operands)) (core_seen self.old)) }
+        ensures does { Does setting.now.image.now result self.new (asking.with_limit (setting_seen setting.now) process plan.start plan.priority plan.dependent plan.round (asking.limit_taken (setting_seen setting.now).tables plan.limit (stack_seen self.old.operands)) (core_seen self.old)) }
+        ensures room { self.new.blocks.room ≡ self.old.blocks.room }
     {
         match plan.dependent {
             Choice::Known(dependent) => {
@@ -238,7 +249,8 @@ impl Machine {
         plan: Written,
     ) -> Result<Stepped, AllocError>
         requires { self.old.at < 2 ^ 64 - 1 }
-        ensures { Does setting.now.image.now result self.new (asking.act_schedule (setting_seen setting.now) process plan.start plan.priority plan.dependent plan.round plan.limit (core_seen self.old)) }
+        ensures does { Does setting.now.image.now result self.new (asking.act_schedule (setting_seen setting.now) process plan.start plan.priority plan.dependent plan.round plan.limit (core_seen self.old)) }
+        ensures room { self.new.blocks.room ≡ self.old.blocks.room }
     {
         if setting.has_process(process) {
             self.schedule_there(setting, process, plan)

@@ -129,7 +129,8 @@ impl Machine {
 
     /// An address by a view lies on the stack, once its subscripts are tested.
     fn addressed(&mut self, setting: &Setting<'_>, inside: bool) -> Stepped
-        ensures { step_seen setting.now.image.now result self.new ≡ (if inside then Moves (core_seen self.old) else raised (setting_seen setting.now) (error 1 3) (core_seen self.old)) }
+        ensures does { step_seen setting.now.image.now result self.new ≡ (if inside then Moves (core_seen self.old) else raised (setting_seen setting.now) (error 1 3) (core_seen self.old)) }
+        ensures room { self.new.blocks.room ≡ self.old.blocks.room }
     {
         if inside {
             Stepped::Moves
@@ -140,7 +141,8 @@ impl Machine {
 
     /// The address of what a view gives there is put on the stack.
     fn push_target(&mut self, target: Target, place: Place) -> Result<(), AllocError>
-        ensures { OnOk result (core_seen self.new ≡ going self.old.at (operand_of target (spot_seen place) ∷ stack_seen self.old.operands) (core_seen self.old)) }
+        ensures does { OnOk result (core_seen self.new ≡ going self.old.at (operand_of target (spot_seen place) ∷ stack_seen self.old.operands) (core_seen self.old)) }
+        ensures room { self.new.blocks.room ≡ self.old.blocks.room }
     {
         match target {
             Target::Cell(kind) => self.operands.push_address(place, kind),
@@ -157,7 +159,8 @@ impl Machine {
     ) -> Result<Stepped, AllocError>
         requires next { self.old.at < 2 ^ 64 - 1 }
         requires room { HasRoom (further at.before (spot_of view.now.base (core_seen self.old).kept.places)) }
-        ensures { Does setting.now.image.now result self.new (pointed (setting_seen setting.now) view.now (core_seen self.old) (record { before = at.before; inside = at.inside; left = drop (length view.now.dimensions) (stack_seen self.old.operands) })) }
+        ensures does { Does setting.now.image.now result self.new (pointed (setting_seen setting.now) view.now (core_seen self.old) (record { before = at.before; inside = at.inside; left = drop (length view.now.dimensions) (stack_seen self.old.operands) })) }
+        ensures room { self.new.blocks.room ≡ self.old.blocks.room }
     {
         let place = self.place_of(view.base, at.before);
         self.operands.drop_some(view.dimensions.as_slice().len());
@@ -175,7 +178,8 @@ impl Machine {
     ) -> Result<Stepped, AllocError>
         requires next { self.old.at < 2 ^ 64 - 1 }
         requires room { LeadsWithin view.now (core_seen self.old) (spread_seen (drop (length view.now.dimensions) (stack_seen self.old.operands)) at) }
-        ensures { Does setting.now.image.now result self.new (pointed_at (setting_seen setting.now) view.now (core_seen self.old) (spread_seen (drop (length view.now.dimensions) (stack_seen self.old.operands)) at)) }
+        ensures does { Does setting.now.image.now result self.new (pointed_at (setting_seen setting.now) view.now (core_seen self.old) (spread_seen (drop (length view.now.dimensions) (stack_seen self.old.operands)) at)) }
+        ensures room { self.new.blocks.room ≡ self.old.blocks.room }
     {
         match at {
             None => Ok(self.stuck(setting)),
@@ -187,7 +191,8 @@ impl Machine {
     fn view(&mut self, setting: &Setting<'_>, view: &View) -> Result<Stepped, AllocError>
         requires next { self.old.at < 2 ^ 64 - 1 }
         requires room { CellFits view.now (core_seen self.old) }
-        ensures { Does setting.now.image.now result self.new (viewed (setting_seen setting.now) view.now (core_seen self.old)) }
+        ensures does { Does setting.now.image.now result self.new (viewed (setting_seen setting.now) view.now (core_seen self.old)) }
+        ensures room { self.new.blocks.room ≡ self.old.blocks.room }
     {
         let at = self.operands.spread_of(view);
         self.point_at(setting, view, at)
@@ -197,7 +202,8 @@ impl Machine {
     pub fn cell(&mut self, setting: &Setting<'_>, view: &View) -> Result<Stepped, AllocError>
         requires next { self.old.at < 2 ^ 64 - 1 }
         requires room { CellFits view.now (core_seen self.old) }
-        ensures { Does setting.now.image.now result self.new (cell_viewed (setting_seen setting.now) view.now (core_seen self.old)) }
+        ensures does { Does setting.now.image.now result self.new (cell_viewed (setting_seen setting.now) view.now (core_seen self.old)) }
+        ensures room { self.new.blocks.room ≡ self.old.blocks.room }
     {
         match view.target {
             Target::Cell(_) => self.view(setting, view),
@@ -209,7 +215,8 @@ impl Machine {
     pub fn whole(&mut self, setting: &Setting<'_>, view: &View) -> Result<Stepped, AllocError>
         requires next { self.old.at < 2 ^ 64 - 1 }
         requires room { CellFits view.now (core_seen self.old) }
-        ensures { Does setting.now.image.now result self.new (area_viewed (setting_seen setting.now) view.now (core_seen self.old)) }
+        ensures does { Does setting.now.image.now result self.new (area_viewed (setting_seen setting.now) view.now (core_seen self.old)) }
+        ensures room { self.new.blocks.room ≡ self.old.blocks.room }
     {
         match view.target {
             Target::Cell(_) => Ok(self.stuck(setting)),

@@ -24,8 +24,10 @@ use Rattle.hal_sound_code.specs.Typed.{IsTyped, IsTypedStep, IsReady, IsAwaited}
 use Rattle.hal_sound_code.proofs.Answering.{Fitting, Fitting-answer}
 use Rattle.hal_sound_code.proofs.Coursing.{Typed-stepped}
 use Rattle.hal_sound_code.proofs.Fitting.{step_of, right_awaits}
+use Rattle.hal_sound_code.proofs.Frames.{frames_are_few}
 use Rattle.hal_sound_code.proofs.Grounds.{Ground, ground_of}
 use Rattle.hal_sound_code.proofs.Rights.{whole}
+use Rattle.hal_sound_code.proofs.Sparing.{entries_have_room}
 use Rattle.hal_right_values.specs.Finding.{Fits, HaveCells}
 use Rattle.hal_right_values.specs.Holding.{Holding, HoldingStep, HoldsAfter, HoldsAwaiting}
 use Rattle.hal_right_values.specs.Ranges.{AreInRange}
@@ -75,6 +77,8 @@ module _ (turns : ℕ) (image : ImageParts) (p : ℕ) (right : IsRight image) (r
   step_fits : HaveCells image → (c : Core) → Fine c → StepFits s c
   step_fits have c fine = record {
     finds = found_fits c (slice_get s.image.code c.at) (λ i e. finds s (whole image right) exists c fine.0 have ground.firsts fine.1 i e);
+    blocks = frames_are_few s c fine.0;
+    entries = entries_have_room s (whole image right) c fine.0;
     lowers = λ after e. moves_lower s (right_is_forward image right) own c after fine.2 e;
   }
 

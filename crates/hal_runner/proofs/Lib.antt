@@ -8,3 +8,4 @@ pub mod Sound
 mod Expanded
 mod Ready
 mod Owned
+mod Counting

@@ -1,7 +1,8 @@
 //! Instructions.
 
-ghost use Rattle.std.specs.Prelude.{◌<◌, ◌-◌, ◌^◌};
+ghost use Rattle.std.specs.Prelude.{◌≡◌, ◌<◌, ◌-◌, ◌^◌};
 ghost use Rattle.hal_code.specs.Machine.{act};
+ghost use Rattle.hal_machine.specs.Blocks.{HasBlock, HasEntry};
 ghost use Rattle.hal_machine.specs.Seen.{core_seen, setting_seen, Does};
 ghost use Rattle.hal_right_values.specs.Finding.{Fits};
 
@@ -21,7 +22,10 @@ pub(crate) fn act(
 ) -> Result<Stepped, AllocError>
     requires at { machine.old.at < 2 ^ 64 - 1 }
     requires fits { Fits (setting_seen setting.now) instr.now (core_seen machine.old) }
-    ensures { Does setting.now.image.now result machine.new (act (setting_seen setting.now) instr.now (core_seen machine.old)) }
+    requires blocks { HasBlock machine.old.blocks }
+    requires entries { HasEntry machine.old.blocks }
+    ensures does { Does setting.now.image.now result machine.new (act (setting_seen setting.now) instr.now (core_seen machine.old)) }
+    ensures room { machine.new.blocks.room ≡ machine.old.blocks.room }
 {
     match instr {
         Instr::Int(number) => machine.int(setting, *number),
@@ -52,7 +56,7 @@ pub(crate) fn act(
             change,
             event,
             target,
-        } => on(
+        } => Ok(on(
             machine,
             setting,
             Handler {
@@ -63,7 +67,7 @@ pub(crate) fn act(
                 event: *event,
                 target: *target,
             },
-        ),
+        )),
         Instr::Off { group, number } => Ok(machine.off(setting, *group, *number)),
         Instr::Raise { group, number } => Ok(machine.raise(setting, *group, *number)),
         Instr::ErrGrp => machine.error_group(setting),
@@ -107,7 +111,7 @@ pub(crate) fn act(
             target,
         } => Ok(machine.input(setting, *channel, *kind, *target)),
         Instr::Now => Ok(machine.now(setting)),
-        Instr::Open(groups) => machine.open_update(setting, *groups),
+        Instr::Open(groups) => Ok(machine.open_update(setting, *groups)),
         Instr::Close => machine.close(setting),
     }
 }

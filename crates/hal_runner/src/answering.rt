@@ -22,7 +22,8 @@ use std::alloc::AllocError;
 /// The next cycle begins, with what the process keeps.
 fn begin(machine: &mut Machine, setting: &Setting<'_>) -> Stepped
     requires { setting.now.begin < 2 ^ 64 - 1 }
-    ensures { step_seen setting.now.image.now result machine.new ≡ begun (setting_seen setting.now) (core_seen machine.old).kept }
+    ensures does { step_seen setting.now.image.now result machine.new ≡ begun (setting_seen setting.now) (core_seen machine.old).kept }
+    ensures room { machine.new.blocks.room ≡ machine.old.blocks.room }
 {
     machine.at = setting.begin + 1;
     machine.operands.clear();
@@ -37,7 +38,8 @@ fn begin(machine: &mut Machine, setting: &Setting<'_>) -> Stepped
 
 /// An error that the answer is arises.
 fn tried(machine: &mut Machine, setting: &Setting<'_>, reply: Reply) -> Stepped
-    ensures { step_seen setting.now.image.now result machine.new ≡ tried_by (setting_seen setting.now) (reply_seen reply) (core_seen machine.old) }
+    ensures does { step_seen setting.now.image.now result machine.new ≡ tried_by (setting_seen setting.now) (reply_seen reply) (core_seen machine.old) }
+    ensures room { machine.new.blocks.room ≡ machine.old.blocks.room }
 {
     match reply {
         Reply::Wrong(error) => machine.raised(setting, error),
@@ -56,7 +58,8 @@ fn taken(
     target: usize,
     reply: Reply,
 ) -> Result<Stepped, AllocError>
-    ensures { Does setting.now.image.now result machine.new (taken_by (setting_seen setting.now) target (reply_seen reply) (core_seen machine.old)) }
+    ensures does { Does setting.now.image.now result machine.new (taken_by (setting_seen setting.now) target (reply_seen reply) (core_seen machine.old)) }
+    ensures room { machine.new.blocks.room ≡ machine.old.blocks.room }
 {
     match reply {
         Reply::Value(one) => {
@@ -82,7 +85,8 @@ fn enter(
     store: Vec<Value>,
     turns: u32,
 ) -> Stepped
-    ensures { step_seen setting.now.image.now result machine.new ≡ cores.Moves (with_mode (mode (Some groups) store.items [] turns) (core_seen machine.old)) }
+    ensures does { step_seen setting.now.image.now result machine.new ≡ cores.Moves (with_mode (mode (Some groups) store.items [] turns) (core_seen machine.old)) }
+    ensures room { machine.new.blocks.room ≡ machine.old.blocks.room }
 {
     machine.groups = Some(groups);
     machine.store = store;
@@ -93,7 +97,8 @@ fn enter(
 
 /// An UPDATE block begins with the answer.
 fn entered(machine: &mut Machine, setting: &Setting<'_>, groups: u16, reply: Reply) -> Stepped
-    ensures { step_seen setting.now.image.now result machine.new ≡ cores.Moves (with_mode (opened setting.now.turns groups (reply_seen reply)) (core_seen machine.old)) }
+    ensures does { step_seen setting.now.image.now result machine.new ≡ cores.Moves (with_mode (opened setting.now.turns groups (reply_seen reply)) (core_seen machine.old)) }
+    ensures room { machine.new.blocks.room ≡ machine.old.blocks.room }
 {
     match reply {
         Reply::Block(store) => enter(machine, setting, groups, store, setting.turns),
@@ -118,7 +123,8 @@ fn copied(
     requires shapes { ShapesFit setting.now.image.now }
     requires place { suc place < 2 ^ 32 }
     requires fits { CopiesFit (length (drop done (kinds_of setting.now.image.now shape))) (spot_seen from) (suc place) }
-    ensures { step_seen setting.now.image.now result machine.new ≡ copied (setting_seen setting.now) (drop done (kinds_of setting.now.image.now shape)) (spot_seen from) (suc place) (placed place one (core_seen machine.old)) }
+    ensures does { step_seen setting.now.image.now result machine.new ≡ copied (setting_seen setting.now) (drop done (kinds_of setting.now.image.now shape)) (spot_seen from) (suc place) (placed place one (core_seen machine.old)) }
+    ensures room { machine.new.blocks.room ≡ machine.old.blocks.room }
 {
     machine.put_own(place as usize, one);
     copy_from(machine, setting, shape, done, from, place + 1)
@@ -134,7 +140,8 @@ fn given(
     requires begin { setting.now.begin < 2 ^ 64 - 1 }
     requires shapes { ShapesFit setting.now.image.now }
     requires fits { AnswerFits (wait_seen setting.now.image.now wait) }
-    ensures { Does setting.now.image.now result machine.new (given (setting_seen setting.now) (wait_seen setting.now.image.now wait) (reply_seen reply) (core_seen machine.old)) }
+    ensures does { Does setting.now.image.now result machine.new (given (setting_seen setting.now) (wait_seen setting.now.image.now wait) (reply_seen reply) (core_seen machine.old)) }
+    ensures room { machine.new.blocks.room ≡ machine.old.blocks.room }
 {
     match wait {
         Wait::Then(rest) => machine.rested(setting, rest),
@@ -168,7 +175,8 @@ pub(crate) fn answered(
     requires begin { setting.now.begin < 2 ^ 64 - 1 }
     requires shapes { ShapesFit setting.now.image.now }
     requires fits { AnswerFits (wait_seen setting.now.image.now wait) }
-    ensures { Does setting.now.image.now result machine.new (after_answer (setting_seen setting.now) (wait_seen setting.now.image.now wait) (reply_seen reply) (core_seen machine.old)) }
+    ensures does { Does setting.now.image.now result machine.new (after_answer (setting_seen setting.now) (wait_seen setting.now.image.now wait) (reply_seen reply) (core_seen machine.old)) }
+    ensures room { machine.new.blocks.room ≡ machine.old.blocks.room }
 {
     if reply.is_killed() {
         return Ok(begin(machine, setting));

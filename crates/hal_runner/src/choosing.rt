@@ -1,10 +1,11 @@
 //! Instructions whose operands choose among operations, places and answers to errors.
 
-ghost use Rattle.std.specs.Prelude.{◌<◌, ◌-◌, ◌^◌};
+ghost use Rattle.std.specs.Prelude.{◌≡◌, ◌<◌, ◌-◌, ◌^◌};
 ghost use Rattle.hal_code.specs.Computing.{act_one, act_two, act_pick, act_patch};
 ghost use Rattle.hal_code.specs.Controlling.{act_on};
 ghost use Rattle.hal_right_values.specs.Fitting.{OneFits, TwoFits, PickFits, PatchFits, ChosenFits};
-ghost use Rattle.hal_machine.specs.Seen.{core_seen, stack_seen, setting_seen, Does};
+ghost use Rattle.hal_machine.specs.Blocks.{HasEntry};
+ghost use Rattle.hal_machine.specs.Seen.{core_seen, stack_seen, setting_seen, step_seen, Does};
 
 use hal_code::{Choice, EventChange, Places, Response};
 use hal_machine::{Machine, Setting, Stepped, act_of, selector_of, side_of};
@@ -19,7 +20,8 @@ pub(crate) fn one(
 ) -> Result<Stepped, AllocError>
     requires at { machine.old.at < 2 ^ 64 - 1 }
     requires fits { OneFits op (stack_seen machine.old.operands) }
-    ensures { Does setting.now.image.now result machine.new (act_one (setting_seen setting.now) op (stack_seen machine.old.operands) (core_seen machine.old)) }
+    ensures does { Does setting.now.image.now result machine.new (act_one (setting_seen setting.now) op (stack_seen machine.old.operands) (core_seen machine.old)) }
+    ensures room { machine.new.blocks.room ≡ machine.old.blocks.room }
 {
     match op {
         Choice::Known(op) => machine.one(setting, op),
@@ -35,7 +37,8 @@ pub(crate) fn two(
 ) -> Result<Stepped, AllocError>
     requires at { machine.old.at < 2 ^ 64 - 1 }
     requires fits { TwoFits op (stack_seen machine.old.operands) }
-    ensures { Does setting.now.image.now result machine.new (act_two (setting_seen setting.now) op (stack_seen machine.old.operands) (core_seen machine.old)) }
+    ensures does { Does setting.now.image.now result machine.new (act_two (setting_seen setting.now) op (stack_seen machine.old.operands) (core_seen machine.old)) }
+    ensures room { machine.new.blocks.room ≡ machine.old.blocks.room }
 {
     match op {
         Choice::Known(op) => machine.two(setting, op),
@@ -51,7 +54,8 @@ pub(crate) fn pick(
 ) -> Result<Stepped, AllocError>
     requires at { machine.old.at < 2 ^ 64 - 1 }
     requires fits { ChosenFits PickFits places (stack_seen machine.old.operands) }
-    ensures { Does setting.now.image.now result machine.new (act_pick (setting_seen setting.now) places (core_seen machine.old)) }
+    ensures does { Does setting.now.image.now result machine.new (act_pick (setting_seen setting.now) places (core_seen machine.old)) }
+    ensures room { machine.new.blocks.room ≡ machine.old.blocks.room }
 {
     match places {
         Choice::Known(places) => machine.pick(setting, places),
@@ -67,7 +71,8 @@ pub(crate) fn patch(
 ) -> Result<Stepped, AllocError>
     requires at { machine.old.at < 2 ^ 64 - 1 }
     requires fits { ChosenFits PatchFits places (stack_seen machine.old.operands) }
-    ensures { Does setting.now.image.now result machine.new (act_patch (setting_seen setting.now) places (core_seen machine.old)) }
+    ensures does { Does setting.now.image.now result machine.new (act_patch (setting_seen setting.now) places (core_seen machine.old)) }
+    ensures room { machine.new.blocks.room ≡ machine.old.blocks.room }
 {
     match places {
         Choice::Known(places) => machine.patch(setting, places),
@@ -87,13 +92,11 @@ pub(crate) struct Handler {
 }
 
 /// ON.
-pub(crate) fn on(
-    machine: &mut Machine,
-    setting: &Setting<'_>,
-    entry: Handler,
-) -> Result<Stepped, AllocError>
-    requires { machine.old.at < 2 ^ 64 - 1 }
-    ensures { Does setting.now.image.now result machine.new (act_on entry.group entry.number entry.response entry.change entry.event entry.target (core_seen machine.old)) }
+pub(crate) fn on(machine: &mut Machine, setting: &Setting<'_>, entry: Handler) -> Stepped
+    requires at { machine.old.at < 2 ^ 64 - 1 }
+    requires room { HasEntry machine.old.blocks }
+    ensures does { step_seen setting.now.image.now result machine.new ≡ act_on entry.group entry.number entry.response entry.change entry.event entry.target (core_seen machine.old) }
+    ensures room { machine.new.blocks.room ≡ machine.old.blocks.room }
 {
     match (entry.response, entry.change) {
         (Choice::Known(response), Choice::Known(change)) => {
@@ -101,8 +104,8 @@ pub(crate) fn on(
             let side = side_of(change, entry.event);
             machine.on(setting, selector, act_of(response, side, entry.target))
         }
-        (Choice::Known(_), Choice::Other(_)) => Ok(machine.stuck(setting)),
-        (Choice::Other(_), Choice::Known(_)) => Ok(machine.stuck(setting)),
-        (Choice::Other(_), Choice::Other(_)) => Ok(machine.stuck(setting)),
+        (Choice::Known(_), Choice::Other(_)) => machine.stuck(setting),
+        (Choice::Other(_), Choice::Known(_)) => machine.stuck(setting),
+        (Choice::Other(_), Choice::Other(_)) => machine.stuck(setting),
     }
 }

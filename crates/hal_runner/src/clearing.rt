@@ -34,7 +34,8 @@ fn clear_from(places: &mut Vec<Held>, firsts: &[Held], place: usize, count: usiz
 pub(crate) fn clear(machine: &mut Machine, setting: &Setting<'_>, place: u32, count: u32) -> Stepped
     requires at { machine.old.at < 2 ^ 64 - 1 }
     requires fits { ClearFits (setting_seen setting.now) place count (core_seen machine.old) }
-    ensures { step_seen setting.now.image.now result machine.new ≡ act_clear (setting_seen setting.now) place count (core_seen machine.old) }
+    ensures does { step_seen setting.now.image.now result machine.new ≡ act_clear (setting_seen setting.now) place count (core_seen machine.old) }
+    ensures room { machine.new.blocks.room ≡ machine.old.blocks.room }
 {
     clear_from(
         &mut machine.places,

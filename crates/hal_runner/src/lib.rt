@@ -14,6 +14,7 @@ mod prepared;
 mod quick;
 mod reply;
 mod requests;
+mod rooms;
 mod runner;
 
 pub use loading::{Loaded, cells_of, ready_of};

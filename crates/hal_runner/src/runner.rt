@@ -6,12 +6,13 @@ ghost use Rattle.hal_states.specs.Spots.{held_in};
 ghost use Rattle.hal_code.specs.declared.image.ImageParts.{ImageParts};
 ghost use Rattle.hal_code.specs.Courses.{settled, course};
 ghost use Rattle.hal_code.specs.Machine.{after_answer};
+ghost use Rattle.hal_machine.specs.Blocks.{HasAsMuch};
 ghost use Rattle.hal_machine.specs.Seen.{core_seen};
 ghost use Rattle.hal_runner.specs.Replies.{reply_seen};
 ghost use Rattle.hal_runner.specs.Prepared.{prepared_seen};
 ghost use Rattle.hal_runner.specs.Quick.{AreReady};
 ghost use Rattle.hal_runner.specs.Runners.{asked_seen};
-ghost use Rattle.hal_runner.specs.Ways.{AnswerFits, ShapesFit, WayFits};
+ghost use Rattle.hal_runner.specs.Ways.{IsAmple, AnswerFits, ShapesFit, WayFits};
 
 use crate::answering::answered;
 use crate::copying::held_in;
@@ -19,7 +20,8 @@ use crate::machines::{machine_of, places_of};
 use crate::moving::settle;
 use crate::prepared::Prepared;
 use crate::reply::Reply;
-use hal_machine::{Blocks, Machine, Operands, Rest, Wait};
+use crate::rooms::blocks_for;
+use hal_machine::{Machine, Operands, Rest, Wait};
 use hal_values::{ErrNo, Request, Value};
 use std::alloc::{AllocError, Global};
 
@@ -36,17 +38,18 @@ pub struct Runner {
 }
 
 impl Runner {
-    /// A process before any answer.
+    /// A process before any answer. All the room for the blocks that it enters and for their error entries is taken here.
     pub fn start(setting: &Prepared<'_>) -> Result<Runner, AllocError>
         requires { setting.now.plain.begin < 2 ^ 64 - 1 }
-        ensures { IfOk result (λ runner. asked_seen setting.now.plain.image.now runner ≡ course (prepared_seen setting.now) []) }
+        ensures room { IfOk result (λ runner. IsAmple setting.now.plain.image.now runner.machine.blocks.room) }
+        ensures does { IfOk result (λ runner. asked_seen setting.now.plain.image.now runner ≡ course (prepared_seen setting.now) []) }
     {
         let places = places_of(setting.plain.alloc, setting.plain.firsts)?;
         let machine = Machine {
             at: setting.plain.begin + 1,
             operands: Operands::new(setting.plain.alloc),
             line: Vec::new(setting.plain.alloc),
-            blocks: Blocks::new(setting.plain.alloc)?,
+            blocks: blocks_for(setting.plain.alloc, setting.plain.image)?,
             places,
             last: NO_ERROR,
             groups: None,
@@ -61,7 +64,8 @@ impl Runner {
 
     /// The same process once more.
     pub fn copy(&self, alloc: Global) -> Result<Runner, AllocError>
-        ensures { IfOk result (λ copy. (image : ImageParts) → asked_seen image copy ≡ asked_seen image self.now) }
+        ensures same { IfOk result (λ copy. (image : ImageParts) → asked_seen image copy ≡ asked_seen image self.now) }
+        ensures room { IfOk result (λ copy. HasAsMuch self.now.machine.blocks.room copy.machine.blocks.room) }
     {
         Ok(Runner {
             machine: machine_of(alloc, &self.machine)?,
@@ -103,7 +107,9 @@ impl Runner {
         requires fits { AnswerFits (asked_seen setting.now.plain.image.now self.old).wait }
         requires ready { AreReady setting.now.plain.image.now setting.now.ready.now }
         requires way { WayFits (prepared_seen setting.now) (after_answer (prepared_seen setting.now) (asked_seen setting.now.plain.image.now self.old).wait (reply_seen reply) (asked_seen setting.now.plain.image.now self.old).core) }
-        ensures { (answers : List Answered) → asked_seen setting.now.plain.image.now self.old ≡ course (prepared_seen setting.now) answers → OnOk result (asked_seen setting.now.plain.image.now self.new ≡ course (prepared_seen setting.now) (answers ++ (reply_seen reply ∷ []))) }
+        requires room { IsAmple setting.now.plain.image.now self.old.machine.blocks.room }
+        ensures room { self.new.machine.blocks.room ≡ self.old.machine.blocks.room }
+        ensures does { (answers : List Answered) → asked_seen setting.now.plain.image.now self.old ≡ course (prepared_seen setting.now) answers → OnOk result (asked_seen setting.now.plain.image.now self.new ≡ course (prepared_seen setting.now) (answers ++ (reply_seen reply ∷ []))) }
     {
         let wait = std::mem::replace(&mut self.machine.wait, Wait::Tried);
         let step = answered(&mut self.machine, &setting.plain, wait, reply)?;

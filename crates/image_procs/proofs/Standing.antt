@@ -1,5 +1,5 @@
 -- A process takes in the answers that wait, one by one.
-use Rattle.std.specs.Prelude.{◌≡◌, ℕ, ◌-◌, ◌<◌, ◌^◌, List, [], ◌∷◌, ◌++◌, length, Option, Some, None}
+use Rattle.std.specs.Prelude.{◌≡◌, ℕ, ◌-◌, ◌*◌, ◌≤◌, ◌<◌, ◌^◌, List, [], ◌∷◌, ◌++◌, length, Option, Some, None}
 use Rattle.std.proofs.Common.{refl, sym, ap, subst, ◌∙◌, arith}
 use Rattle.std.proofs.lemmas.List.{append-nil, append_assoc, map-append}
 use Rattle.hal_values.specs.Answers.{Answered}
@@ -9,15 +9,18 @@ use Rattle.hal_code.specs.Cores.{Setting}
 use Rattle.hal_code.specs.Courses.{Asked, setting_of, course, load_of}
 use Rattle.hal_code.specs.Images.{first_of}
 use Rattle.hal_code.specs.Machine.{after_answer}
+use Rattle.hal_code.specs.declared.image.ImageParts.{ImageParts}
+use Rattle.hal_sound_code.specs.Entries.{on_count}
 use Rattle.hal_sound_code.proofs.Rights.{whole}
 use Rattle.hal_right_values.specs.Finding.{HaveCells}
 use Rattle.hal_right_values.specs.Ranges.{AreInRange}
 use Rattle.hal_right_values.proofs.Bounds.{begin_within}
+use Rattle.hal_machine.specs.Blocks.{HasAsMuch}
 use Rattle.hal_runner.specs.declared.reply.Reply.{Reply}
 use Rattle.hal_runner.specs.declared.runner.Runner.{Runner}
 use Rattle.hal_runner.specs.Replies.{reply_seen}
 use Rattle.hal_runner.specs.Runners.{asked_seen}
-use Rattle.hal_runner.specs.Ways.{AnswerFits, ShapesFit, WayFits}
+use Rattle.hal_runner.specs.Ways.{IsAmple, AnswerFits, ShapesFit, WayFits}
 use Rattle.hal_right_ways.specs.Timed.{timed}
 use Rattle.hal_right_ways.proofs.Turnless.{course_alike, timed_alike}
 use Rattle.hal_right_ways.proofs.Ways.{answer_fits, answered_way, shapes_fit}
@@ -100,8 +103,8 @@ module _ (s : Setting) (run : CanRun s) where
 
     -- one answer more is taken in
     pub goes_on : (r after : Runner) (a : Answered) (waiting : List Answered) → IsAt s r (a ∷ waiting) told
-        → ((answers : List Answered) → asked_seen s.image r ≡ course s answers → asked_seen s.image after ≡ course s (answers ++ (a ∷ []))) → IsAt s after waiting told
-    goes_on r after a waiting at goes = of_next (next_of a waiting at.rest at.waits)
+        → ((answers : List Answered) → asked_seen s.image r ≡ course s answers → asked_seen s.image after ≡ course s (answers ++ (a ∷ []))) → after.machine.blocks.room ≡ r.machine.blocks.room → IsAt s after waiting told
+    goes_on r after a waiting at goes same = of_next (next_of a waiting at.rest at.waits)
       where
         of_next : Next a waiting at.rest → IsAt s after waiting told
         of_next next = record {
@@ -113,6 +116,7 @@ module _ (s : Setting) (run : CanRun s) where
               ∙ ap (λ (one : Answered). course s (answers_told at.taken ++ (one ∷ []))) next.same
               ∙ sym (course_alike s (answers_told at.taken) next.one.1 (reply_seen next.one.0))
               ∙ ap (λ (answers : List Answered). course s answers) (sym (map-append answer_told at.taken (next.one ∷ [])));
+          ample = subst (IsAmple s.image) (sym same) at.ample;
         }
 
 -- where nothing waits, a runner took in all that was told
@@ -126,8 +130,23 @@ took_all s r told at =
     ∙ ap (λ (l : List (Reply × ℕ)). course s (answers_told l)) (sym (at.whole ∙ ap (λ (l : List (Reply × ℕ)). at.taken ++ l) (none_left at.rest at.waits) ∙ append-nil at.taken))
 
 -- a process before any answer
-pub at_first : (s : Setting) (r : Runner) → asked_seen s.image r ≡ course s [] → IsAt s r [] []
-at_first s r is = record { taken = []; rest = []; whole = refl; waits = refl; is = is }
+pub at_first : (s : Setting) (r : Runner) → asked_seen s.image r ≡ course s [] → IsAmple s.image r.machine.blocks.room → IsAt s r [] []
+at_first s r is ample = record { taken = []; rest = []; whole = refl; waits = refl; is = is; ample = ample }
+
+-- a process once more
+pub at_copy : (s : Setting) (r copy : Runner) (waiting : List Answered) (told : List (Reply × ℕ)) → ((image : ImageParts) → asked_seen image copy ≡ asked_seen image r) → HasAsMuch r.machine.blocks.room copy.machine.blocks.room
+    → IsAt s r waiting told → IsAt s copy waiting told
+at_copy s r copy waiting told same room at = record {
+  taken = at.taken;
+  rest = at.rest;
+  whole = at.whole;
+  waits = at.waits;
+  is = same s.image ∙ at.is;
+  ample = (more (2 * length s.image.blocks) r.machine.blocks.room.blocks copy.machine.blocks.room.blocks at.ample.0 room.0, more (2 * on_count s.image.code) r.machine.blocks.room.entries copy.machine.blocks.room.entries at.ample.1 room.1);
+}
+  where
+    more : (n a b : ℕ) → n < a → a ≤ b → n < b
+    more n a b low few = omega (arith, low, few)
 
 -- one answer more is told
 at_more : (s : Setting) (r : Runner) (waiting : List Answered) (told : List (Reply × ℕ)) (one : Reply × ℕ) → IsAt s r waiting told → IsAt s r (waiting ++ (reply_seen one.0 ∷ [])) (told ++ (one ∷ []))
@@ -137,6 +156,7 @@ at_more s r waiting told one at = record {
   whole = ap (λ (l : List (Reply × ℕ)). l ++ (one ∷ [])) at.whole ∙ append_assoc at.taken at.rest (one ∷ []);
   waits = ap (λ (l : List Answered). l ++ (reply_seen one.0 ∷ [])) at.waits ∙ sym (map-append (λ (each : Reply × ℕ). reply_seen each.0) at.rest (one ∷ []));
   is = at.is;
+  ample = at.ample;
 }
 
 stands_more : (s : Setting) (o : Option Runner) (waiting : List Answered) (told : List (Reply × ℕ)) (one : Reply × ℕ) → StandsAt s o waiting told → StandsAt s o (waiting ++ (reply_seen one.0 ∷ [])) (told ++ (one ∷ []))

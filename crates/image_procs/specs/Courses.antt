@@ -12,6 +12,7 @@ use Rattle.hal_runner.specs.declared.reply.Reply.{Reply}
 use Rattle.hal_runner.specs.declared.runner.Runner.{Runner}
 use Rattle.hal_runner.specs.Replies.{reply_seen}
 use Rattle.hal_runner.specs.Runners.{asked_seen}
+use Rattle.hal_runner.specs.Ways.{IsAmple}
 use Rattle.exec_model.specs.Processes as processes
 use Rattle.image_procs.specs.declared.course.Course.{Course}
 use Rattle.image_procs.specs.Tellings.{answers_told, replies_in, look_seen}
@@ -30,13 +31,14 @@ pub record CanRun (s : Setting) : Type 0 where
 abbrev pub AllFit : Setting → List (Reply × ℕ) → Type 0
 AllFit s told = FitAll (load_of s.turns s.image) s.process (answers_told told)
 
--- a runner took in all that was told but for these replies
+-- a runner took in all that was told but for these replies, and has room for all blocks that it enters
 pub record IsAt (s : Setting) (r : Runner) (waiting : List Answered) (told : List (Reply × ℕ)) : Type 0 where
   pub taken : List (Reply × ℕ)
   pub rest : List (Reply × ℕ)
   pub whole : told ≡ taken ++ rest
   pub waits : waiting ≡ replies_in rest
   pub is : asked_seen s.image r ≡ course s (answers_told taken)
+  pub ample : IsAmple s.image r.machine.blocks.room
 
 -- so did one that may be there
 abbrev pub StandsAt : Setting → Option Runner → List Answered → List (Reply × ℕ) → Type 0

@@ -67,6 +67,7 @@ fn turns_made(setting: &Prepared<'_>, left: u32) -> u16
 
 impl Course {
     /// A process before any answer.
+    #[tactic(auto, using(crate::proofs::Standing::at_first))]
     pub(crate) fn start(setting: &Prepared<'_>) -> Result<Course, AllocError>
         requires { CanRun (prepared_seen setting.now) }
         ensures course { IfOk result (λ one. IsCourse (prepared_seen setting.now) (parts one)) }
@@ -124,6 +125,7 @@ impl Course {
     }
 
     /// The same process once more, which was given all answers.
+    #[tactic(auto, using(crate::proofs::Standing::at_copy))]
     fn copy(&self, setting: &Prepared<'_>) -> Result<Runner, AllocError>
         requires run { CanRun (prepared_seen setting.now) }
         requires ready { AreReady setting.now.plain.image.now setting.now.ready.now }

@@ -18,11 +18,14 @@ answer-requires-clause-way c =
     way_on (prepared_seen c.args.setting.now) c.requires.run c.args.told.now.items c.requires.fit c.loop-reply.runner (reply_seen c.in-Some.reply) (map reply_seen c.pop_front.new.self.items)
     (subst (λ (waiting : List Answered). IsAt (prepared_seen c.args.setting.now) c.loop-reply.runner waiting c.args.told.now.items) (ap (map reply_seen) c.in-Some.ensures.items) c.loop-reply.invariant.0)
 
+pub answer-requires-clause-room : goal.answer-requires-clause-room
+answer-requires-clause-room c = c.loop-reply.invariant.0.ample
+
 pub loop-reply-preserved : goal.loop-reply-preserved
 loop-reply-preserved c = (
   goes_on (prepared_seen c.args.setting.now) c.requires.run c.args.told.now.items c.requires.fit c.loop-reply.runner c.answer.new.self (reply_seen c.in-Some.reply) (map reply_seen c.pop_front.new.self.items)
       (subst (λ (waiting : List Answered). IsAt (prepared_seen c.args.setting.now) c.loop-reply.runner waiting c.args.told.now.items) (ap (map reply_seen) c.in-Some.ensures.items) c.loop-reply.invariant.0)
-      (λ answers is. c.in_ok-answer.ensures answers is),
+      (λ answers is. c.in_ok-answer.ensures.does answers is) c.answer.ensures.room,
   c.in-Some.ensures.capacity ∙ c.loop-reply.invariant.1,
   omega (arith, c.in-Some.ensures.len, c.loop-reply.invariant.2),
 )

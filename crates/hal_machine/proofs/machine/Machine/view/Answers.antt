@@ -6,10 +6,10 @@ use Rattle.hal_right_values.specs.Spreading.{spread}
 use Rattle.hal_machine.proofs.Spreads.{saturated_same, viewed_spread}
 use Rattle.hal_machine.proofs.machine.Machine.view.Goals as goal
 
-pub returns : goal.returns
-returns c =
+pub returns-clause-does : goal.returns-clause-does
+returns-clause-does c =
     subst (λ (step : Step). Does c.args.setting.now.image.now c.point_at.result c.point_at.new.self step)
     (ap (pointed_at (setting_seen c.args.setting.now) c.args.view.now (core_seen c.args.self.now)) c.spread_of-at.ensures
     ∙ saturated_same (setting_seen c.args.setting.now) c.args.view.now (core_seen c.args.self.now) (spread c.args.view.now.dimensions (stack_seen c.args.self.now.operands)) c.requires.room
     ∙ sym (viewed_spread (setting_seen c.args.setting.now) c.args.view.now (core_seen c.args.self.now)))
-    c.point_at.ensures
+    c.point_at.ensures.does

@@ -24,11 +24,14 @@ answer-requires-clause-way c =
     subst (λ (store : List Value). WayFits s (after_answer s one.wait (Block store 0) one.core)) (sym c.in_ok-values_of.ensures)
     (block_way s c.requires.run c.args.self.now.told.items c.in_ok-copy.copy c.args.store.now c.requires.course.fit c.in_ok-copy.ensures c.requires.asks c.requires.snapshot)
 
+pub answer-requires-clause-room : goal.answer-requires-clause-room
+answer-requires-clause-room c = c.in_ok-copy.ensures.ample
+
 pub returns-clause-found : goal.returns-clause-found
 returns-clause-found c =
     let s = prepared_seen c.args.setting.now in
     let told = c.args.self.now.told.items in
     ap (λ (n : ℕ). block s (answers_told told) c.args.store.now n) (c.turns_made-turns.ensures ∙ ap (λ (left : ℕ). s.turns - left) c.turns.ensures)
     ∙ block_found s (answers_told told) c.args.store.now (asked_seen s.image c.answer.new.self) c.requires.asks
-    (c.in_ok-answer.ensures (answers_told told) (took_all s c.in_ok-copy.copy told c.in_ok-copy.ensures) ∙ ap (λ (store : List Value). course s (answers_told told ++ (Block store 0 ∷ []))) c.in_ok-values_of.ensures)
+    (c.in_ok-answer.ensures.does (answers_told told) (took_all s c.in_ok-copy.copy told c.in_ok-copy.ensures) ∙ ap (λ (store : List Value). course s (answers_told told ++ (Block store 0 ∷ []))) c.in_ok-values_of.ensures)
     ∙ ap Some (sym (c.in_ok-writes.ensures ∙ c.writes.ensures))
