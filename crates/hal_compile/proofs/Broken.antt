@@ -21,7 +21,7 @@ use Rattle.hal_calls.specs.Rules.{call_rows}
 use Rattle.hal_calls.specs.Faults.{IsMiscalledBy, IsOfNoProgram}
 use Rattle.hal_limits.specs.Limits.{BreaksLimit, IsBeyondBy, IsWithin}
 use Rattle.hal_code.specs.declared.image.ImageParts.{ImageParts}
-use Rattle.hal_compile.specs.Compiling.{Compiles, ExceedsLimit, FilesBreakBy, IsChecked, IsLawful, IsToldAt, IsUncompiled, Miscalls, OversteppedBy}
+use Rattle.hal_compile.specs.Compiling.{Compiles, ExceedsLimit, FilesBreakBy, IsChecked, IsLawful, IsToldAt, IsToldOfCells, IsUncompiled, Miscalls, Overfills, OversteppedBy}
 use Rattle.hal_compile.specs.Reading.{AreRead, HaveFewWords}
 use Rattle.hal_compile.specs.Texts.{BreakBy, HasMeaning, MakesImage}
 use Rattle.hal_compile.proofs.Meanings.{one_meaning}
@@ -78,8 +78,13 @@ overstepped ps files (fault.Memory error) same oversteps = tt
 -- 410
 pub without_image : (files : List File) (place : Place) (why : Fault) → IsChecked (phrases_of files) → IsToldAt place why → IsUncompiled files place → FilesBreakBy files why
 without_image files place (fault.Broken refusal) checked told lacks =
-    inr (inr (inr (inr (inr (inr (record { checked = checked; rule_is = told.0; uncompiled = subst (λ (at : Place). IsUncompiled files at) (sym told.1) lacks }))))))
+    inr (inr (inr (inr (inr (inr (inl (record { checked = checked; rule_is = told.0; uncompiled = subst (λ (at : Place). IsUncompiled files at) (sym told.1) lacks })))))))
 without_image files place (fault.Memory error) checked told lacks = absurd told
+
+-- 951 by an image
+pub overfilled : (files : List File) (why : Fault) → IsChecked (phrases_of files) → IsToldOfCells why → Overfills files → FilesBreakBy files why
+overfilled files (fault.Broken refusal) checked told overfills = inr (inr (inr (inr (inr (inr (inr (record { checked = checked; rule_is = told.0; at = told.1; overfills = overfills })))))))
+overfilled files (fault.Memory error) checked told overfills = absurd told
 
 -- the phrases of files are counted
 pub counted : (ps : List Phrase) (files : List File) → ps ≡ phrases_of files → IsCounted ps

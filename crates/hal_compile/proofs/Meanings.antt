@@ -1,5 +1,5 @@
 -- A set of texts has one meaning at most, and one with a meaning breaks no rule.
-use Rattle.std.proofs.Common.{◌≡◌, ℕ, ◌+◌, Bool, true, false, inl, inr, List, [], ◌∷◌, map, length, Some, Ok, Err, refl, ap, ap₂, sym, subst, ◌∙◌, arith}
+use Rattle.std.proofs.Common.{◌≡◌, ℕ, ◌+◌, Bool, true, false, inl, inr, List, [], ◌∷◌, map, length, Option, Some, Result, Ok, Err, refl, ap, ap₂, sym, subst, ◌∙◌, arith}
 use Rattle.hal_base.specs.declared.refusal.Place.{Place}
 use Rattle.hal_base.specs.declared.refusal.Refusal.{Refusal}
 use Rattle.hal_words.specs.declared.word.Token.{Token}
@@ -15,9 +15,12 @@ use Rattle.hal_phrases.specs.Phrases.{Phrase}
 use Rattle.hal_phrases.specs.GatheredUnits.{phrases_of}
 use Rattle.hal_constants.specs.Known.{Known, known}
 use Rattle.hal_limits.specs.Limits.{IsWithin, BreaksLimit}
+use Rattle.hal_code.specs.declared.image.ImageParts.{ImageParts}
 use Rattle.hal_calls.specs.Programs.{has_program}
 use Rattle.hal_parse.specs.Parsed.{IsFileOf}
-use Rattle.hal_compile.specs.Compiling.{Compiles, FilesBreak, IsChecked, IsUncompiled, linked_in}
+use Rattle.hal_verify.specs.Limits.{spread_kept}
+use Rattle.hal_verify.proofs.Limits.{right_spread}
+use Rattle.hal_compile.specs.Compiling.{Compiles, FilesBreak, IsChecked, IsUncompiled, Overfills, linked_in}
 use Rattle.hal_compile.specs.Reading.{IsRead, AreRead, HasWords, HaveWords, TextBreaks, TextsBreak}
 use Rattle.hal_compile.specs.Texts.{Breaks, ExceedsWords, HasMeaning}
 
@@ -111,10 +114,19 @@ compiled_lacks_none files image place compiled (inl told) = clash (linked_in fil
   where
     clash : (found : _) → found ≡ Ok image → found ≡ Err (Some place) → ⊥
     clash found ok err = cc
-compiled_lacks_none files image place compiled (inr (at, there, none)) = none image compiled
+compiled_lacks_none files image place compiled (inr (at, there, none, few)) = none image compiled
 
 both_ways : (b : Bool) → b ≡ true → b ≡ false → ⊥
 both_ways b is not = cc
+
+-- nor has it too many cells
+one_image : (wanted : Result ImageParts (Option Place)) (image other : ImageParts) → wanted ≡ Ok image → wanted ≡ Ok other → image ≡ other
+one_image wanted image other is also = cc
+
+compiled_has_room : (files : List File) (image : ImageParts) → Compiles files image → Overfills files → ⊥
+compiled_has_room files image compiled overfills =
+    let same = one_image (linked_in files) image overfills.spreads.image compiled.linked overfills.spreads.there in
+    both_ways (spread_kept image) (right_spread image compiled.runs.right) (ap (λ (made : ImageParts). spread_kept made) same ∙ overfills.spreads.exceeded)
 
 unbroken : (files : List File) (image : _) (refusal : Refusal) → IsChecked (phrases_of files) → Compiles files image → FilesBreak files refusal → ⊥
 unbroken files image refusal checked compiled (inl breaks) = checked.lawful.typed.named refusal.rule.0 refusal.place breaks
@@ -124,7 +136,8 @@ unbroken files image refusal checked compiled (inr (inr (inr (inl breaks)))) = c
 unbroken files image refusal checked compiled (inr (inr (inr (inr (inl (inl breaks)))))) = checked.called refusal.rule.0 refusal.place breaks
 unbroken files image refusal checked compiled (inr (inr (inr (inr (inl (inr lacks)))))) = both_ways (has_program (phrases_of files)) checked.program lacks.lacks
 unbroken files image refusal checked compiled (inr (inr (inr (inr (inr (inl exceeds)))))) = within_limits (phrases_of files) (known (phrases_of files)) refusal.rule.0 checked.within exceeds.exceeded
-unbroken files image refusal checked compiled (inr (inr (inr (inr (inr (inr lacks)))))) = compiled_lacks_none files image refusal.place compiled lacks.uncompiled
+unbroken files image refusal checked compiled (inr (inr (inr (inr (inr (inr (inl lacks))))))) = compiled_lacks_none files image refusal.place compiled lacks.uncompiled
+unbroken files image refusal checked compiled (inr (inr (inr (inr (inr (inr (inr exceeds))))))) = compiled_has_room files image compiled exceeds.overfills
 
 pub meaning_breaks_nothing : (texts : List (List ℕ)) (files : List File) (refusal : Refusal) → HasMeaning texts files → Breaks texts refusal → ⊥
 meaning_breaks_nothing texts files refusal has (inl breaks) = all_break_nothing 0 texts files refusal has.read breaks

@@ -14,7 +14,10 @@ use Rattle.hal_link.specs.Linking.{image_of}
 use Rattle.hal_link.specs.CalledViews.{views_of}
 use Rattle.hal_meaning.specs.Sets.{Set, beginning, set_of}
 use Rattle.hal_values.specs.Loads.{turn_limit}
-use Rattle.hal_compile.specs.Compiling.{CanRun, Fits, IsImageOf, linked_in, set_in}
+use Rattle.hal_verify.specs.Limits.{spread_kept}
+use Rattle.hal_compile.specs.declared.lacking.Lacking.{Lacking}
+use Rattle.hal_compile.specs.declared.lacking.Lacking.TheVariants as lacking
+use Rattle.hal_compile.specs.Compiling.{CanRun, Fits, IsImageOf, Overfills, Spreads, linked_in, set_in}
 use Rattle.hal_compile.specs.Fitness.{is_narrow}
 use Rattle.hal_compile.proofs.Fitting.{narrow}
 
@@ -33,26 +36,35 @@ clash b is not = cc
 pub fits : (image : ImageParts) (told : Bool) → IsTrue told ↔ CanRun image → told ≡ true → Fits (Ok image) (Ok image)
 fits image told by is = (refl, by.0 is)
 
-pub cannot_run : (image : ImageParts) (told : Bool) → IsTrue told ↔ CanRun image → told ≡ false → Fits (Ok image) (Err beginning)
-cannot_run image told by is = inr (refl, (λ at same. there at same), λ other same runs. clash told (by.1 (runs_as other same runs)) is)
+-- one image is found
+one_found : (image other : ImageParts) → found image ≡ found other → image ≡ other
+one_found image other same = cc
+
+pub cannot_run : (image : ImageParts) (told : Bool) → spread_kept image ≡ true → IsTrue told ↔ CanRun image → told ≡ false → Fits (Ok image) (Err (lacking.Code beginning))
+cannot_run image told few by is = inr (refl, (λ at same. there at same), (λ other same runs. clash told (by.1 (runs_as other same runs)) is), λ beyond. within beyond)
   where
     there : (at : Place) → found image ≡ missing at → ⊥
     there at same = cc
 
     runs_as : (other : ImageParts) → found image ≡ found other → CanRun other → CanRun image
-    runs_as other same runs =
-        let equal : image ≡ other = cc in
-        subst (λ (one : ImageParts). CanRun one) (sym equal) runs
+    runs_as other same runs = subst (λ (one : ImageParts). CanRun one) (sym (one_found image other same)) runs
+
+    within : Spreads (found image) → ⊥
+    within beyond = clash (spread_kept image) few (ap spread_kept (one_found image beyond.image beyond.there) ∙ beyond.exceeded)
+
+-- an image of too many cells
+pub spreads : (image : ImageParts) (told : Bool) → told ≡ spread_kept image → told ≡ false → Fits (Ok image) (Err lacking.Room)
+spreads image told is not = record { image = image; there = refl; exceeded = sym is ∙ not }
 
 -- what linking told
-pub linked_image : (wanted : Result ImageParts (Option Place)) (image : ImageParts) (answer : Result (Result ImageParts Place) AllocError) → wanted ≡ Ok image → IfOk answer (Fits (Ok image)) → IfOk answer (Fits wanted)
+pub linked_image : (wanted : Result ImageParts (Option Place)) (image : ImageParts) (answer : Result (Result ImageParts Lacking) AllocError) → wanted ≡ Ok image → IfOk answer (Fits (Ok image)) → IfOk answer (Fits wanted)
 linked_image wanted image answer is fit = subst (λ (w : Result ImageParts (Option Place)). IfOk answer (Fits w)) (sym is) fit
 
-pub told_there : (wanted : Result ImageParts (Option Place)) (place : Place) → wanted ≡ Err (Some place) → Fits wanted (Err place)
+pub told_there : (wanted : Result ImageParts (Option Place)) (place : Place) → wanted ≡ Err (Some place) → Fits wanted (Err (lacking.Code place))
 told_there wanted place is = inl is
 
-pub told_nowhere : (wanted : Result ImageParts (Option Place)) → wanted ≡ Err None → Fits wanted (Err beginning)
-told_nowhere wanted is = inr (refl, (λ at also. there at (sym is ∙ also)), λ image also runs. apart image (sym is ∙ also))
+pub told_nowhere : (wanted : Result ImageParts (Option Place)) → wanted ≡ Err None → Fits wanted (Err (lacking.Code beginning))
+told_nowhere wanted is = inr (refl, (λ at also. there at (sym is ∙ also)), (λ image also runs. apart image (sym is ∙ also)), λ beyond. apart beyond.image (sym is ∙ beyond.there))
   where
     there : (at : Place) → nowhere ≡ missing at → ⊥
     there at same = cc
@@ -61,7 +73,7 @@ told_nowhere wanted is = inr (refl, (λ at also. there at (sym is ∙ also)), λ
     apart image same = cc
 
 -- linking the set of files is linking them
-pub linked_set : (files : List File) (s : Set) (answer : Result (Result ImageParts Place) AllocError) → s ≡ set_of turn_limit files → IfOk answer (Fits (image_of s (views_of s))) → IfOk answer (Fits (linked_in files))
+pub linked_set : (files : List File) (s : Set) (answer : Result (Result ImageParts Lacking) AllocError) → s ≡ set_of turn_limit files → IfOk answer (Fits (image_of s (views_of s))) → IfOk answer (Fits (linked_in files))
 unfolding linked_in set_in
 linked_set files s answer is fit = subst (λ (one : Set). IfOk answer (Fits (image_of one (views_of one)))) is fit
 
@@ -79,12 +91,14 @@ set_as files ps vs l bs turns p v laid b t =
     ∙ ap (λ (n : ℕ). the_set (phrases_of files) (known (phrases_of files)) (layout_of (phrases_of files) (known (phrases_of files))) (bodies_of files (phrases_of files)) n) t
 
 -- where tables have room, what linking came to tells whether there is an image
-found_by : (files : List File) (answer : Result ImageParts Place) → IsNarrow (layout_of (phrases_of files) (known (phrases_of files))) → Fits (linked_in files) answer → IsImageOf files answer
+found_by : (files : List File) (answer : Result ImageParts Lacking) → IsNarrow (layout_of (phrases_of files) (known (phrases_of files))) → Fits (linked_in files) answer → IsImageOf files answer
 found_by files (Ok image) room fit = record { linked = fit.0; narrow = room; runs = fit.1 }
-found_by files (Err place) room (inl told) = inl told
-found_by files (Err place) room (inr (at, there, none)) = inr (at, (λ one narrow_there told. there one told), λ image compiled. none image compiled.linked compiled.runs)
+found_by files (Err (lacking.Code place)) room (inl told) = inl told
+found_by files (Err (lacking.Code place)) room (inr (at, there, none, few)) =
+    inr (at, (λ one narrow_there told. there one told), (λ image compiled. none image compiled.linked compiled.runs), λ overfills. few overfills.spreads)
+found_by files (Err lacking.Room) room fit = record { narrow = room; spreads = fit }
 
-pub image_found : (files : List File) (answer : Result (Result ImageParts Place) AllocError) (l : Layout) → l ≡ layout_of (phrases_of files) (known (phrases_of files)) → IsNarrow l
+pub image_found : (files : List File) (answer : Result (Result ImageParts Lacking) AllocError) (l : Layout) → l ≡ layout_of (phrases_of files) (known (phrases_of files)) → IsNarrow l
     → IfOk answer (Fits (linked_in files)) → IfOk answer (IsImageOf files)
 image_found files (Ok found) l same room fit = found_by files found (subst IsNarrow same room) fit
 image_found files (Err error) l same room fit = tt
@@ -93,10 +107,11 @@ pub room_for : (l : Layout) (told : Bool) → told ≡ is_narrow l → told ≡ 
 room_for l told is room = (narrow l).0 (sym is ∙ room)
 
 -- where they have none, there is none
-pub too_wide : (files : List File) (l : Layout) (told : Bool) → l ≡ layout_of (phrases_of files) (known (phrases_of files)) → told ≡ is_narrow l → told ≡ false → IsImageOf files (Err beginning)
+pub too_wide : (files : List File) (l : Layout) (told : Bool) → l ≡ layout_of (phrases_of files) (known (phrases_of files)) → told ≡ is_narrow l → told ≡ false → IsImageOf files (Err (lacking.Code beginning))
 too_wide files l told same is wide =
     inr (
       refl,
       (λ at narrow_there found_there. clash (is_narrow l) ((narrow l).1 (subst IsNarrow (sym same) narrow_there)) (sym is ∙ wide)),
-      λ image compiled. clash (is_narrow l) ((narrow l).1 (subst IsNarrow (sym same) compiled.narrow)) (sym is ∙ wide),
+      (λ image compiled. clash (is_narrow l) ((narrow l).1 (subst IsNarrow (sym same) compiled.narrow)) (sym is ∙ wide)),
+      λ overfills. clash (is_narrow l) ((narrow l).1 (subst IsNarrow (sym same) overfills.narrow)) (sym is ∙ wide),
     )

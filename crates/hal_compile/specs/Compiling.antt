@@ -1,5 +1,5 @@
 -- When a set of files has an image, and which rules it breaks otherwise.
-use Rattle.std.specs.Prelude.{◌≡◌, ◌⊎◌, ℕ, true, List, Option, Some, None, Result, Ok, Err, length, if◌then◌else◌, ⊤}
+use Rattle.std.specs.Prelude.{◌≡◌, ◌⊎◌, ℕ, true, false, List, Option, Some, None, Result, Ok, Err, length, if◌then◌else◌, ⊤}
 use Rattle.hal_base.specs.declared.refusal.Place.{Place}
 use Rattle.hal_base.specs.declared.refusal.Refusal.{Refusal}
 use Rattle.hal_base.specs.declared.refusal.Fault.{Fault}
@@ -23,9 +23,11 @@ use Rattle.hal_code.specs.declared.image.ImageParts.{ImageParts}
 use Rattle.hal_code.specs.Right.{IsRight}
 use Rattle.hal_right_values.specs.Finding.{HaveCells}
 use Rattle.hal_object.specs.Images.{IsSpelled}
-use Rattle.hal_verify.specs.Limits.{first_fault}
+use Rattle.hal_verify.specs.Limits.{first_fault, spread_kept}
 use Rattle.hal_link.specs.Linking as linking
 use Rattle.hal_link.specs.CalledViews.{views_of}
+use Rattle.hal_compile.specs.declared.lacking.Lacking.{Lacking}
+use Rattle.hal_compile.specs.declared.lacking.Lacking.TheVariants as lacking
 use Rattle.hal_compile.specs.Fitness.{have_cells}
 
 -- the set of these files, whose UPDATE blocks have as many turns as they may have
@@ -70,25 +72,41 @@ pub record Compiles (files : List File) (image : ImageParts) : Type 0 where
   pub narrow : IsNarrow (layout_of (phrases_of files) (known (phrases_of files)))
   pub runs : CanRun image
 
--- the files have no image: this is the place of the first phrase that has no code yet, or the beginning of the set where all have code or the tables have no room
+-- what linking came to is an image whose shapes have too many cells, or whose views give too many
+pub record Spreads (wanted : Result ImageParts (Option Place)) : Type 0 where
+  pub image : ImageParts
+  pub there : wanted ≡ Ok image
+  pub exceeded : spread_kept image ≡ false
+
+-- the image of the files is such a one, and their tables have room
+pub record Overfills (files : List File) : Type 0 where
+  pub narrow : IsNarrow (layout_of (phrases_of files) (known (phrases_of files)))
+  pub spreads : Spreads (linked_in files)
+
+-- the files have no image: this is the place of the first phrase that has no code yet, or the beginning of the set where all have code or the tables have no room,
+-- and no more cells are reached than may be
 abbrev pub IsUncompiled : List File → Place → Type 0
 IsUncompiled files place =
     (linked_in files ≡ Err (Some place))
-    ⊎ ((place ≡ beginning) × ((at : Place) → IsNarrow (layout_of (phrases_of files) (known (phrases_of files))) → linked_in files ≡ Err (Some at) → ⊥) × ((image : ImageParts) → Compiles files image → ⊥))
+    ⊎ ((place ≡ beginning) × ((at : Place) → IsNarrow (layout_of (phrases_of files) (known (phrases_of files))) → linked_in files ≡ Err (Some at) → ⊥) × ((image : ImageParts) → Compiles files image → ⊥)
+    × (Overfills files → ⊥))
 
 -- what linking came to gives an image that can run, or lacks one, as at this place
-abbrev pub Lacks : Result ImageParts (Option Place) → Place → Type 0
-Lacks wanted place =
-    (wanted ≡ Err (Some place)) ⊎ ((place ≡ beginning) × ((at : Place) → wanted ≡ Err (Some at) → ⊥) × ((image : ImageParts) → wanted ≡ Ok image → CanRun image → ⊥))
+abbrev pub LacksCode : Result ImageParts (Option Place) → Place → Type 0
+LacksCode wanted place =
+    (wanted ≡ Err (Some place))
+    ⊎ ((place ≡ beginning) × ((at : Place) → wanted ≡ Err (Some at) → ⊥) × ((image : ImageParts) → wanted ≡ Ok image → CanRun image → ⊥) × (Spreads wanted → ⊥))
 
-abbrev pub Fits : Result ImageParts (Option Place) → Result ImageParts Place → Type 0
+abbrev pub Fits : Result ImageParts (Option Place) → Result ImageParts Lacking → Type 0
 Fits wanted (Ok image) = (wanted ≡ Ok image) × CanRun image
-Fits wanted (Err place) = Lacks wanted place
+Fits wanted (Err (lacking.Code place)) = LacksCode wanted place
+Fits wanted (Err lacking.Room) = Spreads wanted
 
--- the image of files, or the place that lacks code
-abbrev pub IsImageOf : List File → Result ImageParts Place → Type 0
+-- the image of files, or what they lack
+abbrev pub IsImageOf : List File → Result ImageParts Lacking → Type 0
 IsImageOf files (Ok image) = Compiles files image
-IsImageOf files (Err place) = IsUncompiled files place
+IsImageOf files (Err (lacking.Code place)) = IsUncompiled files place
+IsImageOf files (Err lacking.Room) = Overfills files
 
 -- one of these phrases breaks a row of a table of rules
 abbrev pub BreaksRow : List Row → List Phrase → Refusal → Type 0
@@ -115,11 +133,18 @@ pub record LacksImage (files : List File) (refusal : Refusal) : Type 0 where
   pub rule_is : refusal.rule.0 ≡ 410
   pub uncompiled : IsUncompiled files refusal.place
 
--- the files break a rule of names, of templates, of types, of locks, of calls, of limits, or 410
+-- rule 951 of an image, told where no other is broken
+pub record ExceedsImage (files : List File) (refusal : Refusal) : Type 0 where
+  pub checked : IsChecked (phrases_of files)
+  pub rule_is : refusal.rule.0 ≡ 951
+  pub at : refusal.place ≡ beginning
+  pub overfills : Overfills files
+
+-- the files break a rule of names, of templates, of types, of locks, of calls, of limits, 410, or 951 by their image
 abbrev pub FilesBreak : List File → Refusal → Type 0
 FilesBreak files refusal =
     BreaksRow rows (phrases_of files) refusal ⊎ BreaksRow template_rows (phrases_of files) refusal ⊎ BreaksRow type_rows (phrases_of files) refusal ⊎ BreaksRow lock_rows (phrases_of files) refusal
-    ⊎ Miscalls (phrases_of files) refusal ⊎ ExceedsLimit (phrases_of files) refusal ⊎ LacksImage files refusal
+    ⊎ Miscalls (phrases_of files) refusal ⊎ ExceedsLimit (phrases_of files) refusal ⊎ LacksImage files refusal ⊎ ExceedsImage files refusal
 
 abbrev pub FilesBreakBy : List File → Fault → Type 0
 FilesBreakBy files (fault.Broken refusal) = FilesBreak files refusal
@@ -129,6 +154,11 @@ FilesBreakBy files (fault.Memory error) = ⊤
 abbrev pub IsToldAt : Place → Fault → Type 0
 IsToldAt place (fault.Broken refusal) = (refusal.rule.0 ≡ 410) × (refusal.place ≡ place)
 IsToldAt place (fault.Memory error) = ⊥
+
+-- rule 951 at the beginning
+abbrev pub IsToldOfCells : Fault → Type 0
+IsToldOfCells (fault.Broken refusal) = (refusal.rule.0 ≡ 951) × (refusal.place ≡ beginning)
+IsToldOfCells (fault.Memory error) = ⊥
 
 -- memory is wanting
 abbrev pub IsOfMemory : Fault → Type 0

@@ -9,9 +9,10 @@ ghost use Rattle.hal_constants.specs.Known as facts;
 ghost use Rattle.hal_constants.specs.SeenKnown.{seen_known};
 ghost use Rattle.hal_templates.specs.Faults.{IsMismatchedBy};
 ghost use Rattle.hal_templates.specs.Rules.{template_rows};
-ghost use Rattle.hal_compile.specs.Compiling.{Compiles, FilesBreakBy, IsChecked, IsLawful, IsOfMemory, IsToldAt, OversteppedBy};
+ghost use Rattle.hal_compile.specs.Compiling.{Compiles, FilesBreakBy, IsChecked, IsLawful, IsOfMemory, IsToldAt, IsToldOfCells, OversteppedBy};
 
-use crate::linking::image_in;
+use crate::lacking::Lacking;
+use crate::linking::{BEGINNING, image_in};
 use hal_base::{Fault, Place, Refusal, Rule};
 use hal_calls::{check_calls, check_program};
 use hal_code::ImageParts;
@@ -28,6 +29,19 @@ use std::alloc::{AllocError, Global};
 
 /// The rule that a set without an image breaks.
 const UNCOMPILED: Rule = Rule(410);
+
+/// The rule that a set breaks that has too many cells.
+const CELLS: Rule = Rule(951);
+
+/// Rule 951, broken at the beginning of the set.
+fn overfull() -> Fault
+    ensures { IsToldOfCells result }
+{
+    Fault::Broken(Refusal {
+        rule: CELLS,
+        place: BEGINNING,
+    })
+}
 
 /// Rule 410, broken at this place.
 fn uncompiled(place: Place) -> Fault
@@ -101,8 +115,8 @@ fn checked_constants(alloc: Global, names: &Names<'_>) -> Result<Known, Fault>
     Ok(known)
 }
 
-/// The image of files that keep the rules but perhaps 410, or this rule, at its place; or want of memory.
-#[tactic(auto, using(crate::proofs::Broken::counted, crate::proofs::Broken::without_image))]
+/// The image of files that keep the rules, but perhaps 410, or 951 by their image; or the one of these that they break, at its place; or want of memory.
+#[tactic(auto, using(crate::proofs::Broken::counted, crate::proofs::Broken::without_image, crate::proofs::Broken::overfilled))]
 fn image_checked(
     alloc: Global,
     files: &[File],
@@ -117,7 +131,8 @@ fn image_checked(
 {
     match image_in(alloc, files, names, known) {
         Ok(Ok(image)) => Ok(image),
-        Ok(Err(place)) => Err(uncompiled(place)),
+        Ok(Err(Lacking::Code(place))) => Err(uncompiled(place)),
+        Ok(Err(Lacking::Room)) => Err(overfull()),
         Err(error) => Err(Fault::Memory(error)),
     }
 }

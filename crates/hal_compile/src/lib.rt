@@ -4,6 +4,7 @@
 mod compiling;
 mod faults;
 mod fitness;
+mod lacking;
 mod laws;
 mod linking;
 mod reading;

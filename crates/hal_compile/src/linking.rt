@@ -1,6 +1,6 @@
 //! The image of a set that is known to keep the rules.
 
-ghost use Rattle.std.specs.Prelude.{◌≡◌, ◌≤◌, ◌+◌, ◌∷◌, [], IfOk, Ok, length, map};
+ghost use Rattle.std.specs.Prelude.{◌≡◌, ◌≤◌, ◌+◌, ◌∷◌, [], IfOk, Ok, length, map, true};
 ghost use Rattle.hal_tree.specs.SeenUnits.{seen_file};
 ghost use Rattle.hal_phrases.specs.GatheredUnits.{phrases_of};
 ghost use Rattle.hal_names.specs.Laws.{IsCounted};
@@ -15,10 +15,12 @@ ghost use Rattle.hal_meaning.specs.Events as events;
 ghost use Rattle.hal_limits.specs.Limits.{IsWithin};
 ghost use Rattle.hal_link.specs.Linking as links;
 ghost use Rattle.hal_link.specs.CalledViews as views;
+ghost use Rattle.hal_verify.specs.Limits.{spread_kept};
 ghost use Rattle.hal_compile.specs.Compiling.{Fits, IsImageOf, linked_in};
 
 use crate::faults::can_run;
 use crate::fitness::is_narrow;
+use crate::lacking::Lacking;
 use hal_base::Place;
 use hal_code::ImageParts;
 use hal_constants::Known;
@@ -27,6 +29,7 @@ use hal_names::Names;
 use hal_storage::layout::{Layout, layout_of};
 use hal_storage::sets::{Set, bodies_of};
 use hal_tree::File;
+use hal_verify::spread_kept;
 use std::alloc::{AllocError, Global};
 
 /// How many turns an UPDATE block has at most.
@@ -39,21 +42,34 @@ pub(crate) const BEGINNING: Place = Place {
     column: 1,
 };
 
-/// This image, where it can run.
+/// This image, whose shapes and views have few enough cells, where it can run.
 #[tactic(auto, using(crate::proofs::Running::fits, crate::proofs::Running::cannot_run))]
-fn runnable(alloc: Global, image: ImageParts) -> Result<Result<ImageParts, Place>, AllocError>
+fn runnable(alloc: Global, image: ImageParts) -> Result<Result<ImageParts, Lacking>, AllocError>
+    requires few { spread_kept image ≡ true }
     ensures { IfOk result (Fits (Ok image)) }
 {
     if can_run(alloc, &image)? {
         Ok(Ok(image))
     } else {
-        Ok(Err(BEGINNING))
+        Ok(Err(Lacking::Code(BEGINNING)))
     }
 }
 
-/// The image of a set whose tables have room, where it can run; or the place that lacks code.
+/// This image, where its shapes and views have few enough cells, and it can run.
+#[tactic(auto, using(crate::proofs::Running::spreads))]
+fn fitting(alloc: Global, image: ImageParts) -> Result<Result<ImageParts, Lacking>, AllocError>
+    ensures { IfOk result (Fits (Ok image)) }
+{
+    if spread_kept(&image) {
+        runnable(alloc, image)
+    } else {
+        Ok(Err(Lacking::Room))
+    }
+}
+
+/// The image of a set whose tables have room, where it can run; or what the set lacks.
 #[tactic(auto, using(crate::proofs::Running::linked_image, crate::proofs::Running::told_there, crate::proofs::Running::told_nowhere))]
-fn image_of_set(alloc: Global, set: &Set<'_>) -> Result<Result<ImageParts, Place>, AllocError>
+fn image_of_set(alloc: Global, set: &Set<'_>) -> Result<Result<ImageParts, Lacking>, AllocError>
     requires few_processes { length (meant.processes_of (seen_set set.now).phrases) ≤ 128 }
     requires few_events { length (meant.processes_of (seen_set set.now).phrases) + length (events.declared_events (seen_set set.now).phrases) ≤ 65535 }
     requires laid { seen_layout set.now.layout.now ≡ layouts.layout_of (seen_set set.now).phrases (seen_set set.now).constants }
@@ -61,14 +77,14 @@ fn image_of_set(alloc: Global, set: &Set<'_>) -> Result<Result<ImageParts, Place
     ensures { IfOk result (Fits (links.image_of (seen_set set.now) (views.views_of (seen_set set.now)))) }
 {
     match link(alloc, set) {
-        Ok(image) => runnable(alloc, image),
-        Err(Unlinked::At(place)) => Ok(Err(place)),
-        Err(Unlinked::Lost | Unlinked::Wide) => Ok(Err(BEGINNING)),
+        Ok(image) => fitting(alloc, image),
+        Err(Unlinked::At(place)) => Ok(Err(Lacking::Code(place))),
+        Err(Unlinked::Lost | Unlinked::Wide) => Ok(Err(Lacking::Code(BEGINNING))),
         Err(Unlinked::Memory(error)) => Err(error),
     }
 }
 
-/// The image of files with these names, constants and layout, whose tables have room, where it can run; or the place that lacks code.
+/// The image of files with these names, constants and layout, whose tables have room, where it can run; or what they lack.
 #[tactic(auto, using(crate::proofs::Running::linked_set))]
 fn image_laid(
     alloc: Global,
@@ -76,7 +92,7 @@ fn image_laid(
     names: &Names<'_>,
     known: &Known,
     layout: &Layout,
-) -> Result<Result<ImageParts, Place>, AllocError>
+) -> Result<Result<ImageParts, Lacking>, AllocError>
     requires names { seen_names names.now ≡ phrases_of (map seen_file files.now) }
     requires constants { seen_known known.now ≡ facts.known (phrases_of (map seen_file files.now)) }
     requires within { IsWithin (phrases_of (map seen_file files.now)) (facts.known (phrases_of (map seen_file files.now))) }
@@ -94,14 +110,14 @@ fn image_laid(
     image_of_set(alloc, &set)
 }
 
-/// The image of files with these names and constants, or the place that lacks code.
+/// The image of files with these names and constants, or what they lack.
 #[tactic(auto, using(crate::proofs::Running::room_for, crate::proofs::Running::image_found, crate::proofs::Running::too_wide))]
 pub(crate) fn image_in(
     alloc: Global,
     files: &[File],
     names: &Names<'_>,
     known: &Known,
-) -> Result<Result<ImageParts, Place>, AllocError>
+) -> Result<Result<ImageParts, Lacking>, AllocError>
     requires names { seen_names names.now ≡ phrases_of (map seen_file files.now) }
     requires constants { seen_known known.now ≡ facts.known (phrases_of (map seen_file files.now)) }
     requires counted { IsCounted (seen_names names.now) }
@@ -112,6 +128,6 @@ pub(crate) fn image_in(
     if is_narrow(&layout) {
         image_laid(alloc, files, names, known, &layout)
     } else {
-        Ok(Err(BEGINNING))
+        Ok(Err(Lacking::Code(BEGINNING)))
     }
 }

@@ -1,15 +1,18 @@
 -- What an image that is right keeps.
-use Rattle.std.specs.Prelude.{◌≡◌, ◌↔◌, ℕ, nat_le, length, Bool, true, false, not, ◌&&◌, Option, Some, None, if◌then◌else◌}
+use Rattle.std.specs.Prelude.{◌≡◌, ◌↔◌, ℕ, nat_le, length, Bool, true, false, not, ◌&&◌, List, Option, Some, None, if◌then◌else◌}
 use Rattle.std.specs.List.{list_all, sum_by}
 use Rattle.std.proofs.Common.{refl}
 use Rattle.hal_values.specs.declared.tables.EventStart.{EventStart}
+use Rattle.hal_values.specs.declared.value.Kind.{Kind}
 use Rattle.hal_code.specs.declared.choice.Choice.{Choice}
 use Rattle.hal_code.specs.declared.image.ImageParts.{ImageParts}
+use Rattle.hal_code.specs.declared.row.Run.{Run}
 use Rattle.hal_code.specs.Blocks.{outward}
+use Rattle.hal_code.specs.Images.{row_count}
 use Rattle.hal_code.specs.Memory.{spread_limit, spread_of}
 use Rattle.hal_code.specs.Operands.{events_of, is_known}
 use Rattle.hal_code.specs.Right as right
-use Rattle.hal_verify.specs.Limits.{limits_kept, first_fault}
+use Rattle.hal_verify.specs.Limits.{limits_kept, first_fault, spread_kept}
 
 -- rows of tables are right
 rows_by : (blocks rows : Bool) (size : ℕ) (found : Option ℕ)
@@ -54,3 +57,16 @@ fault_by false found size keeps = ((λ none. absurd (something size none)), (λ 
 -- and it has no fault where it is right, and only there
 pub fault_none : (image : ImageParts) → first_fault image ≡ None ↔ right.IsRight image
 fault_none image = fault_by (limits_kept image) (right.first_failure image) (length image.code) (right_keeps image)
+
+spread_by : (limits shapes cells views : Bool) → (limits && ((shapes && cells) && views)) ≡ true → (cells && views) ≡ true
+spread_by true true true true is = refl
+spread_by false shapes cells views is = absurd (cc)
+spread_by true false cells views is = absurd (cc)
+spread_by true true false views is = absurd (cc)
+spread_by true true true false is = absurd (cc)
+
+-- the cells of its shapes and views are few
+pub right_spread : (image : ImageParts) → right.IsRight image → spread_kept image ≡ true
+right_spread image is = spread_by
+    (right.limits_right image) (list_all right.shape_right image.shapes) (nat_le (sum_by (λ (runs : List (Run Kind)). row_count runs) image.shapes) spread_limit)
+    (nat_le (sum_by (spread_of image) image.views) spread_limit) (right_keeps image is)

@@ -31,4 +31,4 @@ mod viewing;
 mod views;
 mod worldly;
 
-pub use verifying::{first_failure, first_fault, is_right};
+pub use verifying::{first_failure, first_fault, is_right, spread_kept};

@@ -8,10 +8,10 @@ ghost use Rattle.hal_code.specs.Blocks.{outward};
 ghost use Rattle.hal_code.specs.Operands.{events_of, is_known};
 ghost use Rattle.hal_code.specs.Right as right;
 ghost use Rattle.hal_code.specs.Right.{IsRight};
-ghost use Rattle.hal_verify.specs.Limits.{first_fault, limits_kept};
+ghost use Rattle.hal_verify.specs.Limits.{first_fault, limits_kept, spread_kept};
 
 use crate::blocks::{blocks_right, outward, wrong_instr};
-use crate::counts::view_count;
+use crate::counts::{shape_count, view_count};
 use crate::naming::names_right;
 use crate::tables::{
     SPREAD_LIMIT, cells_right, events_right, expressions_right, limits_right, places_right,
@@ -74,6 +74,14 @@ pub fn first_failure(alloc: Global, image: &ImageParts) -> Result<Option<u64>, A
     }
 }
 
+/// Whether the cells of all shapes of an image, and those that all its views give, counted with repeats, are within their limits: at most 1,048,576 each (image
+/// document, When an image is right).
+pub fn spread_kept(image: &ImageParts) -> bool
+    ensures { result ≡ spread_kept image.now }
+{
+    shape_count(image.shapes.as_slice()) <= SPREAD_LIMIT && view_count(image) <= SPREAD_LIMIT
+}
+
 /// Whether the limits of cells, processes, events, shapes and views are kept.
 fn limits_kept(image: &ImageParts) -> bool
     ensures { result ≡ limits_kept image.now }
@@ -81,7 +89,7 @@ fn limits_kept(image: &ImageParts) -> bool
     limits_right(image) && shapes_right(image) && view_count(image) <= SPREAD_LIMIT
 }
 
-/// The same, but that where the limits aren't kept it is the number of instructions, and neither instructions nor the addresses of views are looked at: its time
+/// The first failure, but that where the limits aren't kept it is the number of instructions, and neither instructions nor the addresses of views are looked at: its time
 /// goes with the size of the image and those limits (image document, When an image is right). It fails only where memory is wanting.
 #[tactic(auto, using(crate::proofs::Limits::fault_none))]
 pub fn first_fault(alloc: Global, image: &ImageParts) -> Result<Option<u64>, AllocError>
