@@ -15,3 +15,5 @@ mod Zeros
 mod Ranking
 mod Clearing
 mod Beginning
+mod Owned
+mod Followed

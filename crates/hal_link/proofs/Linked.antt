@@ -1,6 +1,6 @@
 -- The image of a set stands for it.
 use Rattle.std.specs.Prelude.{◌≡◌, ◌<◌, ◌≤◌, ℕ, zero, suc, ◌+◌, ◌==◌, Bool, true, false, List, [], ◌∷◌, ◌++◌, length, find, position, Option, Some, None, slice_get, Ok, Err, if◌then◌else◌}
-use Rattle.std.proofs.Common.{refl, sym, ap, subst, ◌∙◌, arith, append-nil}
+use Rattle.std.proofs.Common.{refl, sym, ap, subst, ◌∙◌, inl, inr, arith, append-nil}
 use Rattle.std.proofs.lemmas.Bool.{eqb-true}
 use Rattle.std.proofs.lemmas.Option.{slice_get_within}
 use Rattle.std.proofs.lemmas.List.{length-map}
@@ -13,12 +13,15 @@ use Rattle.hal_meaning.specs.ReportNames.{path_of}
 use Rattle.hal_meaning.specs.Sets.{Set, set_of, body_at}
 use Rattle.hal_code.specs.declared.image.ImageParts.{ImageParts}
 use Rattle.hal_code.specs.declared.instr.Instr.{Instr}
+use Rattle.hal_code.specs.declared.instr.Instr.TheVariants as instr
 use Rattle.hal_code.specs.declared.row.Block.{Block}
 use Rattle.hal_code.specs.declared.row.View.{View}
+use Rattle.hal_code.specs.Blocks.{is_of_process}
 use Rattle.hal_code.specs.Images.{first_of, first_of_block}
 use Rattle.hal_agreement.specs.Codes.{Code}
 use Rattle.hal_agreement.specs.Placed.{IsPlacedProcess, IsPlaced}
 use Rattle.hal_agreement.specs.PlacedBlocks.{ProcessAt, UnitAt, UnitsAt}
+use Rattle.hal_agreement.specs.PlacedExpressions.{Has}
 use Rattle.hal_gen_expr.specs.Emitting.{Emitted}
 use Rattle.hal_gen_expr.specs.Numbering.{below, most, block_number}
 use Rattle.hal_gen_expr.specs.Standing.{Begins, IsNumbered}
@@ -28,11 +31,13 @@ use Rattle.hal_gen_expr.proofs.Numbered as numbered
 use Rattle.hal_link.specs.Outlines.{Outline, own_block, block_of, outlines_of, ranks_of, numbering_of}
 use Rattle.hal_link.specs.ProcessCode.{process_code}
 use Rattle.hal_link.specs.Shapes.{shapes_of}
-use Rattle.hal_link.specs.UnitCode.{clears_of, cleared_code, unit_code, unit_block}
+use Rattle.hal_link.specs.UnitCode.{clears_of, cleared_code, end_code, unit_code, unit_block}
+use Rattle.hal_link.specs.LinkedBlocks.{CallsUnits, IsOfProcess, IsOfUnit, IsLinkedBlock}
 use Rattle.hal_link.specs.Linking.{Linked, linked, Linking, and_then, process_block, process_site, behind_block, with_process, with_unit, with_units, with_outline, with_outlines, image_with, linking, image_by, image_of}
 use Rattle.hal_link.proofs.Beginning.{all_begin}
 use Rattle.hal_link.proofs.Clearing.{all_cleared}
-use Rattle.hal_link.proofs.Outlined.{Laid, outlines_laid, outline_found}
+use Rattle.hal_link.proofs.Outlined.{Laid, outlines_laid, outline_found, outlined_at}
+use Rattle.hal_link.proofs.Owned.{IsIn, named_there, end_of, owner, apart, own_among, none_among}
 use Rattle.hal_link.proofs.Processed.{process_at}
 use Rattle.hal_link.proofs.UnitCoded.{UnitCoded, unit_at}
 use Rattle.hal_link.proofs.Tabled.{tables_same, process_there, places_begin}
@@ -55,29 +60,24 @@ at_list_end : {T : Type 0} (xs : List T) (x : T) (more : List T) → slice_get (
 at_list_end [] x more = refl
 at_list_end (y ∷ xs) x more = at_list_end xs x more
 
-named_there : {T : Type 0} (xs : List T) (p : ℕ) → p < length xs → (x : T) × (slice_get xs p ≡ Some x)
-named_there [] p less = absurd (omega (arith, less))
-named_there (x ∷ xs) zero less = (x, refl)
-named_there (x ∷ xs) (suc p) less = named_there xs p (omega (arith, less))
-
 -- what an option has is one thing
 the_same : {A : Type 0} (a b : A) (o : Option A) → o ≡ Some a → o ≡ Some b → a ≡ b
 the_same a b o is are = ap (λ one. elim one [ None ↦ a | Some x ↦ x ]) (sym is ∙ are)
 
 -- what is linked in two steps
-both_linked : (r : Linking) (next : Linked → Linking) (last : Linked) → and_then r next ≡ Ok last → (middle : Linked) × (r ≡ Ok middle) × (next middle ≡ Ok last)
+pub both_linked : (r : Linking) (next : Linked → Linking) (last : Linked) → and_then r next ≡ Ok last → (middle : Linked) × (r ≡ Ok middle) × (next middle ≡ Ok last)
 both_linked (Ok middle) next last is = (middle, refl, is)
 both_linked (Err at) next last is = absurd (cc)
 
-abbrev one_behind : (ℕ → ℕ → Block) → Linked → List Instr → Linked
+abbrev pub one_behind : (ℕ → ℕ → Block) → Linked → List Instr → Linked
 one_behind row so_far after = linked after (so_far.blocks ++ (row (length so_far.code) (length after) ∷ []))
 
 -- code that came behind
-block_linked : (row : ℕ → ℕ → Block) (so_far late : Linked) (r : Emitted) → behind_block row so_far r ≡ Ok late → (after : List Instr) × (r ≡ Ok after) × (one_behind row so_far after ≡ late)
+pub block_linked : (row : ℕ → ℕ → Block) (so_far late : Linked) (r : Emitted) → behind_block row so_far r ≡ Ok late → (after : List Instr) × (r ≡ Ok after) × (one_behind row so_far after ≡ late)
 block_linked row so_far late (Ok after) is = (after, refl, cc)
 block_linked row so_far late (Err at) is = absurd (cc)
 
-unless_function : (function : Bool) (r : Linking) (late : Linked) → (if function then Err None else r) ≡ Ok late → (function ≡ false) × (r ≡ Ok late)
+pub unless_function : (function : Bool) (r : Linking) (late : Linked) → (if function then Err None else r) ≡ Ok late → (function ≡ false) × (r ≡ Ok late)
 unless_function true r late is = absurd (cc)
 unless_function false r late is = (refl, is)
 
@@ -123,6 +123,15 @@ module _ (s : Set) (views : List View) where
       let first = outline_longer o so_far there.0 there.1 in
       let others = outlines_longer os there.0 late there.2 in
       omega (arith, first, others)
+
+  outlines_long : (os : List Outline) (so_far late : Linked) (first : ℕ) → Laid first os → length so_far.blocks ≡ first → with_outlines s (shapes_of s) views os so_far ≡ Ok late → length late.blocks ≡ end_of first os
+  unfolding with_outlines
+  outlines_long [] so_far late first laid long is = let same : so_far ≡ late = cc in ap (λ (l : Linked). length l.blocks) (sym same) ∙ long
+  outlines_long (o ∷ os) so_far late first laid long is =
+      let there = both_linked (with_outline s (shapes_of s) views o so_far) (with_outlines s (shapes_of s) views os) late is in
+      let more = outline_longer o so_far there.0 there.1 in
+      let starts = laid.0 in
+      outlines_long os there.0 late (own_block o + 1) laid.1 (omega (arith, long, more, starts)) there.2
 
 module _ (s : Set) (views : List View) (whole : Linked) where
   abbrev image : ImageParts
@@ -173,7 +182,9 @@ module _ (s : Set) (views : List View) (whole : Linked) where
     pub row : Block
     pub found : body_at s unit ≡ Some body
     pub block : slice_get whole.blocks number ≡ Some row
+    pub its : row.process ≡ o.process
     pub at : UnitAt (code_of o) s (places_of_process s o.process) body row
+    pub ends : row.end ≡ at.finish + length (end_code (is_function body.head) body.head)
 
   -- the code of a process stands there, and that of the units that it calls
   record Stands (o : Outline) : Type 0 where
@@ -185,6 +196,8 @@ module _ (s : Set) (views : List View) (whole : Linked) where
     pub row : slice_get whole.blocks (own_block o) ≡ Some (process_block o.process (length before) end)
     pub spot : ℕ → ℕ
     pub stands : ProcessAt (code_of o) (length before) (process_site s o.process body) 0 body.statements spot
+    pub begins : Has (code_of o) (length before) instr.Begin
+    pub ends : end ≡ suc stands.finish
     pub units : (k unit : ℕ) → slice_get o.called k ≡ Some unit → UnitStands o (o.first + k) unit
 
   -- what is known where code goes on to the whole
@@ -236,6 +249,7 @@ module _ (s : Set) (views : List View) (whole : Linked) where
           row = unit_block o.process body.head (length so_far.code) (length after);
           found = found;
           block = row_there (unit_block o.process body.head) so_far after number long known;
+          its = refl;
           at = record {
             found = found_by_own s unit body found;
             clears = clears_of (process_site s o.process body);
@@ -248,6 +262,7 @@ module _ (s : Set) (views : List View) (whole : Linked) where
             leads_out = coded.leads_out;
             ends = coded.ends;
           };
+          ends = coded.long;
         }
 
     unit_known : (so_far late : Linked) (number unit : ℕ) (b : Option Body) → body_at s unit ≡ b → length so_far.blocks ≡ number
@@ -311,6 +326,8 @@ module _ (s : Set) (views : List View) (whole : Linked) where
             row = row_there (process_block o.process) so_far there.0 (own_block o) long behind;
             spot = processed.spot;
             stands = processed.stands;
+            begins = processed.begin;
+            ends = processed.long;
             units = units;
           };
         }
@@ -405,6 +422,99 @@ module _ (s : Set) (views : List View) (whole : Linked) where
             numbered_placed p unit.0 name.0 name.1 unit.1 known.each;
       }
 
+  module _ (same : length s.tables.processes ≡ length (processes_of s.phrases)) (each : (q : ℕ) (o : Outline) → slice_get (outlines_of s) q ≡ Some o → Stands o) where
+    -- the outline of a process is there
+    outline_there : (q : ℕ) → q < length s.tables.processes → (o : Outline) × (slice_get (outlines_of s) q ≡ Some o)
+    outline_there q less =
+        let unit = named_there (processes_of s.phrases) q (subst (λ m. q < m) same less) in
+        let found = outline_found (ranks_of s.phrases) (processes_of s.phrases) 0 0 q unit.0 unit.1 in
+        (found.outline, found.there)
+
+    block_is : (q : ℕ) (o : Outline) → slice_get (outlines_of s) q ≡ Some o → block_of (outlines_of s) (0 + q) ≡ own_block o
+    block_is q o there =
+        let number : 0 + q ≡ q = omega arith in
+        ap (block_of (outlines_of s)) number ∙ ap (λ r. elim r [ None ↦ 0 | Some one ↦ own_block one ]) there
+
+    -- the units that the blocks of a process call stand there
+    calls_units : (o : Outline) → Stands o → CallsUnits s image (block_number (numbering_of (shapes_of s) views o)) o.process
+    calls_units o one =
+        record {
+          units = units_placed o one;
+          owned = λ unit callee row named block.
+              let given = number_given o unit callee named in
+              let there = one.units given.place unit given.there in
+              let its : there.row ≡ row = the_same there.row row (slice_get whole.blocks callee) (subst (λ m. slice_get whole.blocks m ≡ Some there.row) given.is there.block) block in
+              subst (λ (x : Block). x.process ≡ o.process) its there.its;
+        }
+
+    -- and before its own block
+    stand_before : (o : Outline) (number unit callee : ℕ) → number ≡ own_block o → block_number (numbering_of (shapes_of s) views o) unit ≡ Some callee → callee < number
+    stand_before o number unit callee is named =
+        let given = number_given o unit callee named in
+        let within = slice_get_within o.called given.place unit given.there in
+        let there = given.is in
+        omega (arith, is, within, there)
+
+    own_linked : (q : ℕ) (o : Outline) (number : ℕ) (row : Block) → slice_get (outlines_of s) q ≡ Some o → number ≡ own_block o → slice_get whole.blocks number ≡ Some row → IsOfProcess s image number row
+    own_linked q o number row there is block =
+        let one = each q o there in
+        let at = outlined_at (ranks_of s.phrases) (processes_of s.phrases) 0 0 q o there in
+        let process : q ≡ o.process = let number = at.0 in omega (arith, number) in
+        let unit = subst (λ m. slice_get (processes_of s.phrases) m ≡ Some o.unit) process at.1 in
+        let within = subst (λ m. q < m) (sym same) (slice_get_within (processes_of s.phrases) q o.unit at.1) in
+        let its = process_block o.process (length one.before) one.end in
+        subst (IsOfProcess s image number) (the_same its row (slice_get whole.blocks number) (subst (λ m. slice_get whole.blocks m ≡ Some its) (sym is) one.row) block)
+        (record {
+          there = subst (λ m. m < length s.tables.processes) process within;
+          body = one.body;
+          found = ap (λ r. elim r [ None ↦ None | Some k ↦ body_at s k ]) unit ∙ one.found;
+          owned = subst (λ m. is_of_process image m ≡ true) (block_is q o there ∙ sym is) (own_among s (outlines_of s) 0 s.tables.processes q within);
+          block = block_number (numbering_of (shapes_of s) views o);
+          calls = calls_units o one;
+          before = λ unit callee named. stand_before o number unit callee is named;
+          begins = one.begins;
+          spot = one.spot;
+          code = one.stands;
+          ends = one.ends;
+        })
+
+    unit_linked : (q : ℕ) (o : Outline) (number : ℕ) (row : Block) (k unit : ℕ) → slice_get (outlines_of s) q ≡ Some o → slice_get o.called k ≡ Some unit → number ≡ o.first + k
+        → slice_get whole.blocks number ≡ Some row → IsOfUnit s image number row
+    unit_linked q o number row k unit there named is block =
+        let one = (each q o there).units k unit named in
+        let within = slice_get_within o.called k unit named in
+        let at = outlined_at (ranks_of s.phrases) (processes_of s.phrases) 0 0 q o there in
+        let process : q ≡ o.process = let number = at.0 in omega (arith, number) in
+        let among = subst (λ m. m < length s.tables.processes) process (subst (λ m. q < m) (sym same) (slice_get_within (processes_of s.phrases) q o.unit at.1)) in
+        subst (IsOfUnit s image number) (the_same one.row row (slice_get whole.blocks number) (subst (λ m. slice_get whole.blocks m ≡ Some one.row) (sym is) one.block) block)
+        (subst (λ p. (at : UnitAt (code_of o) s (places_of_process s p) one.body one.row) → one.row.end ≡ at.finish + length (end_code (is_function one.body.head) one.body.head)
+        → CallsUnits s image (block_number (numbering_of (shapes_of s) views o)) p → p < length s.tables.processes → IsOfUnit s image number one.row) one.its
+        (λ at ends calls low. record {
+          there = low;
+          body = one.body;
+          owned = none_among s (outlines_of s) 0 s.tables.processes number (λ r less found.
+              let other = outline_there r less in
+              apart 0 (outlines_of s) q r o other.0 k (outlines_laid (ranks_of s.phrases) 0 0 (processes_of s.phrases)) there other.1 within (sym (block_is r other.0 other.1) ∙ (found ∙ is)));
+          block = block_number (numbering_of (shapes_of s) views o);
+          calls = calls;
+          code = at;
+          ends = ends;
+        }) one.at one.ends (calls_units o (each q o there)) among)
+
+    linked_in : (q : ℕ) (o : Outline) (number : ℕ) (row : Block) → slice_get (outlines_of s) q ≡ Some o → IsIn o number → slice_get whole.blocks number ≡ Some row → IsLinkedBlock s image number row
+    linked_in q o number row there (inl is) block = inl (own_linked q o number row there is block)
+    linked_in q o number row there (inr (k, unit, named, is)) block = inr (unit_linked q o number row k unit there named is block)
+
+  -- each block is that of a process or of a unit
+  pub blocks_linked : linking s views ≡ Ok whole → length s.tables.processes ≡ length (processes_of s.phrases) → (number : ℕ) (row : Block) → slice_get whole.blocks number ≡ Some row → IsLinkedBlock s image number row
+  blocks_linked is same number row block =
+      let laid = outlines_laid (ranks_of s.phrases) 0 0 (processes_of s.phrases) in
+      let known = outlines_known (outlines_of s) (linked [] []) 0 laid refl is in
+      let long = outlines_long s views (outlines_of s) (linked [] []) whole 0 laid refl is in
+      let less = slice_get_within whole.blocks number row block in
+      let owned = owner 0 (outlines_of s) number laid (omega arith) (subst (λ m. number < m) long less) in
+      linked_in same known.each owned.place owned.outline number row owned.there owned.is block
+
 image_given : (s : Set) (views : List View) (r : Linking) (made : ImageParts) → linking s views ≡ r → image_by s views r ≡ Ok made → length s.tables.processes ≡ length (processes_of s.phrases) → IsPlaced s made
 image_given s views (Ok whole) made linked_so is same = subst (IsPlaced s) (let there : image_with s views whole ≡ made = cc in there) (placed s views whole linked_so same)
 image_given s views (Err at) made linked_so is same = absurd (cc)
@@ -413,3 +523,16 @@ image_given s views (Err at) made linked_so is same = absurd (cc)
 pub image_placed : (turns : ℕ) (files : List File) (views : List View) (made : ImageParts) → image_of (set_of turns files) views ≡ Ok made → IsPlaced (set_of turns files) made
 image_placed turns files views made is =
     image_given (set_of turns files) views (linking (set_of turns files) views) made refl is (length-map (processes_of (phrases_of files)) (path_of (phrases_of files)))
+
+blocks_given : (s : Set) (views : List View) (r : Linking) (made : ImageParts) → linking s views ≡ r → image_by s views r ≡ Ok made → length s.tables.processes ≡ length (processes_of s.phrases)
+    → (number : ℕ) (row : Block) → slice_get made.blocks number ≡ Some row → IsLinkedBlock s made number row
+blocks_given s views (Ok whole) made linked_so is same =
+    subst (λ (one : ImageParts). (number : ℕ) (row : Block) → slice_get one.blocks number ≡ Some row → IsLinkedBlock s one number row) (let there : image_with s views whole ≡ made = cc in there)
+    (blocks_linked s views whole linked_so same)
+blocks_given s views (Err at) made linked_so is same = absurd (cc)
+
+-- each block of the image of a set of files is that of a process or of a unit
+pub image_blocks : (turns : ℕ) (files : List File) (views : List View) (made : ImageParts) → image_of (set_of turns files) views ≡ Ok made
+    → (number : ℕ) (row : Block) → slice_get made.blocks number ≡ Some row → IsLinkedBlock (set_of turns files) made number row
+image_blocks turns files views made is =
+    blocks_given (set_of turns files) views (linking (set_of turns files) views) made refl is (length-map (processes_of (phrases_of files)) (path_of (phrases_of files)))

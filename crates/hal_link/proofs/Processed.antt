@@ -1,10 +1,11 @@
 -- The code of a process stands where it was put, and goes on.
 use Rattle.std.specs.Prelude.{◌≡◌, ℕ, suc, List, [], ◌∷◌, ◌++◌, length, Ok, Err}
-use Rattle.std.proofs.Common.{refl, subst, arith}
+use Rattle.std.proofs.Common.{refl, sym, ap, subst, ◌∙◌, arith}
 use Rattle.hal_grammar.specs.Statements.{Statements}
 use Rattle.hal_code.specs.declared.instr.Instr.{Instr}
 use Rattle.hal_code.specs.declared.instr.Instr.TheVariants as instr
 use Rattle.hal_agreement.specs.Codes.{Code}
+use Rattle.hal_agreement.specs.PlacedExpressions.{Has}
 use Rattle.hal_agreement.specs.PlacedStatements.{ToFinish, of_block, StatementsAt}
 use Rattle.hal_agreement.specs.PlacedBlocks.{ProcessAt}
 use Rattle.hal_agreement.specs.Sites.{Site}
@@ -34,6 +35,8 @@ module _ (code : Code) (n : Numbering) (site : Site) (numbered : IsNumbered code
   pub record Processed (before after : List Instr) (body : Statements) : Type 0 where
     pub spot : ℕ → ℕ
     pub stands : ProcessAt code (length before) site 0 body spot
+    pub begin : Has code (length before) instr.Begin
+    pub long : length after ≡ suc stands.finish
     pub goes : Goes code (length before) (length after)
     pub begins : Begins before code.image.code
 
@@ -58,6 +61,8 @@ module _ (code : Code) (n : Numbering) (site : Site) (numbered : IsNumbered code
           leads_out = inner.at.2;
           last = last.at.0;
         };
+        begin = has_there code before instr.Begin inner.begins;
+        long = ap (λ (all : List Instr). length all) (sym is) ∙ length_of_one_more middle instr.Finish;
         goes = joined_goes code (length before) (length middle) (length after)
             (first_goes code (length before) (length middle) instr.Begin (has_there code before instr.Begin inner.begins) tt (subst (λ from. Goes code from (length middle)) one forward.at))
             (one_goes code (length middle) (length after) instr.Finish last.at tt);

@@ -1,6 +1,7 @@
 -- The code of a unit that is called stands where it was put, and goes on.
-use Rattle.std.specs.Prelude.{◌≡◌, ℕ, suc, Bool, true, false, List, [], ◌∷◌, ◌++◌, length, map, Some, None, Ok, Err}
-use Rattle.std.proofs.Common.{refl, sym, ◌∙◌, arith, append-nil}
+use Rattle.std.specs.Prelude.{◌≡◌, ℕ, suc, ◌+◌, Bool, true, false, List, [], ◌∷◌, ◌++◌, length, map, Some, None, Ok, Err}
+use Rattle.std.proofs.Common.{refl, sym, ap, ◌∙◌, arith, append-nil}
+use Rattle.std.proofs.lemmas.List.{length-append}
 use Rattle.hal_grammar.specs.Declarations as declarations
 use Rattle.hal_grammar.specs.Declarations.{BooleanKind, BitKind, CharacterKind}
 use Rattle.hal_grammar.specs.Statements.{Statements}
@@ -122,6 +123,7 @@ module _ (code : Code) (n : Numbering) (site : Site) (numbered : IsNumbered code
     pub statements : StatementsAt code site (of_block (leaving_by (is_function head)) handler) 0 body (length before) finish
     pub leads_out : LeadsOut handler 0 body finish
     pub ends : EndAt code (is_function head) head row finish
+    pub long : length after ≡ finish + length (end_code (is_function head) head)
     pub goes : Goes code (length before) (length after)
     pub begins : Begins before code.image.code
 
@@ -139,6 +141,7 @@ module _ (code : Code) (n : Numbering) (site : Site) (numbered : IsNumbered code
         statements = inner.at.1;
         leads_out = inner.at.2;
         ends = last_code.at;
+        long = ap (λ (all : List Instr). length all) (sym is) ∙ length-append middle (end_code (is_function head) head);
         goes = joined_goes code (length before) (length middle) (length after) forward.at last_code.goes;
         begins = inner.begins;
       }
@@ -161,6 +164,7 @@ module _ (code : Code) (n : Numbering) (site : Site) (numbered : IsNumbered code
     pub statements : StatementsAt code site (of_block (leaving_by (is_function head)) handler) 0 body (length (cleared_code site before)) finish
     pub leads_out : LeadsOut handler 0 body finish
     pub ends : EndAt code (is_function head) head row finish
+    pub long : length after ≡ finish + length (end_code (is_function head) head)
     pub goes : Goes code (length before) (length after)
     pub begins : Begins before code.image.code
 
@@ -176,6 +180,7 @@ module _ (code : Code) (n : Numbering) (site : Site) (numbered : IsNumbered code
         statements = inner.statements;
         leads_out = inner.leads_out;
         ends = inner.ends;
+        long = inner.long;
         goes = joined_goes code (length before) (length (cleared_code site before)) (length after) (clears_go code (clears_of site) (length before) (length (cleared_code site before)) opening.at) inner.goes;
         begins = opening.begins;
       }

@@ -11,3 +11,4 @@ pub mod Members
 pub mod SeenLinking
 pub mod Finding
 pub mod SeenOutlines
+pub mod LinkedBlocks

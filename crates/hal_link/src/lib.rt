@@ -18,5 +18,7 @@ mod unlinked;
 mod views;
 
 pub use image::link;
-pub use laws::the_image_of_a_set_agrees_with_it;
+pub use laws::{
+    each_block_of_a_linked_image_is_of_a_process_or_a_unit, the_image_of_a_set_agrees_with_it,
+};
 pub use unlinked::Unlinked;

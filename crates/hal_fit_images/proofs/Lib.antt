@@ -1,0 +1,2 @@
+mod Supporting
+mod Righting

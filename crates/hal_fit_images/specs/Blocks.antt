@@ -1,0 +1,60 @@
+-- When the blocks of a linked image fit: their statements do, by what the image has for them.
+use Rattle.std.specs.Prelude.{◌≡◌, ◌≤◌, ℕ, nat_lt, Bool, true, false, not, ◌&&◌, Option, Some, None, length, slice_get, unwrap_or, if◌then◌else◌}
+use Rattle.std.proofs.Common.{inl, inr}
+use Rattle.hal_base.specs.declared.limits.TheConstants.{PROCESS_LIMIT}
+use Rattle.hal_meaning.specs.Expressions.{inputs_at, outputs_at}
+use Rattle.hal_meaning.specs.Runs.{places_of_process}
+use Rattle.hal_meaning.specs.Sets.{Set}
+use Rattle.hal_code.specs.declared.image.ImageParts.{ImageParts}
+use Rattle.hal_code.specs.declared.row.Block.{Block}
+use Rattle.hal_code.specs.Blocks.{outward}
+use Rattle.hal_code.specs.Operands.{events_of}
+use Rattle.hal_agreement.specs.PlacedBlocks.{unit_site}
+use Rattle.hal_fitting.specs.Fitting.{Ground}
+use Rattle.hal_fit_expr.specs.Uses.{Uses}
+use Rattle.hal_fit_expr.specs.Serving.{HavePlaces}
+use Rattle.hal_fit.specs.Ending.{ClearsFit}
+use Rattle.hal_fit.specs.Stating.{StatementsFit}
+use Rattle.hal_fit.specs.Supporting.{AreSelectors, ReferTo, at_inside}
+use Rattle.hal_link.specs.LinkedBlocks.{IsOfProcess, IsOfUnit, IsLinkedBlock}
+use Rattle.hal_link.specs.Linking.{process_site}
+
+-- where the code of the block with this number and row stands, outside of UPDATE blocks
+abbrev pub ground_of : ImageParts → ℕ → Block → Ground
+ground_of image number row = record { out = outward image; block = row; number = number; inside = false }
+
+-- whether a block may call another one, where a unit has one: it stands before the block, and in UPDATE blocks it asks nothing
+abbrev pub may_use : ImageParts → ℕ → Bool → Option ℕ → Bool
+may_use image number inside None = false
+may_use image number inside (Some callee) = nat_lt callee number && (if inside then not (unwrap_or (slice_get (outward image) callee) false) else true)
+
+-- what the statements of a block may use, in UPDATE blocks and outside
+abbrev pub uses_of : ImageParts → (ℕ → Option ℕ) → ℕ → Bool → Uses
+uses_of image block number inside = record { calls = λ unit. may_use image number inside (block unit); asks = not inside; events = events_of image }
+
+-- the own places of the parameters of units that a block may call are there: those of whole input parameters, and the references of ASSIGN parameters
+pub record ParametersFit (s : Set) (image : ImageParts) (number : ℕ) (row : Block) (block : ℕ → Option ℕ) : Type 0 where
+  pub wholes : (inside : Bool) (unit : ℕ) → may_use image number inside (block unit) ≡ true
+      → HavePlaces image (at_inside inside (ground_of image number row)) s (places_of_process s row.process) unit (inputs_at s unit)
+  pub references : (inside : Bool) (unit : ℕ) → may_use image number inside (block unit) ≡ true → ReferTo image row s (places_of_process s row.process) unit (outputs_at s unit)
+
+-- the statements of a process fit
+pub record ProcessFits (s : Set) (image : ImageParts) (number : ℕ) (row : Block) (p : IsOfProcess s image number row) : Type 0 where
+  pub parameters : ParametersFit s image number row p.block
+  pub statements : StatementsFit image (ground_of image number row) (uses_of image p.block number) false (process_site s row.process p.body) 0 p.body.statements
+
+-- those of a unit that is called do, and its AUTOMATIC data are there
+pub record UnitFits (s : Set) (image : ImageParts) (number : ℕ) (row : Block) (u : IsOfUnit s image number row) : Type 0 where
+  pub parameters : ParametersFit s image number row u.block
+  pub clears : ClearsFit image row u.code.clears
+  pub statements : StatementsFit image (ground_of image number row) (uses_of image u.block number) false (unit_site s (places_of_process s row.process) u.body) 0 u.body.statements
+
+abbrev pub BlockFits : (s : Set) (image : ImageParts) (number : ℕ) (row : Block) → IsLinkedBlock s image number row → Type 0
+BlockFits s image number row (inl p) = ProcessFits s image number row p
+BlockFits s image number row (inr u) = UnitFits s image number row u
+
+-- each block of an image fits, and its instructions for errors name errors; and there are few processes
+pub record AllFit (s : Set) (image : ImageParts) : Type 0 where
+  pub few : length s.tables.processes ≤ PROCESS_LIMIT
+  pub selectors : AreSelectors image
+  pub blocks : (number : ℕ) (row : Block) → slice_get image.blocks number ≡ Some row → (b : IsLinkedBlock s image number row) → BlockFits s image number row b

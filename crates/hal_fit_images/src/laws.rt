@@ -1,0 +1,20 @@
+//! What holds of linked images whose blocks fit.
+
+ghost use Rattle.std.specs.Prelude.{◌≡◌, ℕ, true, List, Ok};
+ghost use Rattle.hal_grammar.specs.Units.{File};
+ghost use Rattle.hal_meaning.specs.Sets.{set_of};
+ghost use Rattle.hal_code.specs.declared.image.ImageParts.{ImageParts};
+ghost use Rattle.hal_code.specs.declared.row.View.{View};
+ghost use Rattle.hal_code.specs.Right.{IsRight, rows_right};
+ghost use Rattle.hal_link.specs.Linking.{image_of};
+ghost use Rattle.hal_fit_images.specs.Blocks.{AllFit};
+
+use hal_link::each_block_of_a_linked_image_is_of_a_process_or_a_unit;
+
+/// An image of a set of files is right where the statements of its processes and of the units that these call fit, and its rows are right (image document, When an
+/// image is right).
+pub fn an_image_of_blocks_that_fit_is_right()
+    ensures { (turns : ℕ) (files : List File) (views : List View) (image : ImageParts) → image_of (set_of turns files) views ≡ Ok image → AllFit (set_of turns files) image → rows_right image ≡ true → IsRight image }
+{
+    each_block_of_a_linked_image_is_of_a_process_or_a_unit();
+}
