@@ -27,23 +27,23 @@ UNIT = 128 * KIB
 
 # Stages in their order, each with a last statement that it refuses, and the rule that it tells.
 STAGES = (
-    ('words and trees', 'N = 1 +;', 401),
-    ('names', 'N = LOST;', 601),
-    ('types', "N = 'A' + 1;", 702),
+    ('words and trees', 'VELOCITY = 1 +;', 401),
+    ('names', 'VELOCITY = LOST;', 601),
+    ('types', "VELOCITY = 'A' + 1;", 702),
     ('locks', 'UPDATE; UPDATE; CLOSE; CLOSE;', 802),
-    ('limits and calls', 'CALL LAST{unit}(N) ASSIGN(N);', 901),
+    ('limits and calls', 'CALL LAST{unit}(VELOCITY) ASSIGN(VELOCITY);', 901),
 )
 
-DECLARED = """ LAST{unit}: PROCEDURE(X) ASSIGN(Y);
-  DECLARE X INTEGER DOUBLE, Y INTEGER DOUBLE;
-  DECLARE N INTEGER DOUBLE, K INTEGER, A ARRAY(100) INTEGER, T CHARACTER(40), B BIT(16);
+DECLARED = """ LAST{unit}: PROCEDURE(CORRECTION) ASSIGN(SMOOTHED);
+  DECLARE CORRECTION INTEGER DOUBLE, SMOOTHED INTEGER DOUBLE;
+  DECLARE VELOCITY INTEGER DOUBLE, SAMPLE_POINT INTEGER, GYRO_READINGS ARRAY(100) INTEGER, DOWNLINK CHARACTER(40), SENSOR_BITS BIT(16);
 """
-# Statements of many kinds; those of a number have a name of their own.
-STATEMENTS = """  N = N + K X - {one} ABS(Y);
-  IF N > {one} AND K < 7 THEN A$K = N; ELSE T = T CAT 'UNIT {one}';
-  DO FOR K = 1 TO 100; A$K = A$(K) + {one}; END;
-  DO WHILE N > 0; N = N - 1; IF A$(1) = N THEN N = 0; END;
-  B = B OR BIN'0101'; DO CASE K; N = 1; ; Y = A$(K); END;
+# Statements of many kinds; those of a number have a name of their own. A set of 1 MiB of them has fewer words than a set may have.
+STATEMENTS = """  VELOCITY = VELOCITY + SAMPLE_POINT CORRECTION - {one} ABS(SMOOTHED);
+  IF VELOCITY > {one} AND SAMPLE_POINT < 7 THEN GYRO_READINGS$SAMPLE_POINT = VELOCITY; ELSE DOWNLINK = DOWNLINK CAT 'UNIT {one}';
+  DO FOR SAMPLE_POINT = 1 TO 100; GYRO_READINGS$SAMPLE_POINT = GYRO_READINGS$(SAMPLE_POINT) + {one}; END;
+  DO WHILE VELOCITY > 0; VELOCITY = VELOCITY - 1; IF GYRO_READINGS$(1) = VELOCITY THEN VELOCITY = 0; END;
+  SENSOR_BITS = SENSOR_BITS OR BIN'0101'; DO CASE SAMPLE_POINT; VELOCITY = 1; ; SMOOTHED = GYRO_READINGS$(SAMPLE_POINT); END;
 """
 
 
@@ -61,9 +61,9 @@ def set_of(folder, size, last=';'):
     """The paths of a set of so many bytes; the statement is the last one of its last unit."""
     count = max(size // UNIT, 1)
     texts = [unit_of(unit, size // count, last if unit == count - 1 else ';') for unit in range(count)]
-    calls = ''.join(f'  CALL LAST{unit}(N) ASSIGN(N);\n' for unit in range(count))
+    calls = ''.join(f'  CALL LAST{unit}(VELOCITY) ASSIGN(VELOCITY);\n' for unit in range(count))
     heads = ''.join(f'D INCLUDE TEMPLATE LAST{unit}\n' for unit in range(count))
-    texts.insert(0, f'{heads} MAIN: PROGRAM;\n  DECLARE N INTEGER DOUBLE;\n{calls} CLOSE MAIN;\n')
+    texts.insert(0, f'{heads} MAIN: PROGRAM;\n  DECLARE VELOCITY INTEGER DOUBLE;\n{calls} CLOSE MAIN;\n')
     paths = []
     for number, text in enumerate(texts):
         paths.append(folder / f'{number}.hal')
