@@ -1,6 +1,6 @@
--- Times and event expressions: rules 322, 713 and 714, and 720 of a time that is a whole array.
+-- Times and event expressions: rules 322, 713 and 714, 720 of a time that is a whole array, and the rules of operands behind UNTIL of SCHEDULE.
 use Rattle.std.specs.Prelude.{ℕ, Bool, true, false, ◌&&◌, not, List, length, Option, Some, None, slice_get, if◌then◌else◌}
-use Rattle.std.specs.Option.{option_and_then, is_some}
+use Rattle.std.specs.Option.{option_and_then, option_or, is_some}
 use Rattle.hal_base.specs.declared.refusal.Place.{Place}
 use Rattle.hal_grammar.specs.Leaves.{Naming}
 use Rattle.hal_grammar.specs.Expressions.{Expression, Or, And, Not, Referred, Parenthesis, Reference, Refers, Subscript, Unsubscripted, place_of}
@@ -13,7 +13,10 @@ use Rattle.hal_scope.specs.Uses.{unless, holds_event, is_in_event, limit_of, ref
 use Rattle.hal_kinds.specs.declared.class.Class.{Class}
 use Rattle.hal_kinds.specs.declared.class.Class.TheVariants as class
 use Rattle.hal_kinds.specs.Classes.{class_of}
-use Rattle.hal_operands.specs.Wants.{at}
+use Rattle.hal_operands.specs.declared.want.Want.{Want}
+use Rattle.hal_operands.specs.declared.want.Want.TheVariants as want
+use Rattle.hal_operands.specs.Pairs.{pair_fault}
+use Rattle.hal_operands.specs.Wants.{at, misfit_at}
 
 -- whether the phrase with this number is an expression behind UNTIL of SCHEDULE or a part of one
 abbrev pub is_limit_at : List Phrase → ℕ → Bool
@@ -79,10 +82,31 @@ event_fault ps block tree = if is_event_part ps block tree then None else Some (
 abbrev pub is_of_events : List Phrase → Phrase → Expression → Bool
 is_of_events ps p tree = if is_limit_at ps p.around.parent then is_in_event ps p else holds_event ps p.around.block tree
 
+-- what is wanted of the operands of an expression behind UNTIL of SCHEDULE that isn't one of events: the same as elsewhere
+unfoldable pub wanted_within : Expression → Want
+wanted_within (Or place first others) = want.Truth
+wanted_within (And place first others) = want.Truth
+wanted_within (Not place operand) = want.Bits
+wanted_within (Parenthesis place inner) = want.Single
+wanted_within other = want.Anything
+
+-- what is wanted of an operand of the phrase with this number, where that is such an expression
+abbrev pub wanted_at : List Phrase → ℕ → Want
+wanted_at ps k =
+    elim (slice_get ps k) [
+      | None ↦ want.Anything
+      | Some p ↦ elim (limit_of p.node) [ None ↦ want.Anything | Some around ↦ wanted_within around ]
+    ]
+
+-- such an expression, or a part of one: its operands go together, and it is a time or what the expression around it wants
+abbrev pub eventless_fault : List Phrase → Phrase → Expression → Option (ℕ × Place)
+eventless_fault ps p tree =
+    option_or (pair_fault ps p.around.block tree)
+    (if is_limit_at ps p.around.parent then misfit_at ps p.around.block (wanted_at ps p.around.parent) tree else time_fault ps p.around.block tree)
+
 -- an expression behind UNTIL of SCHEDULE, or a part of one
 abbrev pub limit_fault : List Phrase → Phrase → Expression → Option (ℕ × Place)
-limit_fault ps p tree =
-    if is_of_events ps p tree then event_fault ps p.around.block tree else if is_limit_at ps p.around.parent then None else time_fault ps p.around.block tree
+limit_fault ps p tree = if is_of_events ps p tree then event_fault ps p.around.block tree else eventless_fault ps p tree
 
 -- an expression of this role
 unfoldable pub timed : List Phrase → Phrase → Role → Expression → Option (ℕ × Place)
@@ -91,7 +115,7 @@ timed ps p role.Event tree = event_fault ps p.around.block tree
 timed ps p role.EventOrTime tree = limit_fault ps p tree
 timed ps p other tree = None
 
--- rules 713 and 714
+-- rules 713 and 714, and what operands break behind UNTIL of SCHEDULE
 unfoldable pub mistimed : List Phrase → Phrase → Node → Option (ℕ × Place)
 mistimed ps p (OfExpression r tree) = timed ps p r tree
 mistimed ps p other = None

@@ -189,7 +189,7 @@ fn mixed_fault(
 
 /// The operands of an expression.
 #[tactic(auto, using(hal_tree::proofs::MadeExpressions::made_or, hal_tree::proofs::MadeExpressions::made_and, hal_tree::proofs::MadeExpressions::made_compare, hal_tree::proofs::MadeExpressions::made_cat, hal_tree::proofs::MadeExpressions::made_sum, hal_tree::proofs::MadeExpressions::made_product, hal_tree::proofs::MadeExpressions::made_power, hal_tree::proofs::MadeExpressions::made_not, hal_tree::proofs::MadeExpressions::made_literal, hal_tree::proofs::MadeExpressions::made_decimal, hal_tree::proofs::MadeExpressions::made_referred, hal_tree::proofs::MadeExpressions::made_call, hal_tree::proofs::MadeExpressions::made_convert, hal_tree::proofs::MadeExpressions::made_parenthesis), unfolding(crate::specs::Pairs::pair_fault))]
-fn pair_fault(names: &Names<'_>, block: usize, tree: &Expr) -> Option<(u16, Place)>
+pub(crate) fn pair_fault(names: &Names<'_>, block: usize, tree: &Expr) -> Option<(u16, Place)>
     ensures { result ≡ pairs.pair_fault (seen_names names.now) block (seen_expression tree.now) }
 {
     match tree {

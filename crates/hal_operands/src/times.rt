@@ -7,6 +7,9 @@ ghost use Rattle.hal_phrases.specs.SeenPhrases.{seen_phrase};
 ghost use Rattle.hal_names.specs.SeenNames.{seen_names};
 ghost use Rattle.hal_operands.specs.Times as times;
 
+use crate::pairs::pair_fault;
+use crate::want::Want;
+use crate::wants::misfit_at;
 use hal_base::Place;
 use hal_kinds::{Class, class_of};
 use hal_names::Names;
@@ -157,13 +160,64 @@ fn event_fault(names: &Names<'_>, block: usize, tree: &Expr) -> Option<(u16, Pla
     }
 }
 
+/// What is wanted of the operands of an expression behind UNTIL of SCHEDULE that isn't one of events.
+#[tactic(auto, using(hal_tree::proofs::MadeExpressions::made_or, hal_tree::proofs::MadeExpressions::made_and, hal_tree::proofs::MadeExpressions::made_compare, hal_tree::proofs::MadeExpressions::made_cat, hal_tree::proofs::MadeExpressions::made_sum, hal_tree::proofs::MadeExpressions::made_product, hal_tree::proofs::MadeExpressions::made_power, hal_tree::proofs::MadeExpressions::made_not, hal_tree::proofs::MadeExpressions::made_literal, hal_tree::proofs::MadeExpressions::made_decimal, hal_tree::proofs::MadeExpressions::made_referred, hal_tree::proofs::MadeExpressions::made_call, hal_tree::proofs::MadeExpressions::made_convert, hal_tree::proofs::MadeExpressions::made_parenthesis), unfolding(crate::specs::Times::wanted_within))]
+fn wanted_within(tree: &Expr) -> Want
+    ensures { result ≡ times.wanted_within (seen_expression tree.now) }
+{
+    match tree {
+        Expr::Or { .. } => Want::Truth,
+        Expr::And { .. } => Want::Truth,
+        Expr::Not { .. } => Want::Bits,
+        Expr::Parenthesis { .. } => Want::Single,
+        Expr::Reference(_) => Want::Anything,
+        Expr::Compare { .. } => Want::Anything,
+        Expr::Cat { .. } => Want::Anything,
+        Expr::Sum { .. } => Want::Anything,
+        Expr::Product { .. } => Want::Anything,
+        Expr::Power { .. } => Want::Anything,
+        Expr::Literal { .. } => Want::Anything,
+        Expr::Decimal { .. } => Want::Anything,
+        Expr::Call { .. } => Want::Anything,
+        Expr::Convert { .. } => Want::Anything,
+    }
+}
+
+/// What is wanted of an operand of the phrase with this number, where that is such an expression.
+fn wanted_at(names: &Names<'_>, number: usize) -> Want
+    ensures { result ≡ times.wanted_at (seen_names names.now) number }
+{
+    let Some(phrase) = names.phrase(number) else {
+        return Want::Anything;
+    };
+    match limit_of(phrase.node) {
+        None => Want::Anything,
+        Some(around) => wanted_within(around),
+    }
+}
+
+/// The rule that such an expression breaks, or a part of one, and where.
+fn eventless_fault(names: &Names<'_>, phrase: &Phrase<'_>, tree: &Expr) -> Option<(u16, Place)>
+    ensures { result ≡ times.eventless_fault (seen_names names.now) (seen_phrase phrase.now) (seen_expression tree.now) }
+{
+    let around = phrase.around;
+    let mismatched = pair_fault(names, around.block, tree);
+    if mismatched.is_some() {
+        return mismatched;
+    }
+    if is_limit_at(names, around.parent) {
+        misfit_at(names, around.block, wanted_at(names, around.parent), tree)
+    } else {
+        time_fault(names, around.block, tree)
+    }
+}
+
 /// The rule that an expression behind UNTIL of SCHEDULE breaks, or a part of one, and where.
 fn limit_fault(names: &Names<'_>, phrase: &Phrase<'_>, tree: &Expr) -> Option<(u16, Place)>
     ensures { result ≡ times.limit_fault (seen_names names.now) (seen_phrase phrase.now) (seen_expression tree.now) }
 {
     let block = phrase.around.block;
-    let is_part = is_limit_at(names, phrase.around.parent);
-    let is_of_events = if is_part {
+    let is_of_events = if is_limit_at(names, phrase.around.parent) {
         is_in_event(names, phrase)
     } else {
         holds_event(tree, names, block)
@@ -171,11 +225,7 @@ fn limit_fault(names: &Names<'_>, phrase: &Phrase<'_>, tree: &Expr) -> Option<(u
     if is_of_events {
         return event_fault(names, block, tree);
     }
-    if is_part {
-        None
-    } else {
-        time_fault(names, block, tree)
-    }
+    eventless_fault(names, phrase, tree)
 }
 
 /// The rule that an expression of this role breaks, and where.
@@ -191,7 +241,7 @@ fn timed(names: &Names<'_>, phrase: &Phrase<'_>, role: Role, tree: &Expr) -> Opt
     }
 }
 
-/// Which rule of 713 and 714 a phrase breaks, or 720 as a time, and where (language document, Kinds).
+/// Which rule of 713 and 714 a phrase breaks, or behind UNTIL of SCHEDULE 702, 703, 708, 717 or 720, and where (language document, Kinds).
 #[tactic(auto, unfolding(crate::specs::Times::mistimed))]
 pub fn mistimed(names: &Names<'_>, phrase: &Phrase<'_>) -> Option<(u16, Place)>
     ensures { result ≡ times.mistimed (seen_names names.now) (seen_phrase phrase.now) (seen_phrase phrase.now).node }

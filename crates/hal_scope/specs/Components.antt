@@ -1,5 +1,6 @@
 -- Rule 608 of components that a structure doesn't have.
 use Rattle.std.specs.Prelude.{ℕ, Bool, true, false, List, [], ◌∷◌, Option, Some, None, slice_get, not, ◌||◌}
+use Rattle.std.specs.Option.{is_some}
 use Rattle.hal_base.specs.declared.refusal.Place.{Place}
 use Rattle.hal_grammar.specs.Leaves.{Naming}
 use Rattle.hal_grammar.specs.Expressions.{Reference, Refers}
@@ -8,6 +9,7 @@ use Rattle.hal_phrases.specs.Phrases.{Node, Phrase, OfItem, OfStructure, OfRefer
 use Rattle.hal_names.specs.declared.key.Space.TheVariants as space
 use Rattle.hal_names.specs.Keys.{key, own}
 use Rattle.hal_names.specs.Means.{means}
+use Rattle.hal_scope.specs.Builtins.{builtin_named}
 use Rattle.hal_scope.specs.Sorts.{type_of, sort_of, is_operand}
 use Rattle.hal_scope.specs.Uses.{unless, is_nil}
 
@@ -43,11 +45,11 @@ unfoldable pub has_component : List Phrase → Phrase → List Naming → Node �
 has_component ps p path (OfItem common item) = type_has ps p.around.block path (type_of common item)
 has_component ps p path other = not (declares_operand other)
 
--- whether what a name means in a block has such a component; true where it isn't known
+-- whether what a name means in a block has such a component: a built-in function has none; true where the name isn't known
 abbrev pub meaning_has : List Phrase → ℕ → List ℕ → List Naming → Bool
 meaning_has ps block name path =
     elim (means ps block name) [
-      | None ↦ true
+      | None ↦ not (is_some (builtin_named name))
       | Some k ↦ elim (slice_get ps k) [ None ↦ true | Some p ↦ has_component ps p path p.node ]
     ]
 

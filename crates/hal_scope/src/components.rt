@@ -9,6 +9,7 @@ ghost use Rattle.hal_phrases.specs.SeenPhrases.{seen_node, seen_phrase};
 ghost use Rattle.hal_names.specs.SeenNames.{seen_names};
 ghost use Rattle.hal_scope.specs.Components as components;
 
+use crate::builtin::builtin_named;
 use crate::sorts::{is_operand, sort_of, type_of};
 use crate::uses::unless;
 use hal_base::Place;
@@ -106,12 +107,12 @@ fn has_component(names: &Names<'_>, phrase: &Phrase<'_>, path: &[Identifier]) ->
     }
 }
 
-/// Whether what a name means in a block, if it is known, has such a component.
+/// Whether what a name means in a block, if it is known, has such a component: a built-in function has none.
 fn meaning_has(names: &Names<'_>, block: usize, name: &Name, path: &[Identifier]) -> bool
     ensures { result ≡ components.meaning_has (seen_names names.now) block name.now (map seen_name path.now) }
 {
     let Some(number) = names.means(block, name) else {
-        return true;
+        return builtin_named(name).is_none();
     };
     match names.phrase(number) {
         None => true,
