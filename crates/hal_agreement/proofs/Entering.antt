@@ -61,7 +61,7 @@ module _ (code : Code) (begin : ℕ) (rec : Meaning) (sound : Sound code begin r
       through (setting code begin h) _ _ _ st.left st.left st.left
       (instr_leads code begin rec sound h n standing out (sets group number response.Statement change.Nothing 0 (suc (suc from))) from st st.left
       (Begins code begin rec sound h n standing out (suc from) (with_entries (with_entry (entry (selector_of s) (act.Statement m)) st.entries) st)) has
-      (set_leads (selector_of s) (act.Statement m) (machine.selector_of group number) (act.Statement (suc (suc from))) (suc from) st selects (ap act.Statement (sym (is ∙ stands)))))
+      (set_leads (selector_of s) (act.Statement m) (machine.selector_of group number) (act.Statement (suc (suc from))) (suc from) st selects.is (ap act.Statement (sym (is ∙ stands)))))
       (jump_leads code begin rec sound h n standing out (suc from) to (with_entries (with_entry (entry (selector_of s) (act.Statement m)) st.entries) st) st.left goes)
 
   -- ON ERROR with SYSTEM or IGNORE
@@ -72,7 +72,7 @@ module _ (code : Code) (begin : ℕ) (rec : Meaning) (sound : Sound code begin r
       subst (λ end. Leads (setting code begin h) (Begins code begin rec sound h n standing out from st) st.left (Begins code begin rec sound h n standing out end (with_entries (with_entry (entry (selector_of s) (act_of r (side_of h e))) st.entries) st)) st.left) one.1
       (instr_leads code begin rec sound h n standing out (sets group number (response_of r) changes event 0) from st st.left
       (Begins code begin rec sound h n standing out (suc from) (with_entries (with_entry (entry (selector_of s) (act_of r (side_of h e))) st.entries) st)) one.0
-      (set_leads (selector_of s) (act_of r (side_of h e)) (machine.selector_of group number) (machine.act_of (response_of r) (machine.side_of changes event) 0) (suc from) st selects
+      (set_leads (selector_of s) (act_of r (side_of h e)) (machine.selector_of group number) (machine.act_of (response_of r) (machine.side_of changes event) 0) (suc from) st selects.is
       (ap (λ side. machine.act_of (response_of r) side 0) (sides ∙ side_same h e) ∙ response_act r (side_of h e) (n.spot 0))))
 
   -- OFF ERROR
@@ -81,5 +81,5 @@ module _ (code : Code) (begin : ℕ) (rec : Meaning) (sound : Sound code begin r
   off_leads s group number from to st selects one =
       subst (λ end. Leads (setting code begin h) (Begins code begin rec sound h n standing out from st) st.left (Begins code begin rec sound h n standing out end (with_entries (without (selector_of s) st.entries) st)) st.left) one.1
       (instr_leads code begin rec sound h n standing out (instr.Off group number) from st st.left (Begins code begin rec sound h n standing out (suc from) (with_entries (without (selector_of s) st.entries) st)) one.0
-      (ap (λ one. Moves (core (suc from) [] [] (without one (coded_entries (n.spot 0) st.entries)) n.frames st.kept st.mode)) selects
+      (ap (λ one. Moves (core (suc from) [] [] (without one (coded_entries (n.spot 0) st.entries)) n.frames st.kept st.mode)) selects.is
       ∙ ap (λ es. Moves (core (suc from) [] [] es n.frames st.kept st.mode)) (without_coded (n.spot 0) (selector_of s) st.entries)))

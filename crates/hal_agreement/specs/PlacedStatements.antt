@@ -31,6 +31,7 @@ use Rattle.hal_code.specs.declared.operand.Places.TheVariants as places
 use Rattle.hal_code.specs.declared.operand.Response.{Response}
 use Rattle.hal_code.specs.declared.operand.Response.TheVariants as response
 use Rattle.hal_code.specs.Controlling as machine
+use Rattle.hal_code.specs.Operands.{is_selector}
 use Rattle.hal_code.specs.declared.row.Target.TheVariants as targets
 use Rattle.hal_code.specs.declared.instr.Instr.TheVariants as instr
 use Rattle.hal_agreement.specs.Codes.{Code}
@@ -279,9 +280,10 @@ NamedOrOwnAt code site asks (name ∷ names) from to = EachAt code site asks (na
 abbrev pub sets : ℕ → ℕ → Response → EventChange → ℕ → ℕ → Instr
 sets group number r change event target = instr.On group number (choice.Known r) (choice.Known change) event target
 
--- group and number of an instruction select what ON ERROR or OFF ERROR does
-abbrev pub Selects : Selector → ℕ → ℕ → Type 0
-Selects s group number = machine.selector_of group number ≡ tree.selector_of s
+-- group and number of an instruction select what ON ERROR or OFF ERROR does, and are numbers of errors
+pub record Selects (s : Selector) (group number : ℕ) : Type 0 where
+  pub is : machine.selector_of group number ≡ tree.selector_of s
+  pub right : is_selector group number ≡ true
 
 -- SYSTEM and IGNORE
 abbrev pub response_of : statements.Response → Response

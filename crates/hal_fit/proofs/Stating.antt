@@ -171,13 +171,13 @@ module _ (code : Code) (g : Ground) (u : Bool → Uses) where
         (priority_fits code (standing part g) fits.0 site stands.supports.tables (u (is_inside part)) (serves_there part site stands.supports) name tree from to fits.1 at)
     basic_leads (OnErrorStatement place s handler) labels part site exits m from to stands fits at =
         handler_leads code g part (Asked code.image g part exits to) at.0 at.1 from to
-        (stands.supports.selectors.sets from at.0 at.1 (choice.Known response.Statement) (choice.Known change.Nothing) 0 (suc (suc from)) at.3) at.3 at.4
+        at.2.right at.3 at.4
         (statement_leads handler part site exits (suc m) (suc (suc from)) to stands fits at.6)
     basic_leads (OnErrorResponse place s r e) labels part site exits m from to stands fits at =
         response_leads code g part (Asked code.image g part exits to) site r e at.2 at.0 at.1 at.3 from to
-        (stands.supports.selectors.sets from at.0 at.1 (choice.Known (response_of r)) (choice.Known at.2) at.3 0 at.6.0) at.5 fits at.6
+        at.4.right at.5 fits at.6
     basic_leads (OffError place s) labels part site exits m from to stands fits at =
-        fitting part exits from to (off_fits code (standing part g) at.0 at.1 from to (stands.supports.selectors.drops from at.0 at.1 at.3.0) at.3)
+        fitting part exits from to (off_fits code (standing part g) at.0 at.1 from to at.2.right at.3)
     basic_leads (SendError place group_at group number_at number) labels part site exits m from to stands fits at = fitting part exits from to (raise_fits code (standing part g) group number from to fits at)
 
     -- what DO CASE does where its number selects no statement

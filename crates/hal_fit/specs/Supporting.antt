@@ -7,16 +7,12 @@ use Rattle.hal_meaning.specs.Expressions.{outputs_at}
 use Rattle.hal_meaning.specs.Places.{Place}
 use Rattle.hal_meaning.specs.ReportNames.{first_place}
 use Rattle.hal_meaning.specs.Sets.{Set}
-use Rattle.hal_code.specs.declared.choice.Choice.{Choice}
 use Rattle.hal_code.specs.declared.image.ImageParts.{ImageParts}
-use Rattle.hal_code.specs.declared.instr.Instr.TheVariants as instr
-use Rattle.hal_code.specs.declared.operand.EventChange.{EventChange}
-use Rattle.hal_code.specs.declared.operand.Response.{Response}
 use Rattle.hal_code.specs.declared.row.Block.{Block}
 use Rattle.hal_code.specs.Blocks.{block_places}
 use Rattle.hal_code.specs.Images as images
 use Rattle.hal_code.specs.Memory.{referred_shape}
-use Rattle.hal_code.specs.Operands.{is_known, is_selector}
+use Rattle.hal_code.specs.Operands.{is_known}
 use Rattle.hal_agreement.specs.Codes.{Code}
 use Rattle.hal_fitting.specs.Fitting.{Ground}
 use Rattle.hal_fit_expr.specs.Uses.{Uses}
@@ -35,11 +31,6 @@ abbrev pub ReferTo : ImageParts → Block → Set → List Place → ℕ → Lis
 ReferTo image block s places unit [] = Unit {0}
 ReferTo image block s places unit (name ∷ names) = RefersTo image block places (parameter_named s unit name) × ReferTo image block s places unit names
 
--- instructions that set and drop entries for errors have a number of an error behind a group alone
-pub record AreSelectors (image : ImageParts) : Type 0 where
-  pub sets : (at group number : ℕ) (r : Choice Response) (e : Choice EventChange) (event target : ℕ) → slice_get image.code at ≡ Some (instr.On group number r e event target) → is_selector group number ≡ true
-  pub drops : (at group number : ℕ) → slice_get image.code at ≡ Some (instr.Off group number) → is_selector group number ≡ true
-
 -- an image has what statements use that stand in a block of a process, outside of UPDATE blocks and inside: what their expressions do, what blocks give that they
 -- call, and the places of ASSIGN parameters; and its tables are the set's
 pub record Supports (code : Code) (g : Ground) (s : Set) (places : List Place) (u : Bool → Uses) : Type 0 where
@@ -47,4 +38,3 @@ pub record Supports (code : Code) (g : Ground) (s : Set) (places : List Place) (
   pub results : (number : ℕ) (row : Block) → slice_get code.image.blocks number ≡ Some row → is_known row.result ≡ true
   pub references : (inside : Bool) (unit : ℕ) → (u inside).calls unit ≡ true → ReferTo code.image g.block s places unit (outputs_at s unit)
   pub tables : images.tables_of code.image ≡ s.tables
-  pub selectors : AreSelectors code.image

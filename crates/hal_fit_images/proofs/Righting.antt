@@ -37,13 +37,13 @@ module _ (s : Set) (image : ImageParts) (all : AllFit s image) (right : blocks_r
   process_of : (number : ℕ) (row : Block) (p : IsOfProcess s image number row) → ProcessFits s image number row p → (n : ℕ) → IsRightAt image (outward image) (flow_of image row number (code_of image row)) n
   process_of number row p fits =
       process_right (code_with image p.block) (ground_of image number row) (uses_of image p.block number) (process_site s row.process p.body) 0 p.body.statements p.spot p.code p.ends p.begins p.owned
-      (supports s image number row p.block p.calls (own_block row (length s.tables.processes) p.there all.few) fits.parameters right tables all.selectors) fits.statements
+      (supports s image number row p.block p.calls (own_block row (length s.tables.processes) p.there all.few) fits.parameters right tables) fits.statements
 
   unit_of : (number : ℕ) (row : Block) (u : IsOfUnit s image number row) → slice_get image.blocks number ≡ Some row → UnitFits s image number row u
       → (n : ℕ) → IsRightAt image (outward image) (flow_of image row number (code_of image row)) n
   unit_of number row u there fits =
       unit_right (code_with image u.block) (ground_of image number row) (uses_of image u.block number) s (places_of_process s row.process) u.body u.code
-      (supports s image number row u.block u.calls (own_block row (length s.tables.processes) u.there all.few) fits.parameters right tables all.selectors) u.owned there fits.clears fits.statements
+      (supports s image number row u.block u.calls (own_block row (length s.tables.processes) u.there all.few) fits.parameters right tables) u.owned there fits.clears fits.statements
       (u.ends ∙ ends_there (is_function u.body.head) u.body.head u.code.finish)
 
   block_of : (number : ℕ) (row : Block) → slice_get image.blocks number ≡ Some row → (b : IsLinkedBlock s image number row) → BlockFits s image number row b

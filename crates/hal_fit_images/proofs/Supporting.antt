@@ -21,7 +21,7 @@ use Rattle.hal_code.specs.Right.{block_right, blocks_right, follow, stands_right
 use Rattle.hal_agreement.specs.Codes.{Code}
 use Rattle.hal_agreement.specs.PlacedBlocks.{EndAt}
 use Rattle.hal_fit_expr.specs.Serving.{MayCall, Serves}
-use Rattle.hal_fit.specs.Supporting.{AreSelectors, Supports, at_inside}
+use Rattle.hal_fit.specs.Supporting.{Supports, at_inside}
 use Rattle.hal_link.specs.LinkedBlocks.{CallsUnits}
 use Rattle.hal_fit_images.specs.Blocks.{ParametersFit, ground_of, may_use, uses_of}
 
@@ -103,13 +103,12 @@ module _ (s : Set) (image : ImageParts) (number : ℕ) (row : Block) (block : �
       }
 
   -- all that statements use
-  pub supports : is_common row ≡ false → ParametersFit s image number row block → blocks_right image ≡ true → images.tables_of image ≡ s.tables → AreSelectors image
+  pub supports : is_common row ≡ false → ParametersFit s image number row block → blocks_right image ≡ true → images.tables_of image ≡ s.tables
       → Supports code (ground_of image number row) s (places_of_process s row.process) (uses_of image block number)
-  supports own parameters right tables selectors =
+  supports own parameters right tables =
       record {
         serves = serves own parameters;
         results = results_known image right;
         references = λ inside unit may. parameters.references inside unit may;
         tables = tables;
-        selectors = selectors;
       }

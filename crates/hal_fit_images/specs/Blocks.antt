@@ -15,7 +15,7 @@ use Rattle.hal_fit_expr.specs.Uses.{Uses}
 use Rattle.hal_fit_expr.specs.Serving.{HavePlaces}
 use Rattle.hal_fit.specs.Ending.{ClearsFit}
 use Rattle.hal_fit.specs.Stating.{StatementsFit}
-use Rattle.hal_fit.specs.Supporting.{AreSelectors, ReferTo, at_inside}
+use Rattle.hal_fit.specs.Supporting.{ReferTo, at_inside}
 use Rattle.hal_link.specs.LinkedBlocks.{IsOfProcess, IsOfUnit, IsLinkedBlock}
 use Rattle.hal_link.specs.Linking.{process_site}
 
@@ -53,8 +53,7 @@ abbrev pub BlockFits : (s : Set) (image : ImageParts) (number : ℕ) (row : Bloc
 BlockFits s image number row (inl p) = ProcessFits s image number row p
 BlockFits s image number row (inr u) = UnitFits s image number row u
 
--- each block of an image fits, and its instructions for errors name errors; and there are few processes
+-- each block of an image fits, and there are few processes
 pub record AllFit (s : Set) (image : ImageParts) : Type 0 where
   pub few : length s.tables.processes ≤ PROCESS_LIMIT
-  pub selectors : AreSelectors image
   pub blocks : (number : ℕ) (row : Block) → slice_get image.blocks number ≡ Some row → (b : IsLinkedBlock s image number row) → BlockFits s image number row b

@@ -1,5 +1,5 @@
 -- The code of statements without statements in them stands where it was put.
-use Rattle.std.specs.Prelude.{◌≡◌, ℕ, zero, suc, ◌+◌, ◌==◌, nat_lt, Bool, true, false, List, [], ◌∷◌, ◌++◌, length, pos, Option, Some, None, Ok, if◌then◌else◌}
+use Rattle.std.specs.Prelude.{◌≡◌, ℕ, zero, suc, ◌+◌, ◌==◌, nat_lt, Bool, true, false, not, ◌||◌, List, [], ◌∷◌, ◌++◌, length, pos, Option, Some, None, Ok, if◌then◌else◌}
 use Rattle.std.specs.Option.{option_map, option_and_then}
 use Rattle.std.proofs.Common.{refl, sym, ap, subst, ◌∙◌, arith, ne_eqb, append-nil}
 use Rattle.std.proofs.lemmas.Bool.{ltb-true}
@@ -29,6 +29,7 @@ use Rattle.hal_code.specs.declared.instr.Instr.TheVariants as instr
 use Rattle.hal_code.specs.declared.operand.Delay.{Delay}
 use Rattle.hal_code.specs.declared.operand.Delay.TheVariants as delay
 use Rattle.hal_code.specs.Controlling as machine
+use Rattle.hal_code.specs.Operands.{is_selector}
 use Rattle.hal_code.specs.declared.operand.EventChange.{EventChange}
 use Rattle.hal_code.specs.declared.operand.EventChange.TheVariants as change
 use Rattle.hal_code.specs.declared.operand.Response.TheVariants as response
@@ -293,21 +294,31 @@ module _ (code : Code) (n : Numbering) (site : Site) (numbered : IsNumbered code
   from_one_is zero m is = absurd (cc)
   from_one_is (suc k) m is = (k, refl, sym (below_is 256 (suc k) m is))
 
+  grouped_right : (group k number : ℕ) → group ≡ suc k → is_selector group number ≡ true
+  grouped_right group k number is = ap (λ (b : Bool). not b || (number == 0)) (ne_eqb group 0 (λ none. omega (arith, is, none)))
+
   pub selects : (s : Selector) (errors : ℕ × ℕ) → numbers_of s ≡ Some errors → Selects s errors.0 errors.1
-  selects EveryError errors is = subst (λ (e : ℕ × ℕ). Selects EveryError e.0 e.1) (let same : (0, 0) ≡ errors = cc in same) refl
+  selects EveryError errors is = subst (λ (e : ℕ × ℕ). Selects EveryError e.0 e.1) (let same : (0, 0) ≡ errors = cc in same) (record { is = refl; right = refl })
   selects (GroupErrors place group_at group) errors is =
       let given = mapped_is (λ g. (g, 0)) (from_one group) errors is in
       let one = from_one_is group given.0 given.1 in
       subst (λ (e : ℕ × ℕ). Selects (GroupErrors place group_at group) e.0 e.1) given.2
-      (subst (λ g. machine.selector_of given.0 0 ≡ selectors.Group g) (sym one.1) (ap (λ g. machine.selector_of g 0) one.2))
+      (record {
+        is = subst (λ g. machine.selector_of given.0 0 ≡ selectors.Group g) (sym one.1) (ap (λ g. machine.selector_of g 0) one.2);
+        right = grouped_right given.0 one.0 0 one.2;
+      })
   selects (OneError place group_at group number_at number) errors is =
       let given = then_is (λ g. option_map (λ k. (g, k)) (from_one number)) (from_one group) errors is in
       let late = mapped_is (λ k. (given.0, k)) (from_one number) errors given.2 in
       let one = from_one_is group given.0 given.1 in
       let two = from_one_is number late.0 late.1 in
       subst (λ (e : ℕ × ℕ). Selects (OneError place group_at group number_at number) e.0 e.1) late.2
-      (subst (λ g. machine.selector_of given.0 late.0 ≡ selectors.One (error g number)) (sym one.1)
-      (subst (λ k. machine.selector_of given.0 late.0 ≡ selectors.One (error (suc one.0) k)) (sym two.1) (ap (λ g. machine.selector_of g late.0) one.2 ∙ ap (λ k. machine.selector_of (suc one.0) k) two.2)))
+      (record {
+        is =
+          subst (λ g. machine.selector_of given.0 late.0 ≡ selectors.One (error g number)) (sym one.1)
+          (subst (λ k. machine.selector_of given.0 late.0 ≡ selectors.One (error (suc one.0) k)) (sym two.1) (ap (λ g. machine.selector_of g late.0) one.2 ∙ ap (λ k. machine.selector_of (suc one.0) k) two.2));
+        right = grouped_right given.0 one.0 late.0 one.2;
+      })
 
   side_by : (action : EventAction) (number : ℕ) → machine.side_of (change_of action) number ≡ side_of_action action number
   side_by Signal number = refl
