@@ -6,6 +6,9 @@ mod Going
 mod Answers
 pub mod Sound
 mod Expanded
-mod Ready
+mod Readied
 mod Owned
 mod Counting
+mod Tests
+mod Tables
+mod Casing

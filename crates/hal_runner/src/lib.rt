@@ -3,6 +3,7 @@
 
 mod acting;
 mod answering;
+mod cases;
 mod choosing;
 mod clearing;
 mod copying;
@@ -12,15 +13,18 @@ mod moving;
 mod naming;
 mod prepared;
 mod quick;
+mod ready;
 mod reply;
 mod requests;
 mod rooms;
 mod runner;
 
-pub use loading::{Loaded, cells_of, ready_of};
+pub use cases::Cases;
+pub use loading::{Loaded, cells_of};
 pub use machines::{values_of, writes_of};
 pub use prepared::Prepared;
 pub use quick::Quick;
+pub use ready::Ready;
 pub use reply::Reply;
 pub use requests::request_of;
 pub use runner::Runner;

@@ -10,7 +10,7 @@ ghost use Rattle.hal_machine.specs.Blocks.{HasAsMuch};
 ghost use Rattle.hal_machine.specs.Seen.{core_seen};
 ghost use Rattle.hal_runner.specs.Replies.{reply_seen};
 ghost use Rattle.hal_runner.specs.Prepared.{prepared_seen};
-ghost use Rattle.hal_runner.specs.Quick.{AreReady};
+ghost use Rattle.hal_runner.specs.Cases.{AreReady};
 ghost use Rattle.hal_runner.specs.Runners.{asked_seen};
 ghost use Rattle.hal_runner.specs.Ways.{IsAmple, AnswerFits, ShapesFit, WayFits};
 

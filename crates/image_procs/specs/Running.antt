@@ -10,7 +10,7 @@ use Rattle.hal_right_values.specs.Ranges.{AreInRange}
 use Rattle.hal_runner.specs.declared.loading.Loaded.{Loaded}
 use Rattle.hal_runner.specs.declared.reply.Reply.{Reply}
 use Rattle.hal_runner.specs.Loading.{IsLoaded}
-use Rattle.hal_runner.specs.Quick.{AreReady}
+use Rattle.hal_runner.specs.Cases.{AreReady}
 use Rattle.exec_model.specs.Processes as processes
 use Rattle.image_procs.specs.declared.load.ImageLoad.{ImageLoad}
 use Rattle.image_procs.specs.declared.course.Course.{Course}
@@ -51,7 +51,7 @@ pub record IsRunning (load : ImageLoad) (tables : Tables) (loaded : List Loaded)
   pub cells : HaveCells load.image
   pub ranged : AreInRange load.image
   pub short : length load.image.code < 2 ^ 64
-  pub ready : AreReady load.image load.ready.items
+  pub ready : AreReady load.image load.ready
   pub loads : AreLoaded load.image loaded
   pub many_loads : length loaded ≡ length load.image.processes
   pub stand : AreCourses load (map parts courses)

@@ -7,7 +7,7 @@ ghost use Rattle.hal_values.specs.Tables.{IsSnapshot};
 ghost use Rattle.hal_code.specs.Cores as cores;
 ghost use Rattle.hal_code.specs.Courses.{next, block, own, load_of};
 ghost use Rattle.hal_runner.specs.Prepared.{prepared_seen};
-ghost use Rattle.hal_runner.specs.Quick.{AreReady};
+ghost use Rattle.hal_runner.specs.Cases.{AreReady};
 ghost use Rattle.hal_runner.specs.Replies.{reply_seen};
 ghost use Rattle.exec_model.specs.Processes.{told_answer};
 ghost use Rattle.image_procs.specs.Courses.{CanRun, AllFit, IsAt, IsCourse, parts, room};

@@ -5,7 +5,7 @@ ghost use Rattle.hal_values.specs.Loads.{turn_limit};
 ghost use Rattle.hal_code.specs.Right.{IsRight};
 
 use hal_code::ImageParts;
-use hal_runner::Quick;
+use hal_runner::Ready;
 use hal_values::Load;
 
 /// A right image, and how many turns an UPDATE block of it has.
@@ -14,7 +14,7 @@ pub struct ImageLoad {
     pub image: ImageParts,
     pub turns: u16,
     /// The code made ready.
-    pub ready: Vec<Quick>,
+    pub ready: Ready,
     pub ghost right: { IsRight image },
     pub ghost few: { turns ≤ turn_limit },
 }

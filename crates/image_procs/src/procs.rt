@@ -8,7 +8,7 @@ use crate::starting::{courses_of, loaded_of, setting_of};
 use crate::tables::tables_of;
 use exec_model::Procs;
 use hal_code::ImageParts;
-use hal_runner::{Loaded, ready_of};
+use hal_runner::{Loaded, Ready};
 use hal_values::{Answer, Listing, Request, Tables, Value};
 use script_run::Owners;
 use std::alloc::{AllocError, Global};
@@ -54,7 +54,7 @@ impl ImageProcs {
         ensures answers { IfOk result (λ procs. answers_of procs ≡ replicate (process_count (meaning procs.load).tables) []) }
     {
         are_in_range(&image);
-        let ready = ready_of(alloc, &image)?;
+        let ready = Ready::new(alloc, &image)?;
         let load = ImageLoad {
             image,
             turns,

@@ -5,7 +5,7 @@ ghost use Rattle.hal_base.specs.declared.limits.TheConstants.{PROCESS_LIMIT};
 ghost use Rattle.hal_code.specs.Courses.{setting_of};
 ghost use Rattle.hal_code.specs.Images.{tables_of};
 ghost use Rattle.hal_runner.specs.Prepared.{prepared_seen};
-ghost use Rattle.hal_runner.specs.Quick.{AreReady};
+ghost use Rattle.hal_runner.specs.Cases.{AreReady};
 ghost use Rattle.hal_right_values.specs.Finding.{HaveCells};
 ghost use Rattle.hal_right_values.specs.Ranges.{AreInRange};
 ghost use Rattle.hal_runner.specs.Loading.{IsLoaded};
@@ -42,7 +42,7 @@ pub(crate) fn setting_of<'a>(
 ) -> Prepared<'a>
     requires tables { tables.now ≡ tables_of load.now.image }
     requires loaded { IsLoaded load.now.image process loaded.now }
-    requires ready { AreReady load.now.image load.now.ready.items }
+    requires ready { AreReady load.now.image load.now.ready }
     ensures seen { prepared_seen result ≡ setting_of load.now.turns load.now.image process }
     ensures ready { AreReady result.plain.image.now result.ready.now }
 {
@@ -51,7 +51,7 @@ pub(crate) fn setting_of<'a>(
         alloc,
         &load.image,
         tables.cells.as_slice(),
-        load.ready.as_slice(),
+        &load.ready,
         process,
         turns,
     )
@@ -70,7 +70,7 @@ pub(crate) fn courses_of(
     requires tables { tables.now ≡ tables_of load.now.image }
     requires loads { AreLoaded load.now.image loaded.now }
     requires many { length loaded.now ≡ length load.now.image.processes }
-    requires ready { AreReady load.now.image load.now.ready.items }
+    requires ready { AreReady load.now.image load.now.ready }
     ensures stand { IfOk result (λ all. AreCourses load.now (map parts all.items)) }
     ensures many { IfOk result (λ all. length all.items ≡ length loaded.now) }
     ensures told { IfOk result (λ all. map told_in all.items ≡ replicate (length loaded.now) []) }
