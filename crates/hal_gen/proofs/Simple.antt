@@ -315,8 +315,8 @@ module _ (code : Code) (n : Numbering) (site : Site) (numbered : IsNumbered code
       subst (λ (e : ℕ × ℕ). Selects (OneError place group_at group number_at number) e.0 e.1) late.2
       (record {
         is =
-          subst (λ g. machine.selector_of given.0 late.0 ≡ selectors.One (error g number)) (sym one.1)
-          (subst (λ k. machine.selector_of given.0 late.0 ≡ selectors.One (error (suc one.0) k)) (sym two.1) (ap (λ g. machine.selector_of g late.0) one.2 ∙ ap (λ k. machine.selector_of (suc one.0) k) two.2));
+            subst (λ g. machine.selector_of given.0 late.0 ≡ selectors.One (error g number)) (sym one.1)
+            (subst (λ k. machine.selector_of given.0 late.0 ≡ selectors.One (error (suc one.0) k)) (sym two.1) (ap (λ g. machine.selector_of g late.0) one.2 ∙ ap (λ k. machine.selector_of (suc one.0) k) two.2));
         right = grouped_right given.0 one.0 late.0 one.2;
       })
 
