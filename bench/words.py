@@ -21,7 +21,7 @@ TIMES = 20
 LEAST = 20
 
 # Kinds of text that define names again.
-AGAIN = ('same', 'turns', 'wide', 'mixed', 'many', 'fours', 'fives')
+AGAIN = ('same', 'turns', 'wide', 'mixed', 'many', 'fours', 'fives', 'fresh', 'pair', 'fifty', 'scattered', 'beside', 'late', 'leaves')
 WHOLE = 1_048_576
 MOST = 10
 

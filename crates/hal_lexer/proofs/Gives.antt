@@ -21,7 +21,7 @@ gives_append : (table : Table) (place : Place) (xs ys : List Child) → gives ta
 gives_append table place xs ys =
     ap (flat_map (step_items place)) (flat_map-append _ xs ys) ∙ flat_map-append (step_items place) (steps table xs) (steps table ys)
 
-gives_child : (table : Table) (place : Place) (n : ℕ) (children : List Child) → IsOrdered table → children_at table n ≡ children → gives table place (as_child n children) ≡ gives table place children
+pub gives_child : (table : Table) (place : Place) (n : ℕ) (children : List Child) → IsOrdered table → children_at table n ≡ children → gives table place (as_child n children) ≡ gives table place children
 gives_child table place n [] ordered is = refl
 gives_child table place n (one ∷ []) ordered is = refl
 gives_child table place n (one ∷ more ∷ rest) ordered is =

@@ -18,7 +18,13 @@ pub mod NumberIndex
 pub mod Steps
 pub mod BothOk
 pub mod Replaced
-pub mod Turning
 pub mod ReadingOn
 pub mod Cutting
-pub mod Raised
+pub mod Places
+pub mod Growing
+pub mod Undoing
+pub mod Lexicons
+pub mod Numbering
+pub mod Summing
+pub mod Redefining
+pub mod WrittenParts

@@ -2,7 +2,6 @@
 use Rattle.std.proofs.Common.{◌≡◌, ◌<◌, ◌≤◌, ℕ, inl, inr, true, false, Bool, cond, List, [], ◌∷◌, ◌++◌, length, get_or, map, reverse, Option, Some, None, refl, sym, ap, ◌∙◌, arith}
 use Rattle.std.specs.Prelude.{bytes_eq, ◌==◌, if◌then◌else◌}
 use Rattle.std.specs.Map.{lookup}
-use Rattle.std.specs.Option.{IfSome}
 use Rattle.std.proofs.lemmas.Bool.{cases_Bool}
 use Rattle.std.proofs.lemmas.Bool.Decides.{nat_tests}
 use Rattle.std.proofs.lemmas.List.{reverse-append, length-reverse, length-map, map-append, get_or_append_left, get_or-map}
@@ -10,12 +9,11 @@ use Rattle.std.proofs.Math.Seq.{get_or-append_seam}
 use Rattle.hal_words.specs.contracts.name.NamePartialEq.TheImpl as derived
 use Rattle.hal_lexer.specs.declared.child.Child.{Child}
 use Rattle.hal_lexer.specs.declared.compiled.Entry.{Entry}
-use Rattle.hal_lexer.specs.Compiled.{Table, entry_of, number_of, children_at, IsOrdered}
+use Rattle.hal_lexer.specs.Compiled.{Table, entry_of, number_of, children_at}
 use Rattle.hal_lexer.specs.Defined.{found}
 use Rattle.hal_lexer.specs.Numbers.{Numbers, has_at, still}
 use Rattle.hal_words.proofs.NameEquality.{eq-same}
 use Rattle.hal_lexer.proofs.Index.{lookup-found}
-use Rattle.hal_lexer.proofs.Tables.{same_name, number_before}
 
 abbrev table_of : List Entry → Table
 table_of items = reverse (map entry_of items)
@@ -24,33 +22,6 @@ table_of items = reverse (map entry_of items)
 pub still_number : (entries : List (List ℕ × ℕ)) (list table : Table) (name : List ℕ) (kept : Option ℕ) → Numbers entries list → list ≡ table → lookup ((derived.eq-value).it name) entries ≡ kept
     → still table name kept ≡ number_of table name
 still_number entries list table name kept numbers is at = ap (still table name) (sym at ∙ lookup-found entries name) ∙ rw (← is) (numbers name)
-
-pub uncompiled_found : (entries : List (List ℕ × ℕ)) (list table : Table) (name : List ℕ) (number : ℕ) (result : Option (List ℕ)) → Numbers entries list → list ≡ table → lookup ((derived.eq-value).it name) entries ≡ Some number
-    → IfSome result (λ same. (same ≡ name) × (has_at table number name ≡ false)) → IfSome result (λ same. number_of table same ≡ None)
-uncompiled_found entries list table name number None numbers is at found' = tt
-uncompiled_found entries list table name number (Some same) numbers is at found' =
-    let kept : still table name (Some number) ≡ number_of table name = still_number entries list table name (Some number) numbers is at in
-    let none : None ≡ number_of table name = rw found'.1 at kept in
-    ap (number_of table) found'.0 ∙ sym none
-
--- in a table in order a name has one number
-ordered_has : (table : Table) (n : ℕ) (name : List ℕ) → IsOrdered table → has_at table n name ≡ true → number_of table name ≡ Some n
-ordered_has [] n name ordered has = let no : false ≡ true = has in absurd (cc)
-ordered_has (entry ∷ older) n name ordered has = elim (cases_Bool (n == length older)) [
-  | inl here ↦
-      let own : bytes_eq entry.0 name ≡ true = rw here at has in
-      let last : length older ≡ n = grind (arith, nat_tests) in
-      rw own (ap Some last)
-  | inr there ↦
-      let before : has_at older n name ≡ true = rw there at has in
-      number_before older entry name n ordered.1 (ordered_has older n name ordered.2 before)
-]
-
-pub ordered_still : (table : Table) (n : ℕ) (name : List ℕ) → IsOrdered table → IfSome (still table name (Some n)) (λ number. number_of table name ≡ Some number)
-ordered_still table n name ordered = elim (cases_Bool (has_at table n name)) [
-  | inl has ↦ rw has (ordered_has table n name ordered has)
-  | inr has ↦ rw has tt
-]
 
 -- the name with a number
 past_name : (table : Table) (n : ℕ) (name : List ℕ) → length table ≤ n → has_at table n name ≡ false
@@ -97,33 +68,13 @@ found_updates old new name number updates q =
     sym (lookup-found new q) ∙ updates q ∙ ap (λ b. cond b (Some number) (lookup ((derived.eq-value).it q) old)) (eq-same name q)
     ∙ ap (λ before. cond (bytes_eq name q) (Some number) before) (lookup-found old q) ∙ cond_if (bytes_eq name q) (Some number) (found old q)
 
--- a slot for a name
-slot_cases : (table : Table) (q : List ℕ) (same : Bool) (n : ℕ) (before : Option ℕ) → length table ≤ n → still table q before ≡ number_of table q → (same ≡ true → before ≡ None)
-    → still table q (cond same (Some n) before) ≡ number_of table q
-slot_cases table q true n before past is none =
-    let away : has_at table n q ≡ false = past_name table n q past in
-    let new : before ≡ None = none refl in
-    rw away (rw new at is)
-slot_cases table q false n before past is none = is
-
-pub slot_added : (old new : List (List ℕ × ℕ)) (items : List Entry) (name : List ℕ) (number : ℕ) → number ≡ length items → Numbers old (table_of items) → lookup ((derived.eq-value).it name) old ≡ None
-    → ((q : List ℕ) → lookup ((derived.eq-value).it q) new ≡ cond ((derived.eq-value).it name q) (Some number) (lookup ((derived.eq-value).it q) old)) → Numbers new (table_of items)
-slot_added old new items name number last numbers new_name updates = λ q.
-    let past : length (table_of items) ≤ number = omega (arith, last, length-reverse (map entry_of items), length-map items entry_of) in
-    let here : found new q ≡ cond (bytes_eq name q) (Some number) (found old q) =
-    sym (lookup-found new q) ∙ updates q ∙ ap (λ b. cond b (Some number) (lookup ((derived.eq-value).it q) old)) (eq-same name q)
-    ∙ ap (λ before. cond (bytes_eq name q) (Some number) before) (lookup-found old q) in
-    let none : bytes_eq name q ≡ true → found old q ≡ None =
-    λ same. sym (lookup-found old q) ∙ ap (λ (n : List ℕ). lookup ((derived.eq-value).it n) old) (sym (same_name name q same)) ∙ new_name in
-    rw here (slot_cases (table_of items) q (bytes_eq name q) number (found old q) past (numbers q) none)
-
 -- the children at a number
-reverse_twice : (table : Table) → reverse (reverse table) ≡ table
+pub reverse_twice : (table : Table) → reverse (reverse table) ≡ table
 reverse_twice [] = refl
 reverse_twice (entry ∷ older) =
     ap reverse (reverse-append (entry ∷ []) older) ∙ reverse-append (reverse older) (entry ∷ []) ∙ ap (λ (t : Table). entry ∷ t) (reverse_twice older)
 
-got_children : (table : Table) (n : ℕ) (one : List ℕ × List Child) → n < length table → one ≡ get_or (reverse table) n one → children_at table n ≡ one.1
+pub got_children : (table : Table) (n : ℕ) (one : List ℕ × List Child) → n < length table → one ≡ get_or (reverse table) n one → children_at table n ≡ one.1
 got_children [] n one within is = absurd (omega (arith, within))
 got_children (entry ∷ older) n one within is =
     let turned : reverse (entry ∷ older) ≡ reverse older ++ entry ∷ [] = reverse-append (entry ∷ []) older in
@@ -138,7 +89,7 @@ got_children (entry ∷ older) n one within is =
           rw other (got_children older n one before (there ∙ get_or_append_left (reverse older) (entry ∷ []) one n (omega (arith, before, length-reverse older))))
     ]
 
-past_children : (table : Table) (n : ℕ) → length table ≤ n → children_at table n ≡ []
+pub past_children : (table : Table) (n : ℕ) → length table ≤ n → children_at table n ≡ []
 past_children [] n past = refl
 past_children (entry ∷ older) n past =
     let other : (n == length older) ≡ false = grind (arith, nat_tests) in

@@ -3,8 +3,8 @@ pub mod Defined
 pub mod Compiled
 pub mod Numbers
 pub mod Opened
-pub mod Turned
 pub mod Walks
 pub mod Parts
-pub mod Nothing
+pub mod Summary
+pub mod Sound
 pub mod Faults

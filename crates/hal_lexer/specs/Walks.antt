@@ -8,11 +8,11 @@ use Rattle.hal_lexer.specs.declared.child.Child.{Child}
 use Rattle.hal_lexer.specs.Compiled.{Table, steps, step_items}
 
 -- a list of the code
-abbrev pub list_of : Bor (List Child) → List Child
+abbrev pub list_of : {A : Type 0} → Bor (List A) → List A
 list_of list = list.now
 
 -- an empty list isn't kept
-abbrev pub kept : List Child → List (List Child) → List (List Child)
+abbrev pub kept : {A : Type 0} → List A → List (List A) → List (List A)
 kept [] left = left
 kept (one ∷ rest) left = (one ∷ rest) ∷ left
 

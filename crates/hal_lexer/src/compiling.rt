@@ -22,8 +22,6 @@ use crate::child::Child;
 use crate::compiled::Compiled;
 use crate::definitions::Definitions;
 use crate::frames::{Frames, Part};
-use crate::order::Order;
-use crate::raising::raise;
 use crate::text_words::next_word;
 use hal_base::{Fault, Place};
 use hal_pieces::broken;
@@ -35,7 +33,6 @@ pub(crate) fn number<'a>(
     alloc: Global,
     definitions: &Definitions<'a>,
     compiled: &mut Compiled,
-    order: &mut Order,
     name: Name,
     place: Place,
 ) -> Result<Option<usize>, Fault>
@@ -51,33 +48,6 @@ pub(crate) fn number<'a>(
     let Some(text) = definitions.text(&name) else {
         return Ok(None);
     };
-    match raise(alloc, definitions, compiled, order, name) {
-        Ok(()) => number_of_text(alloc, definitions, compiled, name, text, place),
-        Err(fault) => Err(fault),
-    }
-}
-
-/// The number of a name with this text. Where it couldn't be compiled from words that were cut before,
-/// its text breaks a rule, and is read to tell which.
-fn number_of_text<'a>(
-    alloc: Global,
-    definitions: &Definitions<'a>,
-    compiled: &mut Compiled,
-    name: Name,
-    text: &'a [u8],
-    place: Place,
-) -> Result<Option<usize>, Fault>
-    requires text { IsText text.now }
-    requires defined { look_up definitions.now name ≡ Some text.now }
-    requires compiled { IsCompiled definitions.now compiled.old }
-    ensures compiled { OnOk result (IsCompiled definitions.now compiled.new) }
-    ensures some { IfOk result (λ found. IfSome found (λ number. number_of compiled.new name ≡ Some number)) }
-    ensures none { IfOk result (λ found. IfNone found (look_up definitions.now name ≡ None)) }
-    ensures broken { IfErr result (Tells (replaced_word definitions.now (item (Is (word.Name name)) place))) }
-{
-    if let Some(number) = compiled.number(&name) {
-        return Ok(Some(number));
-    }
     compile(alloc, definitions, compiled, name, text, place)?;
     Ok(compiled.number(&name))
 }
@@ -377,7 +347,7 @@ fn read_name(
 }
 
 /// Adds a child, if there is one.
-pub(crate) fn add(children: &mut Vec<Child>, child: Option<Child>) -> Result<(), Fault>
+fn add(children: &mut Vec<Child>, child: Option<Child>) -> Result<(), Fault>
     ensures added { OnOk result (children.new.items ≡ children.old.items ++ option_to_list child) }
     ensures memory { IfErr result IsMemory }
 {
@@ -392,11 +362,7 @@ pub(crate) fn add(children: &mut Vec<Child>, child: Option<Child>) -> Result<(),
 
 /// The child that stands for a name with this number and these children. Where they are fewer than two
 /// the name itself is none, so that a walk over children takes few steps more than it gives words.
-pub(crate) fn as_child(
-    alloc: Global,
-    number: usize,
-    children: &[Child],
-) -> Result<Option<Child>, Fault>
+fn as_child(alloc: Global, number: usize, children: &[Child]) -> Result<Option<Child>, Fault>
     ensures child { IfOk result (λ child. option_to_list child ≡ as_child number children.now) }
     ensures memory { IfErr result IsMemory }
 {

@@ -32,7 +32,7 @@ impl<'a> Model for Definitions<'a> {
 }
 
 impl<'a> Definitions<'a> {
-    ghost use Rattle.std.specs.Prelude.{◌≡◌, ◌∷◌, [], Some, IsTrue, OnOk, IfSome, length};
+    ghost use Rattle.std.specs.Prelude.{◌≡◌, ◌∷◌, [], Some, IsTrue, OnOk, IfSome};
     ghost use Rattle.std.specs.Option.{option_map};
     ghost use Rattle.hal_words.specs.Reserved.{look_up};
     ghost use Rattle.hal_lexer.specs.Texts.{IsText};
@@ -47,15 +47,8 @@ impl<'a> Definitions<'a> {
         }
     }
 
-    /// How many definitions there are.
-    pub(crate) fn len(&self) -> usize
-        ensures { result ≡ length self.now }
-    {
-        self.list.len()
-    }
-
-    /// Adds a definition. The result is the index that its name has among the names with a text.
-    pub(crate) fn push(&mut self, name: Name, text: Text<'a>) -> Result<usize, AllocError>
+    /// Adds a definition.
+    pub(crate) fn push(&mut self, name: Name, text: Text<'a>) -> Result<(), AllocError>
         requires { IsText text }
         ensures { OnOk result (self.new ≡ (name, text.entry) ∷ self.old) }
     {
@@ -63,11 +56,11 @@ impl<'a> Definitions<'a> {
         if self.list.push(Definition { name, text }).is_err() {
             return Err(AllocError);
         }
-        let Ok((index, _)) = self.latest.insert_full(name, number) else {
+        let Ok(_) = self.latest.insert_full(name, number) else {
             self.list.pop();
             return Err(AllocError);
         };
-        Ok(index)
+        Ok(())
     }
 
     /// Whether this text stands in place of this name.
@@ -98,18 +91,5 @@ impl<'a> Definitions<'a> {
         let index = self.latest.get(name)?;
         let definition = self.list.get(*index)?;
         Some(&definition.text)
-    }
-
-    /// The same, without hashing where the name has this index.
-    pub(crate) fn text_at(&self, index: usize, name: &Name) -> Option<&Text<'a>>
-        ensures { option_map (λ text. text.now) result ≡ look_up self.now name.now }
-    {
-        match self.latest.get_index(index) {
-            Some((kept, number)) if *kept == *name => match self.list.get(*number) {
-                Some(definition) => Some(&definition.text),
-                None => None,
-            },
-            _ => self.latest_of(name),
-        }
     }
 }

@@ -6,9 +6,8 @@ ghost use Rattle.hal_words.specs.Replacing.{are_parameters, defined, definition,
 ghost use Rattle.hal_words.specs.Words.{misplaced, word_item};
 ghost use Rattle.hal_pieces.specs.Seen.{seen};
 ghost use Rattle.hal_pieces.specs.Faults.{seen_item};
-ghost use Rattle.hal_lexer.specs.Compiled.{IsCompiled};
+ghost use Rattle.hal_lexer.specs.Sound.{IsSound};
 ghost use Rattle.hal_lexer.specs.Texts.{HoldsText, IsText, IsTextOf};
-ghost use Rattle.hal_lexer.specs.Turned.{AreTurned};
 ghost use Rattle.hal_lexer.specs.Faults.{Explains, Blames};
 
 use crate::replacing::Replacements;
@@ -65,12 +64,10 @@ fn take<'a>(
 ) -> Result<usize, Fault>
     requires some { 0 < length items.now }
     requires texts { All HoldsText (map seen_item items.now) }
-    requires compiled { IsCompiled replacements.old.definitions replacements.old.compiled }
-    requires turned { AreTurned replacements.old.definitions replacements.old.turns }
+    requires sound { IsSound replacements.old.definitions replacements.old.summary }
     ensures taken { IfOk result (λ count. map word_item tokens.new ++ replaced 0 replacements.new.definitions (map seen_item (drop count items.now))
         ≡ map word_item tokens.old ++ replaced 0 replacements.old.definitions (map seen_item items.now)) }
-    ensures compiled { OnOk result (IsCompiled replacements.new.definitions replacements.new.compiled) }
-    ensures turned { OnOk result (AreTurned replacements.new.definitions replacements.new.turns) }
+    ensures sound { OnOk result (IsSound replacements.new.definitions replacements.new.summary) }
     ensures some { IfOk result (λ count. 0 < count) }
     ensures within { IfOk result (λ count. count ≤ length items.now) }
     ensures broken { IfErr result (Explains (map word_item tokens.old ++ replaced 0 replacements.old.definitions (map seen_item items.now))) }
@@ -102,11 +99,9 @@ fn define<'a>(
     behind: &[Item<'a>],
 ) -> Result<(), Fault>
     requires texts { All HoldsText (map seen_item behind.now) }
-    requires compiled { IsCompiled replacements.old.definitions replacements.old.compiled }
-    requires turned { AreTurned replacements.old.definitions replacements.old.turns }
+    requires sound { IsSound replacements.old.definitions replacements.old.summary }
     ensures added { OnOk result (IsSomeAnd (definition (map seen_item behind.now)) (λ one. replacements.new.definitions ≡ one ∷ replacements.old.definitions)) }
-    ensures compiled { OnOk result (IsCompiled replacements.new.definitions replacements.new.compiled) }
-    ensures turned { OnOk result (AreTurned replacements.new.definitions replacements.new.turns) }
+    ensures sound { OnOk result (IsSound replacements.new.definitions replacements.new.summary) }
     ensures long { OnOk result (4 ≤ length behind.now) }
     ensures broken { IfErr result (λ fault. (done rest : List lines.Item) →
         Explains (done ++ (fault_of (definition (map seen_item behind.now)) (formless (map seen_item behind.now)) place ++ rest)) fault) }

@@ -2,26 +2,27 @@
 #![tactic(auto)]
 
 mod child;
+mod comes;
 mod compiled;
 mod compiling;
+mod cut;
 mod definitions;
 mod file;
 mod file_words;
 mod frames;
 mod fronts;
+mod given_walk;
 mod laws;
-mod nothing;
 mod order;
-mod places;
-mod raising;
+mod plan;
 mod replacing;
+mod summary;
 mod temporaries;
 mod text;
 mod text_words;
 mod token_list;
-mod turned;
-mod turns;
 mod walk;
+mod writing;
 
 pub use file::tokens;
 pub use laws::a_text_with_words_breaks_nothing;

@@ -1,163 +1,132 @@
-use crate::text::Part;
-use hal_words::Word;
-use std::alloc::{AllocError, Global};
+//! The names that are summed up, in an order that is kept.
 
-/// What is known of the name that has a slot.
-#[derive(Clone, Copy, Drop)]
-struct Noted {
-    /// Where the definitions have its text.
-    index: usize,
-    /// Where the slots of the names in its text begin, and end.
-    from: usize,
-    end: usize,
-    /// The round in which it was met last.
-    round: u64,
+ghost use Rattle.std.specs.Prelude.{◌≡◌, ◌++◌, ◌∷◌, [], OnOk};
+
+use crate::comes::Parts;
+use std::alloc::{AllocError, Global};
+use std::marker::Model;
+
+/// A name that is summed up: its number, and the parts that stand in its place.
+#[derive(Drop)]
+pub(crate) struct Entry {
+    pub(crate) number: usize,
+    pub(crate) parts: Parts,
 }
 
-const NOTHING: Noted = Noted {
-    index: usize::MAX,
-    from: 0,
-    end: 0,
-    round: 0,
-};
-
-/// In which order names are to be compiled, each behind those in its text. It is a guess, and made of
-/// slots alone: what is compiled is looked at again where it is added.
+/// The names that are summed up, of which a contract sees the list. Beside them stand those that were, and
+/// aren't any more, to be summed up again in the same order. That is a guess, which may want some of them.
 #[derive(Drop)]
 pub(crate) struct Order {
-    /// For each slot, what is known of its name.
-    noted: Vec<Noted>,
-    /// The slots of the names in all texts, each text's in a row.
-    slots: Vec<usize>,
-    round: u64,
-    /// The slots whose texts are gone through, each with the place in `slots` where that goes on.
-    left: Vec<(usize, usize)>,
+    list: Vec<Entry>,
+    /// Those that were summed up, the first one last.
+    left: Vec<usize>,
+    /// Those of them that couldn't be summed up again when that was tried.
+    aside: Vec<usize>,
+}
+
+impl Model for Order {
+    ghost use Rattle.std.specs.Prelude.{List};
+    ghost use Rattle.hal_lexer.specs.declared.order.Entry.{Entry};
+
+    ghost Value = { List Entry };
+
+    ghost view = { λ o. o.list.items };
 }
 
 impl Order {
+    ghost use Rattle.std.specs.Prelude.{◌≡◌, ◌<◌, ◌++◌, ◌∷◌, [], OnOk, IfSome, IfNone, length};
+    ghost use Rattle.hal_lexer.specs.declared.order.Entry.{Entry};
+
     /// No name.
-    pub(crate) fn new(alloc: Global) -> Order {
+    pub(crate) fn new(alloc: Global) -> Order
+        ensures { result ≡ [] }
+    {
         Order {
-            noted: Vec::new(alloc),
-            slots: Vec::new(alloc),
-            round: 1,
+            list: Vec::new(alloc),
             left: Vec::new(alloc),
+            aside: Vec::new(alloc),
         }
     }
 
-    /// Notes the names in the text of the one that has this slot.
-    pub(crate) fn note_text(&mut self, slot: usize, parts: &[Part]) -> Result<(), AllocError> {
-        let from = self.slots.len();
-        self.add_slots(parts)?;
-        let end = self.slots.len();
-        self.reach(slot)?;
-        if let Some(noted) = self.noted.get_mut(slot) {
-            noted.from = from;
-            noted.end = end;
-        }
-        Ok(())
+    /// How many names are summed up.
+    pub(crate) fn len(&self) -> usize
+        ensures { result ≡ length self.now }
+    {
+        self.list.len()
     }
 
-    /// Adds the slots of the names among these words; of a name that is said again, once.
-    fn add_slots(&mut self, parts: &[Part]) -> Result<(), AllocError> {
-        let mut last = None;
-        'part: for part in parts {
-            if matches!(part.word, Word::Name(_)) && last != Some(part.slot) {
-                last = Some(part.slot);
-                self.add_slot(part.slot)?;
-            }
-        }
-        Ok(())
+    /// The names that are summed up.
+    pub(crate) fn as_slice(&self) -> &[Entry]
+        ensures { result.now ≡ self.now }
+    {
+        self.list.as_slice()
     }
 
-    fn add_slot(&mut self, slot: usize) -> Result<(), AllocError> {
-        match self.slots.push(slot) {
+    /// Adds a name.
+    pub(crate) fn push(&mut self, entry: Entry) -> Result<(), AllocError>
+        ensures { OnOk result (self.new ≡ self.old ++ entry ∷ []) }
+    {
+        match self.list.push(entry) {
             Ok(()) => Ok(()),
             Err(_) => Err(AllocError),
         }
     }
 
-    /// Notes where the definitions have the text of the name that has this slot.
-    pub(crate) fn note_index(&mut self, slot: usize, index: usize) -> Result<(), AllocError> {
-        self.reach(slot)?;
-        if let Some(noted) = self.noted.get_mut(slot) {
-            noted.index = index;
-        }
-        Ok(())
+    /// Takes the last name away, and tells its number.
+    pub(crate) fn pop(&mut self) -> Option<usize>
+        ensures some { IfSome result (λ number. (last : Entry) × (self.old ≡ self.new ++ last ∷ []) × (last.number ≡ number)) }
+        ensures less { IfSome result (λ number. length self.new < length self.old) }
+        ensures none { IfNone result (self.new ≡ []) }
+        ensures unchanged { IfNone result (self.new ≡ self.old) }
+    {
+        let Some(entry) = self.list.pop() else {
+            return None;
+        };
+        let number = entry.number;
+        leave(&mut self.left, number);
+        Some(number)
     }
 
-    /// What is known of the name that has this slot.
-    fn noted(&self, slot: usize) -> Noted {
-        match self.noted.get(slot) {
-            Some(noted) => *noted,
-            None => NOTHING,
-        }
+    /// How many names were summed up, and aren't any more.
+    pub(crate) fn left(&self) -> usize {
+        self.left.len()
     }
 
-    /// Where the definitions have the text of the name that has this slot, if they do.
-    pub(crate) fn index(&self, slot: usize) -> usize {
-        self.noted(slot).index
+    /// The number of the next name that was summed up, and isn't any more.
+    pub(crate) fn next(&mut self) -> Option<usize>
+        ensures { self.new ≡ self.old }
+    {
+        self.left.pop()
     }
 
-    /// Takes each name as one that isn't met yet, where all is to be compiled anew.
-    pub(crate) fn renew(&mut self, anew: bool) {
-        if anew {
-            self.round = self.round.saturating_add(1);
-        }
+    /// Leaves the name with this number for later, which can't be summed up now.
+    pub(crate) fn put_aside(&mut self, number: usize)
+        ensures { self.new ≡ self.old }
+    {
+        leave(&mut self.aside, number);
     }
 
-    /// Begins with the name that has this slot.
-    pub(crate) fn begin(&mut self, slot: usize) -> Result<(), AllocError> {
-        self.reach(slot)?;
-        let round = self.round;
-        if let Some(noted) = self.noted.get_mut(slot) {
-            noted.round = round;
-        }
-        let from = self.noted(slot).from;
-        self.leave(slot, from)
+    /// Takes those that were left for later as the next ones.
+    pub(crate) fn take_back(&mut self)
+        ensures { self.new ≡ self.old }
+    {
+        take_back(&mut self.aside, &mut self.left);
     }
+}
 
-    /// Leaves the names in a text for later, from this place on.
-    fn leave(&mut self, slot: usize, from: usize) -> Result<(), AllocError> {
-        match self.left.push((slot, from)) {
-            Ok(()) => Ok(()),
-            Err(_) => Err(AllocError),
-        }
+/// Leaves a name for later. Where memory is wanting for that, it is found again by the texts that it stands in.
+#[inline(always)]
+fn leave(names: &mut Vec<usize>, number: usize) {
+    if names.push(number).is_err() {
+        names.clear();
     }
+}
 
-    /// The slot whose name is the next to be compiled; None where no name is left.
-    pub(crate) fn next(&mut self) -> Result<Option<usize>, AllocError> {
-        'name: for _ in 0..usize::MAX {
-            let Some((slot, from)) = self.left.pop() else {
-                return Ok(None);
-            };
-            let Some((at, inner)) = self.unmet(from, self.noted(slot).end) else {
-                return Ok(Some(slot));
-            };
-            self.leave(slot, at.saturating_add(1))?;
-            self.begin(inner)?;
+/// Leaves all of these names for later, the last one as the deepest.
+fn take_back(aside: &mut Vec<usize>, left: &mut Vec<usize>) {
+    'name: for _ in 0..aside.len() {
+        if let Some(number) = aside.pop() {
+            leave(left, number);
         }
-        Ok(None)
-    }
-
-    /// The first of these places in `slots` whose name isn't met yet, and its slot.
-    fn unmet(&self, from: usize, end: usize) -> Option<(usize, usize)> {
-        'place: for at in from..end {
-            let slot = *self.slots.get(at)?;
-            if self.noted(slot).round != self.round {
-                return Some((at, slot));
-            }
-        }
-        None
-    }
-
-    /// Makes room for what is known of the name that has this slot.
-    fn reach(&mut self, slot: usize) -> Result<(), AllocError> {
-        'place: for _ in self.noted.len()..=slot {
-            if self.noted.push(NOTHING).is_err() {
-                return Err(AllocError);
-            }
-        }
-        Ok(())
     }
 }

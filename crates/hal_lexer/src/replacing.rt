@@ -1,88 +1,67 @@
 //! The definitions of a file, and the words that stand in place of a word of the file.
 
-ghost use Rattle.std.specs.Prelude.{◌≡◌, ◌<◌, ◌∷◌, [], ◌++◌, List, length, map, OnOk, IfErr};
+ghost use Rattle.std.specs.Prelude.{◌≡◌, ◌<◌, ◌∷◌, [], ◌++◌, List, length, map, OnOk, IfOk, IfErr, IsTrue, IsFalse};
 ghost use Rattle.hal_words.specs.declared.word.Word.TheVariants as word;
 ghost use Rattle.hal_words.specs.Pieces.{Is};
 ghost use Rattle.hal_words.specs.Lines as lines;
 ghost use Rattle.hal_words.specs.Lines.{item};
+ghost use Rattle.hal_words.specs.Replacing as replacing;
 ghost use Rattle.hal_words.specs.Replacing.{replaced_word};
 ghost use Rattle.hal_words.specs.Words.{word_item};
 ghost use Rattle.hal_pieces.specs.Faults.{IsMemory};
-ghost use Rattle.hal_lexer.specs.Compiled.{IsCompiled, IsOrdered, children_at, gives};
+ghost use Rattle.hal_lexer.specs.Compiled.{IsOrdered, children_at, gives};
 ghost use Rattle.hal_lexer.specs.Faults.{Explains};
+ghost use Rattle.hal_lexer.specs.Sound.{IsSound};
 ghost use Rattle.hal_lexer.specs.Texts.{IsText};
-ghost use Rattle.hal_lexer.specs.Turned.{AreTurned};
 ghost use Rattle.hal_lexer.specs.Walks.{kept, left_words, length_left};
 
 use crate::child::Child;
+use crate::comes::Comes;
 use crate::compiled::Compiled;
 use crate::compiling::number;
 use crate::definitions::Definitions;
-use crate::order::Order;
-use crate::places::Places;
+use crate::summary::Summary;
 use crate::text::Text;
 use crate::text_words::is_replace;
 use crate::token_list::Tokens;
-use crate::turns::Turns;
 use crate::walk::Walk;
+use crate::writing::write_given;
 use hal_base::{Fault, Place};
 use hal_pieces::broken;
 use hal_words::{Name, Word};
 use std::alloc::{AllocError, Global};
 
-/// The definitions so far, what of them is compiled, also by the last texts that a name had, and in which
-/// order more is to be.
+/// The definitions so far, and what names come to by them.
 #[derive(Drop)]
 pub(crate) struct Replacements<'a> {
     definitions: Definitions<'a>,
-    compiled: Compiled,
-    turns: Turns<'a>,
-    order: Order,
-    places: Places,
+    summary: Summary,
 }
 
 impl<'a> Replacements<'a> {
     /// No definition.
     pub(crate) fn new(alloc: Global) -> Replacements<'a>
         ensures definitions { result.definitions ≡ [] }
-        ensures compiled { IsCompiled result.definitions result.compiled }
-        ensures turned { AreTurned result.definitions result.turns }
+        ensures sound { IsSound result.definitions result.summary }
     {
         Replacements {
             definitions: Definitions::new(alloc),
-            compiled: Compiled::new(alloc),
-            turns: Turns::new(alloc),
-            order: Order::new(alloc),
-            places: Places::new(alloc),
+            summary: Summary::new(alloc),
         }
     }
 
-    /// Adds a definition. What is compiled rests on the definitions of its names, so where this name is
-    /// one of them and its text is another than before, each name is compiled anew at its next use, unless it
-    /// was while the name had this text before.
+    /// Adds a definition. Where it is by the text that the name has, nothing else is changed.
     pub(crate) fn define(&mut self, alloc: Global, name: Name, text: &'a [u8]) -> Result<(), Fault>
         requires text { IsText text.now }
-        requires compiled { IsCompiled self.old.definitions self.old.compiled }
-        requires turned { AreTurned self.old.definitions self.old.turns }
+        requires sound { IsSound self.old.definitions self.old.summary }
         ensures added { OnOk result (self.new.definitions ≡ (name, text.now) ∷ self.old.definitions) }
-        ensures compiled { OnOk result (IsCompiled self.new.definitions self.new.compiled) }
-        ensures turned { OnOk result (AreTurned self.new.definitions self.new.turns) }
+        ensures sound { OnOk result (IsSound self.new.definitions self.new.summary) }
         ensures memory { IfErr result IsMemory }
     {
-        let slot = self.compiled.slot(name).map_err(Fault::Memory)?;
-        let cut = Text::cut(alloc, &mut self.compiled, &mut self.places, text).map_err(
-            Fault::Memory,
-        )?;
-        self.order
-            .note_text(slot, cut.parts().unwrap_or(&[]))
+        summarize(alloc, &mut self.summary, &self.definitions, name, text).map_err(Fault::Memory)?;
+        self.definitions
+            .push(name, Text::new(text))
             .map_err(Fault::Memory)?;
-        let is_turned = self
-            .turns
-            .turn(&mut self.compiled, &self.definitions, &name, text)
-            .map_err(Fault::Memory)?;
-        self.order.renew(is_turned);
-        let index = self.definitions.push(name, cut).map_err(Fault::Memory)?;
-        self.order.note_index(slot, index).map_err(Fault::Memory)?;
         Ok(())
     }
 
@@ -94,11 +73,9 @@ impl<'a> Replacements<'a> {
         word: Word,
         place: Place,
     ) -> Result<(), Fault>
-        requires compiled { IsCompiled self.old.definitions self.old.compiled }
-        requires turned { AreTurned self.old.definitions self.old.turns }
+        requires { IsSound self.old.definitions self.old.summary }
         ensures same { OnOk result (self.new.definitions ≡ self.old.definitions) }
-        ensures compiled { OnOk result (IsCompiled self.new.definitions self.new.compiled) }
-        ensures turned { OnOk result (AreTurned self.new.definitions self.new.turns) }
+        ensures sound { OnOk result (IsSound self.new.definitions self.new.summary) }
         ensures replaced { OnOk result (map word_item tokens.new
             ≡ map word_item tokens.old ++ replaced_word self.old.definitions (item (Is word) place)) }
         ensures broken { IfErr result (λ fault. (rest : List lines.Item) →
@@ -121,28 +98,98 @@ impl<'a> Replacements<'a> {
         name: Name,
         place: Place,
     ) -> Result<(), Fault>
-        requires compiled { IsCompiled self.old.definitions self.old.compiled }
-        requires turned { AreTurned self.old.definitions self.old.turns }
+        requires { IsSound self.old.definitions self.old.summary }
         ensures same { OnOk result (self.new.definitions ≡ self.old.definitions) }
-        ensures compiled { OnOk result (IsCompiled self.new.definitions self.new.compiled) }
-        ensures turned { OnOk result (AreTurned self.new.definitions self.new.turns) }
+        ensures sound { OnOk result (IsSound self.new.definitions self.new.summary) }
         ensures replaced { OnOk result (map word_item tokens.new
             ≡ map word_item tokens.old ++ replaced_word self.old.definitions (item (Is (word.Name name)) place)) }
         ensures broken { IfErr result (λ fault. (rest : List lines.Item) →
             Explains (map word_item tokens.old ++ (replaced_word self.old.definitions (item (Is (word.Name name)) place) ++ rest)) fault) }
     {
-        let found = number(
-            alloc,
-            &self.definitions,
-            &mut self.compiled,
-            &mut self.order,
-            name,
-            place,
-        )?;
-        match found {
-            Some(number) => write(alloc, &self.compiled, tokens, number, place),
-            None => tokens.push(Word::Name(name), place),
+        if self.put_summed(alloc, tokens, &name, place)? {
+            return Ok(());
         }
+        put_read(alloc, &self.definitions, tokens, name, place)
+    }
+
+    /// Puts a name of the file in its place, if it is known what it comes to; false where it isn't.
+    fn put_summed(
+        &mut self,
+        alloc: Global,
+        tokens: &mut Tokens,
+        name: &Name,
+        place: Place,
+    ) -> Result<bool, Fault>
+        requires { IsSound self.old.definitions self.old.summary }
+        ensures same { OnOk result (self.new.definitions ≡ self.old.definitions) }
+        ensures sound { OnOk result (IsSound self.new.definitions self.new.summary) }
+        ensures replaced { IfOk result (λ put. IsTrue put → map word_item tokens.new
+            ≡ map word_item tokens.old ++ replaced_word self.old.definitions (item (Is (word.Name name.now)) place)) }
+        ensures left { IfOk result (λ put. IsFalse put → tokens.new ≡ tokens.old) }
+        ensures broken { IfErr result (λ fault. (rest : List lines.Item) →
+            Explains (map word_item tokens.old ++ (replaced_word self.old.definitions (item (Is (word.Name name.now)) place) ++ rest)) fault) }
+    {
+        let Some(number) = self.summary.find(name) else {
+            return Ok(false);
+        };
+        raise(alloc, &mut self.summary, number)?;
+        match self.summary.comes(number) {
+            Comes::Unknown => Ok(false),
+            Comes::Nothing => Ok(true),
+            Comes::One(one) => {
+                self.summary.write(alloc, tokens, one, place)?;
+                Ok(true)
+            }
+        }
+    }
+}
+
+/// Sums names up no longer that may rest on a text of this name that is another than this one, and keeps
+/// what is to be known of this one.
+fn summarize(
+    alloc: Global,
+    summary: &mut Summary,
+    definitions: &Definitions,
+    name: Name,
+    text: &[u8],
+) -> Result<(), AllocError>
+    requires text { IsText text.now }
+    requires sound { IsSound definitions.now summary.old }
+    ensures { OnOk result (IsSound ((name, text.now) ∷ definitions.now) summary.new) }
+{
+    if definitions.has(&name, text) {
+        return Ok(());
+    }
+    summary.define(alloc, name, text)
+}
+
+/// Sums up the name with this number, if that is possible.
+fn raise(alloc: Global, summary: &mut Summary, number: usize) -> Result<(), Fault>
+    ensures sound { OnOk result ((definitions : replacing.Definitions) → IsSound definitions summary.old → IsSound definitions summary.new) }
+    ensures words { summary.new.words.items ≡ summary.old.words.items }
+    ensures memory { IfErr result IsMemory }
+{
+    summary.raise(alloc, number).map_err(Fault::Memory)
+}
+
+/// Puts a name in its place, whose text is read anew, to tell which rule it breaks.
+fn put_read(
+    alloc: Global,
+    definitions: &Definitions,
+    tokens: &mut Tokens,
+    name: Name,
+    place: Place,
+) -> Result<(), Fault>
+    ensures replaced { OnOk result (map word_item tokens.new
+        ≡ map word_item tokens.old ++ replaced_word definitions.now (item (Is (word.Name name)) place)) }
+    ensures broken { IfErr result (λ fault. (rest : List lines.Item) →
+        Explains (map word_item tokens.old ++ (replaced_word definitions.now (item (Is (word.Name name)) place) ++ rest)) fault) }
+{
+    let mut compiled = Compiled::new(alloc);
+    let found = number(alloc, definitions, &mut compiled, name, place)?;
+    match found {
+        Some(number) => write(alloc, &compiled, tokens, number, place),
+        None => tokens.push(Word::Name(name), place),
     }
 }
 

@@ -39,9 +39,24 @@ pub(crate) enum Kind {
     Fours,
     /// The same by five texts.
     Fives,
+    /// The same by another name each time.
+    Fresh,
+    /// A chain whose end stands for two names, which are defined in turn.
+    Pair,
+    /// The chain of which fifty names are defined in turn, each by two texts.
+    Fifty,
+    /// A chain whose names are defined in no order, and whose end is defined by other names.
+    Scattered,
+    /// A chain whose end stands for a word and for a name that is defined by other names.
+    Beside,
+    /// The same as `Many`, where the one is other names, and one more name that stands for it is used.
+    Late,
+    /// A name that stands for as many words as fit, and for one more name, which is defined by other names
+    /// and used alone.
+    Leaves,
 }
 
-pub(crate) const KINDS: [Kind; 15] = [
+pub(crate) const KINDS: [Kind; 22] = [
     Kind::Ordinary,
     Kind::Comment,
     Kind::Line,
@@ -57,6 +72,13 @@ pub(crate) const KINDS: [Kind; 15] = [
     Kind::Many,
     Kind::Fours,
     Kind::Fives,
+    Kind::Fresh,
+    Kind::Pair,
+    Kind::Fifty,
+    Kind::Scattered,
+    Kind::Beside,
+    Kind::Late,
+    Kind::Leaves,
 ];
 
 /// A name that stands for a name, and so on, nine deep.
@@ -98,6 +120,41 @@ fn chain_to_head(alloc: Global, count: usize) -> Result<String, AllocError> {
     Ok(lines)
 }
 
+/// The same in no order: the next name is that 7919 places further on, around the end.
+fn scattered(alloc: Global, count: usize) -> Result<String, AllocError> {
+    let mut lines = String::new(alloc);
+    for number in 0..count {
+        let from = number.saturating_mul(7_919) % count.max(1);
+        let to = from.saturating_add(1);
+        let line = format!(in alloc; " REPLACE Z{to} BY \"Z{from}\";\n")?;
+        lines.push_str(line.as_str())?;
+    }
+    let head = format!(in alloc; " REPLACE HEAD BY \"Z{count}\";\n")?;
+    lines.push_str(head.as_str())?;
+    Ok(lines)
+}
+
+/// The chain to HEAD behind a line that defines its end.
+fn chain_over(alloc: Global, end: &str, count: usize) -> Result<String, AllocError> {
+    let mut lines = String::new(alloc);
+    lines.push_str(end)?;
+    let chain = chain_to_head(alloc, count)?;
+    lines.push_str(chain.as_str())?;
+    Ok(lines)
+}
+
+/// A line that defines HEAD as Z0 and so many words more, a use of it, and a name for Z0 with a use of that.
+fn leaves(alloc: Global, count: usize) -> Result<String, AllocError> {
+    let mut line = String::new(alloc);
+    line.push_str(" REPLACE HEAD BY \"Z0")?;
+    for number in 0..count {
+        let word = format!(in alloc; " L{number}")?;
+        line.push_str(word.as_str())?;
+    }
+    line.push_str("\"; HEAD\n REPLACE TAIL BY \"Z0\"; TAIL\n")?;
+    Ok(line)
+}
+
 /// A line that defines HEAD as so many times one name, and as another behind them.
 fn wide(alloc: Global, count: usize, one: &str, other: &str) -> Result<String, AllocError> {
     let mut line = String::new(alloc);
@@ -135,6 +192,40 @@ fn many(alloc: Global, count: usize) -> Result<String, AllocError> {
     Ok(lines)
 }
 
+/// The same, where Z0 comes to nothing at first, with a use of HEAD and of another name for Z0.
+fn late(alloc: Global, count: usize) -> Result<String, AllocError> {
+    let mut lines = many(alloc, count)?;
+    lines.push_str(" REPLACE TAIL BY \"Z0\";\n REPLACE Z0 BY \"\"; HEAD TAIL\n")?;
+    Ok(lines)
+}
+
+/// The text that a name has at this round, which is another one at the next.
+fn other(number: usize, every: usize) -> &'static str {
+    if number / every.max(1) % 2 == 0 {
+        ""
+    } else {
+        " "
+    }
+}
+
+/// A line that defines one of two names, by a word or nothing, and uses HEAD.
+fn pair(alloc: Global, number: usize) -> Result<String, AllocError> {
+    match number % 4 {
+        0 => format!(in alloc; " REPLACE X0 BY \"\"; HEAD\n"),
+        1 => format!(in alloc; " REPLACE Y0 BY \"Q{number}\"; HEAD\n"),
+        2 => format!(in alloc; " REPLACE X0 BY \"Q{number}\"; HEAD\n"),
+        _ => format!(in alloc; " REPLACE Y0 BY \"\"; HEAD\n"),
+    }
+}
+
+/// A line that defines one of fifty names of a chain of so many as the name before it, and uses HEAD.
+fn fifty(alloc: Global, number: usize, count: usize) -> Result<String, AllocError> {
+    let from = (number % 50).saturating_mul(count / 50);
+    let to = from.saturating_add(1);
+    let blank = other(number, 50);
+    format!(in alloc; " REPLACE Z{to} BY \"{blank}Z{from}\"; HEAD\n")
+}
+
 /// What the text begins with, what is repeated, and what it ends with.
 #[derive(Clone, Copy)]
 struct Parts {
@@ -161,6 +252,13 @@ impl Kind {
             Kind::Many => "many",
             Kind::Fours => "fours",
             Kind::Fives => "fives",
+            Kind::Fresh => "fresh",
+            Kind::Pair => "pair",
+            Kind::Fifty => "fifty",
+            Kind::Scattered => "scattered",
+            Kind::Beside => "beside",
+            Kind::Late => "late",
+            Kind::Leaves => "leaves",
         }
     }
 
@@ -236,6 +334,17 @@ impl Kind {
                 repeat: " REPLACE Z0 BY \"\"; HEAD\n REPLACE Z0 BY \"X\"; HEAD\n REPLACE Z0 BY \"Y\"; HEAD\n REPLACE Z0 BY \"0\"; HEAD\n",
                 end: "",
             },
+            Kind::Fresh
+            | Kind::Pair
+            | Kind::Fifty
+            | Kind::Scattered
+            | Kind::Beside
+            | Kind::Late
+            | Kind::Leaves => Parts {
+                begin: "",
+                repeat: "",
+                end: "",
+            },
             Kind::Fives => Parts {
                 begin: "",
                 repeat: " REPLACE Z0 BY \"\"; HEAD\n REPLACE Z0 BY \"X\"; HEAD\n REPLACE Z0 BY \"Y\"; HEAD\n REPLACE Z0 BY \"0\"; HEAD\n REPLACE Z0 BY \"1\"; HEAD\n",
@@ -249,12 +358,46 @@ impl Kind {
         match self {
             Kind::Chain => chain(alloc, size / 64),
             Kind::Empties => empties(alloc, 40),
-            Kind::Same | Kind::Turns | Kind::Fours | Kind::Fives => chain_to_head(alloc, size / 75),
+            Kind::Same | Kind::Turns | Kind::Fours | Kind::Fives | Kind::Fresh | Kind::Fifty =>
+                chain_to_head(alloc, size / 75),
+            Kind::Pair => chain_over(alloc, " REPLACE Z0 BY \"X0 Y0\";\n", size / 75),
+            Kind::Beside => chain_over(alloc, " REPLACE Z0 BY \"X0 W\";\n", size / 75),
+            Kind::Scattered => scattered(alloc, size / 75),
+            Kind::Leaves => leaves(alloc, size / 32),
             Kind::Wide => wide(alloc, size / 8, "Z0", ""),
             Kind::Mixed => wide(alloc, size / 4, "B", "Z0"),
             Kind::Many => many(alloc, size / 140),
+            Kind::Late => late(alloc, size / 140),
             _ => Ok(String::new(alloc)),
         }
+    }
+
+    /// The lines of a round that says its number, for texts of so many bytes.
+    fn round(self, alloc: Global, number: usize, size: usize) -> Result<String, AllocError> {
+        match self {
+            Kind::Fresh | Kind::Scattered => {
+                format!(in alloc; " REPLACE Z0 BY \"N{number}\"; HEAD\n")
+            }
+            Kind::Pair => pair(alloc, number),
+            Kind::Fifty => fifty(alloc, number, size / 75),
+            Kind::Beside => format!(in alloc; " REPLACE X0 BY \"N{number}\"; HEAD\n"),
+            Kind::Late | Kind::Leaves => {
+                format!(in alloc; " REPLACE Z0 BY \"N{number}\"; TAIL\n")
+            }
+            _ => Ok(String::new(alloc)),
+        }
+    }
+
+    /// Adds rounds that say their numbers, up to so many bytes.
+    fn add_rounds(self, alloc: Global, size: usize, text: &mut Vec<u8>) -> Result<(), AllocError> {
+        for number in 0..size {
+            let round = self.round(alloc, number, size)?;
+            if text.len() >= size || round.is_empty() {
+                return Ok(());
+            }
+            text.extend_from_slice(round.as_bytes())?;
+        }
+        Ok(())
     }
 
     /// A text of the kind with at least so many bytes.
@@ -264,6 +407,7 @@ impl Kind {
         text.extend_from_slice(parts.begin.as_bytes())?;
         let definitions = self.definitions(alloc, size)?;
         text.extend_from_slice(definitions.as_bytes())?;
+        self.add_rounds(alloc, size, &mut text)?;
         let left = size.saturating_sub(text.len());
         for _ in 0..=left / parts.repeat.len().max(1) {
             text.extend_from_slice(parts.repeat.as_bytes())?;

@@ -2,15 +2,13 @@ use Rattle.std.proofs.Common.{◌≡◌, ◌-◌, ◌≤◌, ◌++◌, [], lengt
 use Rattle.hal_words.specs.Replacing.{replaced}
 use Rattle.hal_words.specs.Words.{word_item}
 use Rattle.hal_pieces.specs.Faults.{seen_item}
-use Rattle.hal_lexer.specs.Compiled.{IsCompiled}
-use Rattle.hal_lexer.specs.Turned.{AreTurned}
+use Rattle.hal_lexer.specs.Sound.{IsSound}
 use Rattle.hal_lexer.proofs.file_words.replaced_words.Given as goal
 
 abbrev pub invariant-item : goal.invariant-item
 invariant-item l = record {
   whole : replaced 0 [] (map seen_item l.items) ≡ map word_item l.tokens ++ replaced 0 l.replacements.definitions (map seen_item (drop l.«from» l.items));
-  compiled : IsCompiled l.replacements.definitions l.replacements.compiled;
-  turned : AreTurned l.replacements.definitions l.replacements.turns;
+  sound : IsSound l.replacements.definitions l.replacements.summary;
   within : l.«from» ≤ length l.items;
 }
 
