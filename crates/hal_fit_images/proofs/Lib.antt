@@ -1,2 +1,3 @@
 mod Supporting
 mod Righting
+mod Knowing

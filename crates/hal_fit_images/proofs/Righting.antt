@@ -21,7 +21,7 @@ use Rattle.hal_fit.proofs.Units.{unit_right}
 use Rattle.hal_link.specs.LinkedBlocks.{IsOfProcess, IsOfUnit, IsLinkedBlock}
 use Rattle.hal_link.specs.Linking.{image_of, process_site}
 use Rattle.hal_link.specs.UnitCode.{end_code}
-use Rattle.hal_link.proofs.Linked.{image_blocks, image_placed}
+use Rattle.hal_link.proofs.Linked.{image_placed}
 use Rattle.hal_fit_images.specs.Blocks.{AllFit, BlockFits, ProcessFits, UnitFits, ground_of, uses_of}
 use Rattle.hal_fit_images.proofs.Supporting.{own_block, supports}
 
@@ -57,5 +57,5 @@ right_linked turns files views image is right all rows =
     let tables = (image_placed turns files views image is).tables in
     right_whole image right
     (λ b n row there.
-    let linked = image_blocks turns files views image is b row there in
-    block_of (set_of turns files) image all right tables b row there linked (all.blocks b row there linked) n) rows
+    let one = all.blocks b row there in
+    block_of (set_of turns files) image all right tables b row there one.linked one.fits n) rows

@@ -43,7 +43,7 @@ pub own_block : (row : Block) (count : ℕ) → row.process < count → count �
 own_block row count less few = ne_eqb row.process 255 (λ same. omega (arith, less, few, same))
 
 -- what a block gives back whose end is told
-gives : (code : Code) (function : Bool) (head : Head) (row : Block) (at : ℕ) → function ≡ true → EndAt code function head row at → machine.zero_of row.result ≡ Some (zero_of head)
+pub gives : (code : Code) (function : Bool) (head : Head) (row : Block) (at : ℕ) → function ≡ true → EndAt code function head row at → machine.zero_of row.result ≡ Some (zero_of head)
 gives code true head row at is ends = ends.3
 gives code false head row at is ends = absurd (cc)
 

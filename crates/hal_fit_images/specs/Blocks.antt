@@ -53,7 +53,12 @@ abbrev pub BlockFits : (s : Set) (image : ImageParts) (number : ℕ) (row : Bloc
 BlockFits s image number row (inl p) = ProcessFits s image number row p
 BlockFits s image number row (inr u) = UnitFits s image number row u
 
--- each block of an image fits, and there are few processes
+-- a block of an image is linked in a way in which it fits
+pub record IsFit (s : Set) (image : ImageParts) (number : ℕ) (row : Block) : Type 0 where
+  pub linked : IsLinkedBlock s image number row
+  pub fits : BlockFits s image number row linked
+
+-- each block of an image is, and there are few processes
 pub record AllFit (s : Set) (image : ImageParts) : Type 0 where
   pub few : length s.tables.processes ≤ PROCESS_LIMIT
-  pub blocks : (number : ℕ) (row : Block) → slice_get image.blocks number ≡ Some row → (b : IsLinkedBlock s image number row) → BlockFits s image number row b
+  pub blocks : (number : ℕ) (row : Block) → slice_get image.blocks number ≡ Some row → IsFit s image number row

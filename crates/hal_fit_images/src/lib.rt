@@ -4,4 +4,4 @@
 
 mod laws;
 
-pub use laws::an_image_of_blocks_that_fit_is_right;
+pub use laws::{an_image_is_right_where_what_is_left_holds, an_image_of_blocks_that_fit_is_right};

@@ -1,0 +1,15 @@
+pub mod Each
+pub mod Owned
+pub mod Memory
+pub mod Laid
+pub mod Placing
+pub mod Clears
+pub mod Parameters
+pub mod Called
+pub mod Reached
+pub mod Ordered
+pub mod Outlining
+pub mod Ranges
+pub mod Filling
+pub mod Rows
+pub mod Counting

@@ -1,0 +1,5 @@
+pub mod Each
+pub mod Owned
+pub mod Ranked
+pub mod Known
+pub mod Rows
