@@ -1,5 +1,5 @@
 -- Expressions whose names agree are known, where the set that they stand in breaks no rule of types.
-use Rattle.std.proofs.Common.{◌≡◌, ℕ, true, false, List, [], length, Option, Some, None, inl, inr, refl, sym, ap, ◌∙◌}
+use Rattle.std.proofs.Common.{◌≡◌, ℕ, true, List, [], length, Option, Some, None, inl, inr, refl, sym, ap, ◌∙◌}
 use Rattle.std.specs.Option.{option_and_then}
 use Rattle.std.proofs.lemmas.Bool.{and_from}
 use Rattle.hal_base.specs.declared.refusal.Place.{Place}
@@ -9,13 +9,12 @@ use Rattle.hal_phrases.specs.declared.around.Around.{Around}
 use Rattle.hal_phrases.specs.declared.role.Role.{Role}
 use Rattle.hal_phrases.specs.declared.role.Role.TheVariants as role
 use Rattle.hal_phrases.specs.Roles as roles
-use Rattle.hal_phrases.specs.Phrases.{Phrase, phrase, add, OfExpression, OfReference, OfSubscriptName}
+use Rattle.hal_phrases.specs.Phrases.{Phrase, phrase, add, OfExpression, OfReference, OfSubscriptName, OfCallForm}
 use Rattle.hal_phrases.specs.GatheredExpressions.{below, gathered, gathered_all, gathered_terms, gathered_reference, gathered_subscript, gathered_subs, gathered_sub, gathered_position}
 use Rattle.hal_scope.specs.Rules.{IsSound}
 use Rattle.hal_kinds.specs.declared.class.Class.{Class}
 use Rattle.hal_kinds.specs.Classes.{class_of, class_of_name, class_of_reference}
 use Rattle.hal_operands.specs.declared.want.Want.TheVariants as want
-use Rattle.hal_operands.specs.Pairs.{is_eventual}
 use Rattle.hal_operands.specs.Wants.{at, misfit, unfit, wanted}
 use Rattle.hal_uses.specs.Subscripts.{missubscripted, reference_fault}
 use Rattle.hal_types.specs.Rules.{operand_rows, use_rows, type_rows}
@@ -31,9 +30,12 @@ use Rattle.hal_fit_rules.specs.Leaves.{is_value_role, IsKnown, HasKnownLeaves, H
 use Rattle.hal_fit_rules.specs.Agreeing.{Agrees, AllAgree, TermsAgree, ReferenceAgrees, SubscriptAgrees, SubscriptsAgree, SubAgrees, PositionAgrees}
 use Rattle.hal_fit_rules.proofs.Beginning.{then_, among}
 use Rattle.hal_fit_rules.proofs.BegunExpressions.{expression_first, expressions_first, terms_first, subscript_first, subs_first, position_first}
-use Rattle.hal_fit_rules.proofs.Unbroken.{no_rule, unbroken, of_operands, of_uses, value_eventless, own_role}
-use Rattle.hal_fit_rules.proofs.Kinding.{value_converted, kinded, wanted_of, terms}
+use Rattle.hal_fit_rules.proofs.Unbroken.{no_rule, unbroken, of_operands, of_uses, value_eventless}
+use Rattle.hal_fit_rules.proofs.Kinding.{kinded, wanted_of, terms}
 use Rattle.hal_fit_rules.proofs.Choosing.{AreRight, SubscriptRight}
+use Rattle.hal_fit_rules.proofs.Passing.{IsArea, AreAreas}
+use Rattle.hal_fit_rules.proofs.Areas.{area_right}
+use Rattle.hal_fit_rules.proofs.Forming.{call_known}
 use Rattle.hal_fit_rules.proofs.Referring.{reference_known, name_known}
 
 copy_wanted : wanted role.CopySubscript ≡ want.Integer
@@ -47,9 +49,6 @@ array_wanted = refl
 component_wanted : wanted role.ComponentSubscript ≡ want.Integer
 unfolding wanted
 component_wanted = refl
-
-eventless_below : (r own : Role) → is_eventual r ≡ false → is_eventual own ≡ false → is_eventual (roles.under r own) ≡ false
-eventless_below r own plain is = ap is_eventual (own_role r own plain) ∙ is
 
 -- a known name that breaks no rule where an integer is wanted is one
 integer_name : (c : Option Class) (sort : Option Sort) (place : Place) → IsKnown c sort → at place (option_and_then (misfit want.Integer) c) ≡ None → is_integer sort ≡ true
@@ -85,68 +84,83 @@ module _ (u : Uses) (site : Site) (ps : List Phrase) (sound : IsSound type_rows 
   mutual
     unfolding gathered gathered_all gathered_terms gathered_reference gathered_subscript gathered_subs gathered_sub gathered_position
 
-    pub known_leaves : (d : List Phrase) (a : Around) (r : Role) (t : Expression) → is_eventual r ≡ false → AreFirst (gathered d a r t) ps → Agrees u site ps a.block t → HasKnownLeaves u site ps a.block t
-    known_leaves d a r (Or p first others) plain begun agree =
+    pub known_leaves : (d : List Phrase) (a : Around) (r : Role) (t : Expression) → AreFirst (gathered d a r t) ps → Agrees u site ps a.block t → HasKnownLeaves u site ps a.block t
+    known_leaves d a r (Or p first others) begun agree =
         let e : List Phrase = add d a (OfExpression r (Or p first others)) in
-        let one_role : Role = roles.under r role.Disjunct in
-        let eventless = eventless_below r role.Disjunct plain (value_eventless role.Disjunct refl) in (
-          known_leaves e (below d a) one_role first eventless (then_ (expressions_first (gathered e (below d a) one_role first) (below d a) one_role others) begun) agree.0,
-          all_known (gathered e (below d a) one_role first) (below d a) one_role others eventless begun agree.1,
+        let one_role : Role = roles.under r role.Disjunct in (
+          known_leaves e (below d a) one_role first (then_ (expressions_first (gathered e (below d a) one_role first) (below d a) one_role others) begun) agree.0,
+          all_known (gathered e (below d a) one_role first) (below d a) one_role others begun agree.1,
         )
-    known_leaves d a r (And p first others) plain begun agree =
+    known_leaves d a r (And p first others) begun agree =
         let e : List Phrase = add d a (OfExpression r (And p first others)) in
-        let one_role : Role = roles.under r role.Conjunct in
-        let eventless = eventless_below r role.Conjunct plain (value_eventless role.Conjunct refl) in (
-          known_leaves e (below d a) one_role first eventless (then_ (expressions_first (gathered e (below d a) one_role first) (below d a) one_role others) begun) agree.0,
-          all_known (gathered e (below d a) one_role first) (below d a) one_role others eventless begun agree.1,
+        let one_role : Role = roles.under r role.Conjunct in (
+          known_leaves e (below d a) one_role first (then_ (expressions_first (gathered e (below d a) one_role first) (below d a) one_role others) begun) agree.0,
+          all_known (gathered e (below d a) one_role first) (below d a) one_role others begun agree.1,
         )
-    known_leaves d a r (Compare p left relation right) plain begun agree =
+    known_leaves d a r (Compare p left relation right) begun agree =
         let e : List Phrase = add d a (OfExpression r (Compare p left relation right)) in
         let f : List Phrase = gathered e (below d a) role.Compared left in (
-          known_leaves e (below d a) role.Compared left (value_eventless role.Compared refl) (then_ (expression_first f (below d a) role.Compared right) begun) agree.0,
-          known_leaves f (below d a) role.Compared right (value_eventless role.Compared refl) begun agree.1,
+          known_leaves e (below d a) role.Compared left (then_ (expression_first f (below d a) role.Compared right) begun) agree.0,
+          known_leaves f (below d a) role.Compared right begun agree.1,
         )
-    known_leaves d a r (Cat p first others) plain begun agree =
+    known_leaves d a r (Cat p first others) begun agree =
         let e : List Phrase = add d a (OfExpression r (Cat p first others)) in (
-          known_leaves e (below d a) role.Joined first (value_eventless role.Joined refl) (then_ (expressions_first (gathered e (below d a) role.Joined first) (below d a) role.Joined others) begun) agree.0,
-          all_known (gathered e (below d a) role.Joined first) (below d a) role.Joined others (value_eventless role.Joined refl) begun agree.1,
+          known_leaves e (below d a) role.Joined first (then_ (expressions_first (gathered e (below d a) role.Joined first) (below d a) role.Joined others) begun) agree.0,
+          all_known (gathered e (below d a) role.Joined first) (below d a) role.Joined others begun agree.1,
         )
-    known_leaves d a r (Sum p opening first others) plain begun agree =
+    known_leaves d a r (Sum p opening first others) begun agree =
         let e : List Phrase = add d a (OfExpression r (Sum p opening first others)) in (
-          known_leaves e (below d a) role.Summand first (value_eventless role.Summand refl) (then_ (terms_first (gathered e (below d a) role.Summand first) (below d a) others) begun) agree.0,
+          known_leaves e (below d a) role.Summand first (then_ (terms_first (gathered e (below d a) role.Summand first) (below d a) others) begun) agree.0,
           terms_known (gathered e (below d a) role.Summand first) (below d a) others begun agree.1,
         )
-    known_leaves d a r (Product p first others) plain begun agree =
+    known_leaves d a r (Product p first others) begun agree =
         let e : List Phrase = add d a (OfExpression r (Product p first others)) in (
-          known_leaves e (below d a) role.Factor first (value_eventless role.Factor refl) (then_ (expressions_first (gathered e (below d a) role.Factor first) (below d a) role.Factor others) begun) agree.0,
-          all_known (gathered e (below d a) role.Factor first) (below d a) role.Factor others (value_eventless role.Factor refl) begun agree.1,
+          known_leaves e (below d a) role.Factor first (then_ (expressions_first (gathered e (below d a) role.Factor first) (below d a) role.Factor others) begun) agree.0,
+          all_known (gathered e (below d a) role.Factor first) (below d a) role.Factor others begun agree.1,
         )
-    known_leaves d a r (Power p base exponent) plain begun agree =
+    known_leaves d a r (Power p base exponent) begun agree =
         let e : List Phrase = add d a (OfExpression r (Power p base exponent)) in
-        known_leaves e (below d a) role.Base base (value_eventless role.Base refl) (then_ (expression_first (gathered e (below d a) role.Base base) (below d a) role.Exponent exponent) begun) agree
-    known_leaves d a r (Not p operand) plain begun agree =
+        known_leaves e (below d a) role.Base base (then_ (expression_first (gathered e (below d a) role.Base base) (below d a) role.Exponent exponent) begun) agree
+    known_leaves d a r (Not p operand) begun agree =
         let e : List Phrase = add d a (OfExpression r (Not p operand)) in
-        known_leaves e (below d a) (roles.under r role.Negated) operand (eventless_below r role.Negated plain (value_eventless role.Negated refl)) begun agree
-    known_leaves d a r (Literal p literal) plain begun agree = agree
-    known_leaves d a r (Decimal p number) plain begun agree = tt
-    known_leaves d a r (Referred reference) plain begun agree = referred_known (add d a (OfExpression r (Referred reference))) (below d a) r reference begun agree
-    known_leaves d a r (Called p name arguments) plain begun agree = agree
-    known_leaves d a r (Convert p conversion operand) plain begun agree =
+        known_leaves e (below d a) (roles.under r role.Negated) operand begun agree
+    known_leaves d a r (Literal p literal) begun agree = agree
+    known_leaves d a r (Decimal p number) begun agree = tt
+    known_leaves d a r (Referred reference) begun agree = referred_known (add d a (OfExpression r (Referred reference))) (below d a) r reference begun agree
+    known_leaves d a r (Called p name arguments) begun agree =
+        let e : List Phrase = add d a (OfExpression r (Called p name arguments)) in
+        let f : List Phrase = add e (below d a) (OfCallForm p name arguments) in
+        call_known u site ps sound e (below d a) p name arguments begun agree.0 (all_known f (below d a) role.Argument arguments begun agree.1) (areas_known f (below d a) role.Argument arguments begun agree.1)
+    known_leaves d a r (Convert p conversion operand) begun agree =
         let e : List Phrase = add d a (OfExpression r (Convert p conversion operand)) in
-        known_leaves e (below d a) (roles.of_conversion conversion) operand (value_eventless (roles.of_conversion conversion) (value_converted conversion)) begun agree
-    known_leaves d a r (Parenthesis p inner) plain begun agree =
+        known_leaves e (below d a) (roles.of_conversion conversion) operand begun agree
+    known_leaves d a r (Parenthesis p inner) begun agree =
         let e : List Phrase = add d a (OfExpression r (Parenthesis p inner)) in
-        known_leaves e (below d a) (roles.under r role.Enclosed) inner (eventless_below r role.Enclosed plain (value_eventless role.Enclosed refl)) begun agree
+        known_leaves e (below d a) (roles.under r role.Enclosed) inner begun agree
 
-    all_known : (d : List Phrase) (a : Around) (r : Role) (ts : Expressions) → is_eventual r ≡ false → AreFirst (gathered_all d a r ts) ps → AllAgree u site ps a.block ts → HaveKnownLeaves u site ps a.block ts
-    all_known d a r NoExpressions plain begun agree = tt
-    all_known d a r (MoreExpressions first others) plain begun agree =
-        (known_leaves d a r first plain (then_ (expressions_first (gathered d a r first) a r others) begun) agree.0, all_known (gathered d a r first) a r others plain begun agree.1)
+    pub all_known : (d : List Phrase) (a : Around) (r : Role) (ts : Expressions) → AreFirst (gathered_all d a r ts) ps → AllAgree u site ps a.block ts → HaveKnownLeaves u site ps a.block ts
+    all_known d a r NoExpressions begun agree = tt
+    all_known d a r (MoreExpressions first others) begun agree =
+        (known_leaves d a r first (then_ (expressions_first (gathered d a r first) a r others) begun) agree.0, all_known (gathered d a r first) a r others begun agree.1)
+
+    -- arguments that are several elements
+    pub areas_known : (d : List Phrase) (a : Around) (r : Role) (ts : Expressions) → AreFirst (gathered_all d a r ts) ps → AllAgree u site ps a.block ts → AreAreas u site ps a.block ts
+    areas_known d a r NoExpressions begun agree = tt
+    areas_known d a r (MoreExpressions first others) begun agree =
+        (area_known d a r first (then_ (expressions_first (gathered d a r first) a r others) begun) agree.0, areas_known (gathered d a r first) a r others begun agree.1)
+
+    area_known : (d : List Phrase) (a : Around) (r : Role) (t : Expression) → AreFirst (gathered d a r t) ps → Agrees u site ps a.block t → IsArea u site ps a.block t
+    area_known d a r (Referred reference) begun agree = referred_area (add d a (OfExpression r (Referred reference))) (below d a) r reference begun agree
+    area_known d a r other begun agree = tt
+
+    referred_area : (d : List Phrase) (a : Around) (r : Role) (t : Reference) → AreFirst (gathered_reference d a r t) ps → ReferenceAgrees u site ps a.block t → IsArea u site ps a.block (Referred t)
+    referred_area d a r (Refers place name path x) begun agree =
+        area_right u site ps a.block place name path x agree.0 (subscript_known (add d a (OfReference r (Refers place name path x))) (below d a) x begun agree.1)
 
     terms_known : (d : List Phrase) (a : Around) (ts : Terms) → AreFirst (gathered_terms d a ts) ps → TermsAgree u site ps a.block ts → TermsHaveKnownLeaves u site ps a.block ts
     terms_known d a NoTerms begun agree = tt
     terms_known d a (MoreTerms p sign term others) begun agree = (
-      known_leaves d a role.Summand term (value_eventless role.Summand refl) (then_ (terms_first (gathered d a role.Summand term) a others) begun) agree.0,
+      known_leaves d a role.Summand term (then_ (terms_first (gathered d a role.Summand term) a others) begun) agree.0,
       terms_known (gathered d a role.Summand term) a others begun agree.1,
     )
 
@@ -186,18 +200,18 @@ module _ (u : Uses) (site : Site) (ps : List Phrase) (sound : IsSound type_rows 
     sub_known d a r (Portion count first) value wants begun agree =
         let count_begun = then_ (position_first (gathered d a r count) a r first) begun in
         and_from (is_integer (sort_of_expression u site count)) (position_fits u site first)
-        (ap is_integer (integer_of d a r count value wants count_begun (known_leaves d a r count (value_eventless r value) count_begun agree.0)))
+        (ap is_integer (integer_of d a r count value wants count_begun (known_leaves d a r count count_begun agree.0)))
         (position_known (gathered d a r count) a r first value wants begun agree.1)
 
     position_known : (d : List Phrase) (a : Around) (r : Role) (p : Position) → is_value_role r ≡ true → wanted r ≡ want.Integer → AreFirst (gathered_position d a r p) ps → PositionAgrees u site ps a.block p
         → position_fits u site p ≡ true
-    position_known d a r (FromBeginning one) value wants begun agree = ap is_integer (integer_of d a r one value wants begun (known_leaves d a r one (value_eventless r value) begun agree))
+    position_known d a r (FromBeginning one) value wants begun agree = ap is_integer (integer_of d a r one value wants begun (known_leaves d a r one begun agree))
     position_known d a r (FromEnd p ts) value wants begun agree = terms_right a.block ts (terms u site ps sound d a ts begun (terms_known d a ts begun agree))
 
   -- an expression is of the class that its role wants
   pub of_role : (d : List Phrase) (a : Around) (r : Role) (t : Expression) → is_value_role r ≡ true → AreFirst (gathered d a r t) ps → Agrees u site ps a.block t → IsOf ps a.block (wanted r) t
   of_role d a r t value begun agree =
-      let leaves = known_leaves d a r t (value_eventless r value) begun agree in
+      let leaves = known_leaves d a r t begun agree in
       wanted_of u site ps sound d a r (wanted r) t value refl begun leaves (kinded u site ps sound d a r t (value_eventless r value) begun leaves)
 
   -- and has the sort of it
@@ -208,5 +222,5 @@ module _ (u : Uses) (site : Site) (ps : List Phrase) (sound : IsSound type_rows 
       record {
         found = of.found;
         known = of.known;
-        sorted = sorting.kinded u site ps a.block t (kinded u site ps sound d a r t (value_eventless r value) begun (known_leaves d a r t (value_eventless r value) begun agree));
+        sorted = sorting.kinded u site ps a.block t (kinded u site ps sound d a r t (value_eventless r value) begun (known_leaves d a r t begun agree));
       }

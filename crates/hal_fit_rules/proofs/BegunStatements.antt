@@ -20,7 +20,7 @@ labels_first a d xs = each (gathered_label a) (λ e x. one e a _) d xs
 pub close_first : (a : Around) (d : List Phrase) (o : Option Naming) → AreFirst d (gathered_any (gathered_close a) d o)
 close_first a d o = any (gathered_close a) (λ e x. one e a _) d o
 
-processes_first : (a : Around) (d : List Phrase) (xs : List Naming) → AreFirst d (gathered_each (gathered_process a) d xs)
+pub processes_first : (a : Around) (d : List Phrase) (xs : List Naming) → AreFirst d (gathered_each (gathered_process a) d xs)
 processes_first a d xs = each (gathered_process a) (λ e x. one e a _) d xs
 
 pub process_first : (a : Around) (d : List Phrase) (o : Option Naming) → AreFirst d (gathered_any (gathered_process a) d o)
@@ -74,7 +74,7 @@ limit_first a d (Until p condition) = expression_first d a _ condition
 pub any_limit_first : (a : Around) (d : List Phrase) (o : Option Guard) → AreFirst d (gathered_any (gathered_limit a) d o)
 any_limit_first a d o = any (gathered_limit a) (limit_first a) d o
 
-schedule_first : (d : List Phrase) (a : Around) (s : Schedule) → AreFirst d (gathered_schedule d a s)
+pub schedule_first : (d : List Phrase) (a : Around) (s : Schedule) → AreFirst d (gathered_schedule d a s)
 unfolding gathered_schedule
 schedule_first d a s =
     then_ (one d a _) (then_ (any_start_first a _ s.start) (then_ (optional_first _ a _ s.priority) (then_ (any_cycle_first a _ s.cycle) (any_limit_first a _ s.guard))))

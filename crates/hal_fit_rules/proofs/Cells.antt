@@ -24,7 +24,7 @@ use Rattle.hal_code.specs.Sorts.{Sort, I, B, T, sort_of, takes, takes_part}
 use Rattle.hal_fit_classes.specs.Kinded.{sort_of_class}
 
 -- whether a class is that of conditions
-abbrev is_condition : Class → Bool
+abbrev pub is_condition : Class → Bool
 is_condition class.Condition = true
 is_condition other = false
 

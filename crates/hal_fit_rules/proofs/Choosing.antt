@@ -8,7 +8,7 @@ use Rattle.hal_kinds.specs.declared.class.Class.{Class}
 use Rattle.hal_kinds.specs.declared.class.Class.TheVariants as class
 use Rattle.hal_kinds.specs.declared.data.Data.{Data}
 use Rattle.hal_kinds.specs.Subscripts as kinds
-use Rattle.hal_kinds.specs.Subscripts.{subscript_count, choice_of, parts_chosen, is_structure_class, is_miscounted, class_in, class_left, has_copies_left, has_places_left}
+use Rattle.hal_kinds.specs.Subscripts.{subscript_count, choice_of, parts_chosen, is_structure_class, is_miscounted, class_in, has_copies_left, has_places_left}
 use Rattle.hal_constants.specs.Constants.{is_none as is_missing}
 use Rattle.hal_uses.specs.Subscripts.{is_string, component_fault, choice_fault}
 use Rattle.hal_code.specs.Effects.{has_places}

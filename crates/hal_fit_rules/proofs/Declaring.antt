@@ -49,13 +49,13 @@ or_or None y z = refl
 or_or (Some v) y z = refl
 
 -- the type of a name that is declared is the first one among its attributes and those before the comma
-types_joined : (xs ys : List Attribute) → type_among (xs ++ ys) ≡ option_or (type_among xs) (type_among ys)
+pub types_joined : (xs ys : List Attribute) → type_among (xs ++ ys) ≡ option_or (type_among xs) (type_among ys)
 unfolding type_among
 types_joined [] ys = refl
 types_joined (x ∷ xs) ys = ap (option_or (type_in x)) (types_joined xs ys) ∙ sym (or_or (type_in x) (type_among xs) (type_among ys))
 
 -- and so are its sizes
-sizes_joined : (xs ys : List Attribute) → sizes_among (xs ++ ys) ≡ option_or (sizes_among xs) (sizes_among ys)
+pub sizes_joined : (xs ys : List Attribute) → sizes_among (xs ++ ys) ≡ option_or (sizes_among xs) (sizes_among ys)
 unfolding sizes_among
 sizes_joined [] ys = refl
 sizes_joined (x ∷ xs) ys = ap (option_or (sizes_in x)) (sizes_joined xs ys) ∙ sym (or_or (sizes_in x) (sizes_among xs) (sizes_among ys))
@@ -91,7 +91,7 @@ boolean_cells kind.Single is = absurd (cc)
 boolean_cells kind.Double is = absurd (cc)
 boolean_cells (kind.Text m) is = absurd (cc)
 
-cells_of_type : (ps : List Phrase) (vs : Known) (p : Phrase) (double : Bool) (type_ : Kind) (cells : values.Kind) (s : Sort) → kind_of_type ps vs p double (Some type_) ≡ Some cells → sort_of_class (class_of_type type_) ≡ Some s → sort_of cells ≡ s
+pub cells_of_type : (ps : List Phrase) (vs : Known) (p : Phrase) (double : Bool) (type_ : Kind) (cells : values.Kind) (s : Sort) → kind_of_type ps vs p double (Some type_) ≡ Some cells → sort_of_class (class_of_type type_) ≡ Some s → sort_of cells ≡ s
 unfolding kind_of_type kind_of class_of_type
 cells_of_type ps vs p double (IntegerKind place) cells s is worth = integer_cells double cells is ∙ same_sort I s worth
 cells_of_type ps vs p double (BooleanKind place) cells s is worth = boolean_cells cells is ∙ same_sort B s worth
@@ -113,11 +113,11 @@ uncopied (StructureKind place template copies) is = absurd (cc)
 uncopied other is = refl
 
 -- data of one component
-abbrev single_shape : List Phrase → Known → Phrase → List Attribute → Shape
+abbrev pub single_shape : List Phrase → Known → Phrase → List Attribute → Shape
 single_shape ps vs p attributes = record { copies = None; components = component ps vs p [] attributes ∷ [] }
 
 -- the shape of data that are no structure
-plain_shape : (ps : List Phrase) (vs : Known) (p : Phrase) (attributes : List Attribute) (type_ : Kind) → is_structure_type (Some type_) ≡ false
+pub plain_shape : (ps : List Phrase) (vs : Known) (p : Phrase) (attributes : List Attribute) (type_ : Kind) → is_structure_type (Some type_) ≡ false
     → shape_of_type ps vs p attributes (Some type_) ≡ single_shape ps vs p attributes
 unfolding is_structure_type
 plain_shape ps vs p attributes (StructureKind place template copies) is = absurd (cc)
@@ -140,7 +140,7 @@ item_alike ps vs p common item type_ cells typed unstructured sized =
     })
 
 -- the variable of a DO FOR
-temporary_alike : (ps : List Phrase) (p : Phrase) (labels : List Naming) (variable : Naming) → AreAlike (data_at ps p [] (OfTemporaryGroup labels variable)) [] temporary_shape
+pub temporary_alike : (ps : List Phrase) (p : Phrase) (labels : List Naming) (variable : Naming) → AreAlike (data_at ps p [] (OfTemporaryGroup labels variable)) [] temporary_shape
 unfolding data_at is_nil
 temporary_alike ps p labels variable = record {
   declared = data_with class.Integer zero false;
@@ -150,29 +150,34 @@ temporary_alike ps p labels variable = record {
 }
 
 module _ (u : Uses) (site : Site) where
-  meant_itself : (name : List ℕ) (own : IsOwn site name) → name_meant (here_at site) name [] ≡ meant_by (here_at site) [] own.phrase own.phrase.node
+  pub meant_itself : (name : List ℕ) (own : IsOwn site name) → name_meant (here_at site) name [] ≡ meant_by (here_at site) [] own.phrase own.phrase.node
   meant_itself name own =
       ap (λ o. elim o [ None ↦ builtin_meant name | Some k ↦ declaration_meant (here_at site) [] k ])
       (ap (λ (o : Option ℕ). elim o [ None ↦ None | Some k ↦ Some (standing_for site.set.phrases k) ]) own.meant ∙ ap Some own.own)
       ∙ ap (λ (o : Option Phrase). elim o [ None ↦ MeantNothing | Some p ↦ meant_by (here_at site) [] p p.node ]) own.there
 
-  -- a name agrees where what declares it does
-  agrees_by : (name : List ℕ) (own : IsOwn site name) (n : Node) (m : Meant) → own.phrase.node ≡ n → meant_by (here_at site) [] own.phrase n ≡ m → NodeAgrees u site site.set.phrases own.phrase [] n m
-      → NameAgrees u site site.set.phrases site.block name []
-  agrees_by name own n m declares is agrees =
+  -- a name with a path agrees where what declares it does
+  pub agrees_at : (path : List Naming) (name : List ℕ) (own : IsOwn site name) (n : Node) (m : Meant) → own.phrase.node ≡ n → meant_by (here_at site) [] own.phrase n ≡ m
+      → NodeAgrees u site site.set.phrases own.phrase path n m → NameAgrees u site site.set.phrases site.block name path
+  agrees_at path name own n m declares is agrees =
       let whole : name_meant (here_at site) name [] ≡ m = meant_itself name own ∙ (ap (meant_by (here_at site) [] own.phrase) declares ∙ is) in
-      let of_node : NodeAgrees u site site.set.phrases own.phrase [] own.phrase.node m = subst (λ (x : Node). NodeAgrees u site site.set.phrases own.phrase [] x m) (sym declares) agrees in
-      let of_phrase : PhraseAgrees u site site.set.phrases [] (slice_get site.set.phrases own.number) m =
-      subst (λ (o : Option Phrase). PhraseAgrees u site site.set.phrases [] o m) (sym own.there) of_node in
-      let of_number : DeclarationAgrees u site site.set.phrases name [] (means site.set.phrases site.block name) m =
-      subst (λ (o : Option ℕ). DeclarationAgrees u site site.set.phrases name [] o m) (sym own.meant) of_phrase in
-      subst (λ (x : Meant). DeclarationAgrees u site site.set.phrases name [] (means site.set.phrases site.block name) x) (sym whole) of_number
+      let of_node : NodeAgrees u site site.set.phrases own.phrase path own.phrase.node m = subst (λ (x : Node). NodeAgrees u site site.set.phrases own.phrase path x m) (sym declares) agrees in
+      let of_phrase : PhraseAgrees u site site.set.phrases path (slice_get site.set.phrases own.number) m =
+      subst (λ (o : Option Phrase). PhraseAgrees u site site.set.phrases path o m) (sym own.there) of_node in
+      let of_number : DeclarationAgrees u site site.set.phrases name path (means site.set.phrases site.block name) m =
+      subst (λ (o : Option ℕ). DeclarationAgrees u site site.set.phrases name path o m) (sym own.meant) of_phrase in
+      subst (λ (x : Meant). DeclarationAgrees u site site.set.phrases name path (means site.set.phrases site.block name) x) (sym whole) of_number
+
+  -- a name alone
+  pub agrees_by : (name : List ℕ) (own : IsOwn site name) (n : Node) (m : Meant) → own.phrase.node ≡ n → meant_by (here_at site) [] own.phrase n ≡ m → NodeAgrees u site site.set.phrases own.phrase [] n m
+      → NameAgrees u site site.set.phrases site.block name []
+  agrees_by name own n m declares is agrees = agrees_at [] name own n m declares is agrees
 
   -- where data lie that a phrase declares
-  abbrev lying : Phrase → List Attribute → Declared → Meant
+  abbrev pub lying : Phrase → List Attribute → Declared → Meant
   lying p common item = MeantData (spot_of (here_at site) [] p.number (storing site.set.phrases site.set.constants p (OfItem common item))) (shape_of site.set.phrases site.set.constants p common item)
 
-  item_meant_so : (p : Phrase) (common : List Attribute) (item : Declared) (type_ : Kind) → type_of common item ≡ Some type_ → is_event_type (Some type_) ≡ false → is_value_item common item ≡ false
+  pub item_meant_so : (p : Phrase) (common : List Attribute) (item : Declared) (type_ : Kind) → type_of common item ≡ Some type_ → is_event_type (Some type_) ≡ false → is_value_item common item ≡ false
       → item_meant (here_at site) [] p common item ≡ lying p common item
   item_meant_so p common item type_ typed eventless stored =
       ap (λ b. if b then event_meant (here_at site) p.number else (if is_value_item common item then MeantConstant (unwrap_or (value_at site.set.constants p.number) (value.Int (pos 0))) else lying p common item)) (ap is_event_type typed ∙ eventless)
@@ -189,26 +194,26 @@ module _ (u : Uses) (site : Site) where
       (temporary_alike site.set.phrases own.phrase is.labels is.variable)
 
   -- what receivers are that it declares
-  cells_by : (name : List ℕ) (own : IsOwn site name) (n : Node) (at : Spot) (shape : Shape) → own.phrase.node ≡ n → meant_by (here_at site) [] own.phrase n ≡ MeantData at shape
-      → AreAlike (data_at site.set.phrases own.phrase [] n) [] shape → CellsAgree site.set.phrases [] (means site.set.phrases site.block name) (name_meant (here_at site) name [])
-  cells_by name own n at shape declares is alike =
+  pub cells_at : (path : List Naming) (name : List ℕ) (own : IsOwn site name) (n : Node) (at : Spot) (shape : Shape) → own.phrase.node ≡ n → meant_by (here_at site) [] own.phrase n ≡ MeantData at shape
+      → AreAlike (data_at site.set.phrases own.phrase path n) path shape → CellsAgree site.set.phrases path (means site.set.phrases site.block name) (name_meant (here_at site) name [])
+  cells_at path name own n at shape declares is alike =
       let whole : name_meant (here_at site) name [] ≡ MeantData at shape = meant_itself name own ∙ (ap (meant_by (here_at site) [] own.phrase) declares ∙ is) in
-      let of_node : AreAlike (data_at site.set.phrases own.phrase [] own.phrase.node) [] shape = subst (λ (x : Node). AreAlike (data_at site.set.phrases own.phrase [] x) [] shape) (sym declares) alike in
-      let of_phrase : AreCells site.set.phrases [] (slice_get site.set.phrases own.number) (MeantData at shape) =
-      subst (λ (o : Option Phrase). AreCells site.set.phrases [] o (MeantData at shape)) (sym own.there) of_node in
-      let of_number : CellsAgree site.set.phrases [] (means site.set.phrases site.block name) (MeantData at shape) =
-      subst (λ (o : Option ℕ). CellsAgree site.set.phrases [] o (MeantData at shape)) (sym own.meant) of_phrase in
-      subst (λ (x : Meant). CellsAgree site.set.phrases [] (means site.set.phrases site.block name) x) (sym whole) of_number
+      let of_node : AreAlike (data_at site.set.phrases own.phrase path own.phrase.node) path shape = subst (λ (x : Node). AreAlike (data_at site.set.phrases own.phrase path x) path shape) (sym declares) alike in
+      let of_phrase : AreCells site.set.phrases path (slice_get site.set.phrases own.number) (MeantData at shape) =
+      subst (λ (o : Option Phrase). AreCells site.set.phrases path o (MeantData at shape)) (sym own.there) of_node in
+      let of_number : CellsAgree site.set.phrases path (means site.set.phrases site.block name) (MeantData at shape) =
+      subst (λ (o : Option ℕ). CellsAgree site.set.phrases path o (MeantData at shape)) (sym own.meant) of_phrase in
+      subst (λ (x : Meant). CellsAgree site.set.phrases path (means site.set.phrases site.block name) x) (sym whole) of_number
 
   pub plain_cells_agree : (name : List ℕ) (own : IsOwn site name) → IsPlainData site own.phrase → CellsAgree site.set.phrases [] (means site.set.phrases site.block name) (name_meant (here_at site) name [])
   plain_cells_agree name own is =
-      cells_by name own (OfItem is.common is.item) (spot_of (here_at site) [] own.phrase.number (storing site.set.phrases site.set.constants own.phrase (OfItem is.common is.item)))
+      cells_at [] name own (OfItem is.common is.item) (spot_of (here_at site) [] own.phrase.number (storing site.set.phrases site.set.constants own.phrase (OfItem is.common is.item)))
       (shape_of site.set.phrases site.set.constants own.phrase is.common is.item) is.declares (item_meant_so own.phrase is.common is.item is.kind is.typed is.eventless is.stored)
       (item_alike site.set.phrases site.set.constants own.phrase is.common is.item is.kind is.cells is.typed is.unstructured is.sized)
 
   pub temporary_cells_agree : (name : List ℕ) (own : IsOwn site name) → IsTemporary own.phrase → CellsAgree site.set.phrases [] (means site.set.phrases site.block name) (name_meant (here_at site) name [])
   temporary_cells_agree name own is =
-      cells_by name own (OfTemporaryGroup is.labels is.variable) (Own (first_place site.places own.phrase.number)) temporary_shape is.declares refl
+      cells_at [] name own (OfTemporaryGroup is.labels is.variable) (Own (first_place site.places own.phrase.number)) temporary_shape is.declares refl
       (temporary_alike site.set.phrases own.phrase is.labels is.variable)
 
   -- a built-in function without a list gives an integer
@@ -246,15 +251,15 @@ module _ (u : Uses) (site : Site) where
   returned_sort (HasKind (EventKind place) precision) c s is worth = absurd (cc)
   returned_sort (HasKind (StructureKind place template copies) precision) c s is worth = absurd (cc)
 
+  -- what a FUNCTION gives
+  pub function_gives : (p : Phrase) (is : IsFunction u site p) → IsKnown (class_of_returns is.returns) (sort_of_call u site p.number)
+  function_gives p is =
+      let called : sort_of_call u site p.number ≡ sort_of_value (zero_of_returns is.returns) =
+      ap (option_and_then (sort_of_body u p.number)) is.unit
+      ∙ (ap (λ h. if u.calls p.number && is_function h then sort_of_value (zero_of h) else None) is.head ∙ ap (λ b. if b && true then sort_of_value (zero_of_returns is.returns) else None) is.calls) in
+      record { found = is.result; known = is.gives; sorted = λ one s of_one worth. called ∙ returned_sort is.returns one s of_one worth }
+
   pub function_agrees : (name : List ℕ) (own : IsOwn site name) → IsFunction u site own.phrase → NameAgrees u site site.set.phrases site.block name []
   unfolding class_of_head
   function_agrees name own is =
-      let unit : ℕ = own.phrase.number in
-      let called : sort_of_call u site unit ≡ sort_of_value (zero_of_returns is.returns) =
-      ap (option_and_then (sort_of_body u unit)) is.unit
-      ∙ (ap (λ h. if u.calls unit && is_function h then sort_of_value (zero_of h) else None) is.head ∙ ap (λ b. if b && true then sort_of_value (zero_of_returns is.returns) else None) is.calls) in
-      agrees_by name own (OfUnit is.name (Function is.place is.inputs is.returns is.mode) is.declarations) (MeantBlock unit) is.declares refl (record {
-        found = is.result;
-        known = is.gives;
-        sorted = λ one s of_one worth. called ∙ returned_sort is.returns one s of_one worth;
-      })
+      agrees_by name own (OfUnit is.name (Function is.place is.inputs is.returns is.mode) is.declarations) (MeantBlock own.phrase.number) is.declares refl (function_gives own.phrase is)

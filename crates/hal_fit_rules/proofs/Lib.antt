@@ -2,12 +2,33 @@ mod Beginning
 mod BegunExpressions
 mod Unbroken
 mod Classes
+mod Limiting
 pub mod Kinding
 mod Choosing
 mod Referring
+mod Passing
+mod Areas
+mod Forming
 pub mod Agreeing
 mod BegunStatements
 pub mod Stating
 pub mod Declaring
+pub mod Ranging
 mod Cells
 pub mod Receiving
+mod Reading
+mod Counting
+mod Channeling
+mod Signalling
+mod Outside
+mod Leaving
+pub mod Happening
+mod Procedures
+mod Marking
+mod Using
+mod UsingStatements
+mod Parameters
+pub mod Calling
+pub mod Constants
+pub mod Structuring
+pub mod Eventful

@@ -50,11 +50,11 @@ use Rattle.hal_fit_rules.proofs.Agreeing.{subscripted_right, subscript_known}
 use Rattle.hal_fit_rules.proofs.Cells.{data_plain, structureless, single_received, class_received, goes, class_goes, kind_takes, part_taken}
 
 -- a receiver by what its name means
-abbrev fits_meant : Uses → Site → List Naming → Subscript → Sort → Meant → Bool
+abbrev pub fits_meant : Uses → Site → List Naming → Subscript → Sort → Meant → Bool
 fits_meant u site path Unsubscripted s m = kept_fits path s m
 fits_meant u site path x s m = addressed_fits u site path x s m
 
-receiver_meant : (u : Uses) (site : Site) (s : Sort) (place : Place) (name : List ℕ) (path : List Naming) (x : Subscript)
+pub receiver_meant : (u : Uses) (site : Site) (s : Sort) (place : Place) (name : List ℕ) (path : List Naming) (x : Subscript)
     → receiver_fits u site s (Refers place name path x) ≡ fits_meant u site path x s (name_meant (here_at site) name [])
 receiver_meant u site s place name path Unsubscripted = refl
 receiver_meant u site s place name path (ByName p n) = refl
@@ -62,14 +62,14 @@ receiver_meant u site s place name path (ByInteger p spot number) = refl
 receiver_meant u site s place name path (ByParts p copies arrays components) = refl
 
 -- data that a phrase declares are of the class of what is chosen of them
-cells_class : (ps : List Phrase) (p : Phrase) (path : List Naming) (x : Subscript) (n : Node) (shape : Shape) → AreAlike (data_at ps p path n) path shape
+pub cells_class : (ps : List Phrase) (p : Phrase) (path : List Naming) (x : Subscript) (n : Node) (shape : Shape) → AreAlike (data_at ps p path n) path shape
     → class_at ps p path x n ≡ option_and_then (λ (e : Data). class_left e (kinds.chosen e x)) (data_at ps p path n)
 unfolding class_at data_at
 cells_class ps p path x (OfTemplate name head declarations) shape alike = absurd (let is = alike.known in cc)
 cells_class ps p path x (OfUnit name head declarations) shape alike = absurd (let is = alike.known in cc)
 cells_class ps p path x other shape alike = refl
 
-cells_fault : (ps : List Phrase) (p : Phrase) (path : List Naming) (x : Subscript) (n : Node) (shape : Shape) → AreAlike (data_at ps p path n) path shape → fault_at ps p path x n ≡ None
+pub cells_fault : (ps : List Phrase) (p : Phrase) (path : List Naming) (x : Subscript) (n : Node) (shape : Shape) → AreAlike (data_at ps p path n) path shape → fault_at ps p path x n ≡ None
     → (eventful : Bool) × (data_fault eventful x (data_at ps p path n) ≡ None)
 unfolding fault_at data_at
 cells_fault ps p path x (OfTemplate name head declarations) shape alike none = absurd (let is = alike.known in cc)
@@ -109,7 +109,7 @@ module _ (u : Uses) (site : Site) where
         and_from (places_fit u site (is_arrayed (sizes_named path shape)) x) (received_fits u site (kind_of_first (chosen path shape.components)) s (is_arrayed (sizes_named path shape)) x)
         (places_right u site (is_arrayed (sizes_named path shape)) x right) (received_right (kind_of_first (chosen path shape.components)) s (is_arrayed (sizes_named path shape)) x whole part right)
 
-    meant_right : (x : Subscript) (at : Spot) (shape : Shape) (s : Sort) → takes (kind_of_first (chosen path shape.components)) s ≡ true
+    pub meant_right : (x : Subscript) (at : Spot) (shape : Shape) (s : Sort) → takes (kind_of_first (chosen path shape.components)) s ≡ true
         → (nat_lt 0 (choice_of (is_arrayed (sizes_named path shape)) x).components ≡ true → takes_part (kind_of_first (chosen path shape.components)) (sort_of (kind_of_first (chosen path shape.components))) s ≡ true)
         → SubscriptRight u site x → fits_meant u site path x s (MeantData at shape) ≡ true
     meant_right Unsubscripted at shape s whole part right = whole
@@ -157,7 +157,7 @@ module _ (u : Uses) (site : Site) where
     declared_right ps x name (Some k) m v s cells none misfits taken fits worth right = phrase_right ps x (slice_get ps k) m v s cells none misfits taken fits worth right
 
 module _ (u : Uses) (site : Site) (ps : List Phrase) (sound : IsSound type_rows ps) where
-  receiver_fit : (d : List Phrase) (a : Around) (t : Reference) → AreFirst (add d a (OfReference role.Receiver t)) ps → option_and_then misfit_of_receiver (class_of_reference ps a.block t) ≡ None
+  pub receiver_fit : (d : List Phrase) (a : Around) (t : Reference) → AreFirst (add d a (OfReference role.Receiver t)) ps → option_and_then misfit_of_receiver (class_of_reference ps a.block t) ≡ None
   unfolding operand_rows unfit receiver_misfit
   receiver_fit d a t first =
       no_rule (place_of_reference t) (option_and_then misfit_of_receiver (class_of_reference ps a.block t))

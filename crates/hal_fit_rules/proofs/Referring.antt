@@ -19,7 +19,7 @@ use Rattle.hal_kinds.specs.declared.data.Data.{Data}
 use Rattle.hal_kinds.specs.Classes.{class_of_head, class_of_form, class_of_builtin, class_at, class_of_path, class_of_name, class_of_reference}
 use Rattle.hal_kinds.specs.Data.{data_at}
 use Rattle.hal_kinds.specs.Subscripts as kinds
-use Rattle.hal_kinds.specs.Subscripts.{choice_of, is_structure_class, is_miscounted, class_in, class_left}
+use Rattle.hal_kinds.specs.Subscripts.{choice_of, is_miscounted, class_in, class_left}
 use Rattle.hal_uses.specs.Subscripts.{single, is_string, choice_fault, is_eventful_head, head_fault, is_event_name, data_fault, fault_at, builtin_fault, named_fault, reference_fault}
 use Rattle.hal_meaning.specs.Elements.{Shape, chosen}
 use Rattle.hal_meaning.specs.Expressions.{sizes_named}
@@ -67,7 +67,7 @@ chosen_whole true s is = refl
 chosen_whole false s is = absurd (cc)
 
 -- what a name means is no data
-abbrev IsNoData : Meant → Type 0
+abbrev pub IsNoData : Meant → Type 0
 IsNoData (MeantData at shape) = ⊥
 IsNoData other = Unit {0}
 
@@ -136,7 +136,7 @@ module _ (u : Uses) (site : Site) (path : List Naming) where
       known_as (option_and_then (λ (e : Data). class_left e (kinds.chosen e x)) found) (class_in d (kinds.chosen d x)) (sort_of_subscripted u site path x m) (class_of_chosen d found x single_.known is_right.counted)
       (λ s worth.
       let one = one_chosen d (kinds.chosen d x) s worth in
-      value_sort x s m no_data (single_.sorted s one.1) right
+      value_sort x s m no_data (single_.sorted ∙ (sym single_.class ∙ one.1)) right
       (λ some. string_places d.class eventful s (is_right.parts.components (ap (λ b. nat_lt 0 (choice_of b x).components) single_.single ∙ some)) one.1))
 
   known_data : (x : Subscript) (found : Option Data) (m : Meant) (eventful : Bool) → DataAgree u site path found m → data_fault eventful x found ≡ None → SubscriptRight u site x

@@ -45,6 +45,11 @@ pub of_uses : (row : Row) → IsAmong row use_rows → IsAmong row type_rows
 unfolding type_rows
 of_uses row listed = among_second row attribute_rows (operand_rows ++ (use_rows ++ size_rows)) (among_second row operand_rows (use_rows ++ size_rows) (among_first row use_rows size_rows listed))
 
+-- and one of sizes
+pub of_sizes : (row : Row) → IsAmong row size_rows → IsAmong row type_rows
+unfolding type_rows
+of_sizes row listed = among_second row attribute_rows (operand_rows ++ (use_rows ++ size_rows)) (among_second row operand_rows (use_rows ++ size_rows) (among_second row use_rows size_rows listed))
+
 pub ruled_none : (rule : ℕ) (o : Option Place) → ruled rule o ≡ None → o ≡ None
 ruled_none rule None is = refl
 ruled_none rule (Some place) is = absurd (cc)
@@ -63,7 +68,7 @@ value_eventless role.EventOrTime is = absurd (cc)
 value_eventless other is = refl
 
 -- and none of times
-value_timeless : (ps : List Phrase) (k : ℕ) (r : Role) → is_value_role r ≡ true → is_whole_time ps k r ≡ false
+pub value_timeless : (ps : List Phrase) (k : ℕ) (r : Role) → is_value_role r ≡ true → is_whole_time ps k r ≡ false
 unfolding is_whole_time
 value_timeless ps k role.Time is = absurd (cc)
 value_timeless ps k role.Event is = absurd (cc)
@@ -96,15 +101,15 @@ module _ (ps : List Phrase) (sound : IsSound type_rows ps) where
   no_place true place is none = absurd (cc)
   no_place false place is none = absurd (cc)
 
-  -- a decimal is a time
-  pub no_decimal : {X : Type 0} (d : List Phrase) (a : Around) (r : Role) (place : Place) (number : ℕ) → is_value_role r ≡ true
+  -- a decimal is a whole time
+  pub no_decimal : {X : Type 0} (d : List Phrase) (a : Around) (r : Role) (place : Place) (number : ℕ) → is_whole_time ps a.parent r ≡ false
       → AreFirst (add (add d a (OfExpression r (Decimal place number))) (below d a) (OfDecimal r place)) ps → X
   unfolding operand_rows untimely is_timely
-  no_decimal d a r place number value first =
+  no_decimal d a r place number timeless first =
       let before = there ps d a (OfExpression r (Decimal place number)) (then_ (one (add d a (OfExpression r (Decimal place number))) (below d a) (OfDecimal r place)) first) in
       let e : List Phrase = add d a (OfExpression r (Decimal place number)) in
       let none = ruled_none 322 (untimely ps (phrase (length e) (below d a) (OfDecimal r place)) (OfDecimal r place))
       (unbroken type_rows ps sound (phrase (length e) (below d a) (OfDecimal r place)) (among ps e (below d a) (OfDecimal r place) first) (λ qs q. ruled 322 (untimely qs q q.node))
       (of_operands (λ qs q. ruled 322 (untimely qs q q.node)) (inl refl))) in
       no_place (is_timely ps (length d) r) place
-      (ap (λ (o : Option Phrase). elim o [ None ↦ true | Some q ↦ is_whole_time ps q.around.parent r ]) before ∙ value_timeless ps a.parent r value) none
+      (ap (λ (o : Option Phrase). elim o [ None ↦ true | Some q ↦ is_whole_time ps q.around.parent r ]) before ∙ timeless) none

@@ -1,6 +1,15 @@
 pub mod Begun
 pub mod Leaves
+pub mod Parameters
 pub mod Agreeing
+pub mod Passed
+pub mod Left
+pub mod Channels
+pub mod Signalled
 pub mod Stated
 pub mod Owned
+pub mod Happening
 pub mod Received
+pub mod Used
+pub mod Passing
+pub mod Valued

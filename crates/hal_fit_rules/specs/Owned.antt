@@ -12,9 +12,11 @@ use Rattle.hal_scope.specs.declared.builtin.Form.TheVariants as form
 use Rattle.hal_scope.specs.Builtins.{builtin_named, form_of}
 use Rattle.hal_scope.specs.Sorts.{type_of}
 use Rattle.hal_kinds.specs.declared.class.Class.{Class}
+use Rattle.hal_kinds.specs.declared.class.Class.TheVariants as class
+use Rattle.hal_kinds.specs.declared.data.Data.{Data}
 use Rattle.hal_kinds.specs.Classes.{class_of_returns}
 use Rattle.hal_kinds.specs.Attributes.{has_mark}
-use Rattle.hal_kinds.specs.Data.{is_event_type, is_structure_type}
+use Rattle.hal_kinds.specs.Data.{data_at, is_event_type, is_structure_type}
 use Rattle.hal_values.specs.declared.value.Kind as values
 use Rattle.hal_constants.specs.Known.{kind_of_type}
 use Rattle.hal_constants.specs.Naming.{is_value_item}
@@ -78,3 +80,15 @@ pub record IsFunction (u : Uses) (site : Site) (phrase : Phrase) : Type 0 where
   pub unit : body_at site.set phrase.number ≡ Some body
   pub head : body.head ≡ Function place inputs returns mode
   pub calls : u.calls phrase.number ≡ true
+
+-- it declares a structure, and what stands at the end of a path is one
+pub record IsStructureData (site : Site) (phrase : Phrase) (path : List Naming) : Type 0 where
+  pub common : List Attribute
+  pub item : Declared
+  pub declares : phrase.node ≡ OfItem common item
+  pub kind : Kind
+  pub typed : type_of common item ≡ Some kind
+  pub structured : is_structure_type (Some kind) ≡ true
+  pub declared : Data
+  pub known : data_at site.set.phrases phrase path (OfItem common item) ≡ Some declared
+  pub whole : declared.class ≡ class.Structure

@@ -1,27 +1,32 @@
--- Statements whose expressions have names that agree where they stand. What no rule of operands speaks of has to fit itself.
+-- Statements whose names, calls and channels agree where they stand.
 use Rattle.std.specs.Prelude.{◌≡◌, ℕ, suc, Bool, true, false, List, [], Option, Some, None, length}
 use Rattle.hal_grammar.specs.Leaves.{Naming}
 use Rattle.hal_grammar.specs.Expressions.{Expression, Decimal}
-use Rattle.hal_grammar.specs.Statements.{Guard, While, Until, Span, Stepped, Listed, Start, StartAt, StartIn, StartOn, Cycle, Cyclic, CyclicEvery, CyclicAfter, Schedule, Statement, Labelled, Basic, Assignment, If, Do, DoCase, DoLoop, DoFor, Write, Scheduled, UpdatePriority, Wait, WaitUntil, Update, OnErrorStatement, Alternative, NoAlternative, Otherwise, Group, Groups, Statements, NoStatements, MoreStatements}
+use Rattle.hal_grammar.specs.Statements.{Guard, While, Until, Span, Stepped, Listed, Start, StartAt, StartIn, StartOn, Cycle, Cyclic, CyclicEvery, CyclicAfter, Schedule, Statement, Labelled, Basic, Assignment, If, Do, DoCase, DoLoop, DoFor, Return, Call, Read, Write, Event, Scheduled, UpdatePriority, Wait, WaitUntil, Update, OnErrorStatement, OnErrorResponse, Alternative, NoAlternative, Otherwise, Group, Groups, Statements, NoStatements, MoreStatements}
 use Rattle.hal_phrases.specs.declared.around.Around.{Around}
 use Rattle.hal_phrases.specs.declared.role.Role.TheVariants as role
 use Rattle.hal_phrases.specs.Surroundings.{inside, grouped, updated}
-use Rattle.hal_phrases.specs.Phrases.{Phrase, add, gathered_each, gathered_any, OfGroup, OfUpdate, OfHandler}
+use Rattle.hal_phrases.specs.Phrases.{Phrase, phrase, add, gathered_each, gathered_any, OfExpression, OfGroup, OfRead, OfWrite, OfUpdate, OfHandler}
 use Rattle.hal_phrases.specs.GatheredExpressions.{below, gathered}
 use Rattle.hal_phrases.specs.GatheredStatements.{gathered_label, gathered_guard, gathered_span, begun_for, around_for, gathered_statement, gathered_alternative}
+use Rattle.hal_names.specs.Means.{means}
+use Rattle.hal_scope.specs.Uses.{holds_event}
+use Rattle.hal_meaning.specs.Variables.{name_meant}
 use Rattle.hal_meaning.specs.Marks.{after_statement, after_alternative}
 use Rattle.hal_code.specs.declared.image.ImageParts.{ImageParts}
 use Rattle.hal_code.specs.declared.operand.Time.TheVariants as time
 use Rattle.hal_code.specs.Operands.{is_time}
 use Rattle.hal_code.specs.Sorts.{I}
-use Rattle.hal_agreement.specs.Sites.{Site, group_site}
+use Rattle.hal_agreement.specs.Sites.{Site, here_at, group_site}
 use Rattle.hal_fitting.specs.Fitting.{Ground}
 use Rattle.hal_fit_expr.specs.Uses.{Uses}
 use Rattle.hal_fit_expr.specs.Sorted.{sort_of_name}
-use Rattle.hal_fit.specs.Stating.{ChannelFits, BasicFits}
-use Rattle.hal_fit.specs.Timed.{LimitFits}
 use Rattle.hal_fit_rules.specs.Agreeing.{Agrees, AllAgree}
-use Rattle.hal_fit_rules.specs.Received.{ReceiversAgree}
+use Rattle.hal_fit_rules.specs.Received.{CellsAgree, ReceiversAgree, ReadsAgree}
+use Rattle.hal_fit_rules.specs.Passed.{CallAgrees}
+use Rattle.hal_fit_rules.specs.Left.{UnitAgrees}
+use Rattle.hal_fit_rules.specs.Channels.{ChannelAgrees}
+use Rattle.hal_fit_rules.specs.Signalled.{EventAgrees, AnyEventAgrees}
 
 -- an expression that may be there
 abbrev pub AnyAgrees : Uses → Site → List Phrase → ℕ → Option Expression → Type 0
@@ -57,16 +62,31 @@ CycleAgrees u site ps block (Some (Cyclic place)) = Unit {0}
 CycleAgrees u site ps block (Some (CyclicEvery place tree)) = TimeAgrees u site ps block tree
 CycleAgrees u site ps block (Some (CyclicAfter place tree)) = TimeAgrees u site ps block tree
 
--- SCHEDULE, what ends its cycles aside
+-- what ends cycles: an event expression, or a time that is none for the checks either
+abbrev pub EndAgrees : Uses → Site → List Phrase → ℕ → Bool → Expression → Type 0
+EndAgrees u site ps block true tree = Unit {0}
+EndAgrees u site ps block false tree = (holds_event ps block tree ≡ false) × TimeAgrees u site ps block tree
+
+abbrev pub LimitAgrees : Uses → Site → List Phrase → ℕ → Option Guard → Type 0
+LimitAgrees u site ps block None = Unit {0}
+LimitAgrees u site ps block (Some (While place tree)) = Unit {0}
+LimitAgrees u site ps block (Some (Until place tree)) = EndAgrees u site ps block (holds_event site.set.phrases site.block tree) tree
+
+-- SCHEDULE
 pub record ScheduleAgrees (u : Uses) (site : Site) (ps : List Phrase) (block : ℕ) (s : Schedule) : Type 0 where
   pub first : StartAgrees u site ps block s.start
   pub second : AnyAgrees u site ps block s.priority
   pub third : CycleAgrees u site ps block s.cycle
-  pub fourth : LimitFits u site s.guard
+  pub fourth : LimitAgrees u site ps block s.guard
+
+-- the variable of a DO FOR, TEMPORARY or named
+abbrev pub VariableAgrees : Uses → Site → List Phrase → ℕ → Bool → List ℕ → Type 0
+VariableAgrees u site ps block true name = sort_of_name u site name [] ≡ Some I
+VariableAgrees u site ps block false name = CellsAgree ps [] (means ps block name) (name_meant (here_at site) name [])
 
 -- DO FOR, whose variable has this name
-pub record ForAgrees (u : Uses) (site : Site) (ps : List Phrase) (block : ℕ) (name : List ℕ) (span : Span) (guard : Option Guard) : Type 0 where
-  pub variable : sort_of_name u site name [] ≡ Some I
+pub record ForAgrees (u : Uses) (site : Site) (ps : List Phrase) (block : ℕ) (temporary : Bool) (name : List ℕ) (span : Span) (guard : Option Guard) : Type 0 where
+  pub variable : VariableAgrees u site ps block temporary name
   pub spanned : SpanAgrees u site ps block span
   pub guarded : AnyGuardAgrees u site ps block guard
 
@@ -88,17 +108,25 @@ abbrev mutual
   BasicAgrees image g u ps within site m d a labels (DoLoop place guard group) =
       GuardAgrees (u within) site ps a.block guard × GroupAgrees image g u ps within site (suc m) (gathered_guard (below d a) (add d a (OfGroup labels true)) guard) (grouped (length d) a) group
   BasicAgrees image g u ps within site m d a labels (DoFor place temporary variable span guard group) =
-      ForAgrees (u within) (group_site site temporary m) ps (around_for d a temporary).block variable.name span guard
+      ForAgrees (u within) (group_site site temporary m) ps (around_for d a temporary).block temporary variable.name span guard
       × GroupAgrees image g u ps within (group_site site temporary m) (suc m)
       (gathered_any (gathered_guard (around_for d a temporary)) (gathered_span (begun_for d a labels temporary variable) (around_for d a temporary) span) guard) (around_for d a temporary) group
-  BasicAgrees image g u ps within site m d a labels (Write place channel items) = (within ≡ false) × ChannelFits site channel × AllAgree (u within) site ps a.block items
-  BasicAgrees image g u ps within site m d a labels (Update place body close) = (within ≡ false) × StatementsAgree image g u ps true site (suc m) (add d a (OfUpdate place labels)) (updated (length d) a) body
-  BasicAgrees image g u ps within site m d a labels (Scheduled place s) = (within ≡ false) × ScheduleAgrees (u within) site ps a.block s
-  BasicAgrees image g u ps within site m d a labels (Wait place tree) = (within ≡ false) × TimeAgrees (u within) site ps a.block tree
-  BasicAgrees image g u ps within site m d a labels (WaitUntil place tree) = (within ≡ false) × TimeAgrees (u within) site ps a.block tree
-  BasicAgrees image g u ps within site m d a labels (UpdatePriority place name tree) = (within ≡ false) × Agrees (u within) site ps a.block tree
+  BasicAgrees image g u ps within site m d a labels (Write place channel items) =
+      ChannelAgrees site ps (phrase (length (add d a (OfWrite place))) (below d a) (OfExpression role.Channel channel)) channel × AllAgree (u within) site ps a.block items
+  BasicAgrees image g u ps within site m d a labels (Read place channel receivers) =
+      ChannelAgrees site ps (phrase (length (add d a (OfRead place))) (below d a) (OfExpression role.Channel channel)) channel × ReadsAgree (u within) site ps a.block receivers
+  BasicAgrees image g u ps within site m d a labels (Update place body close) = StatementsAgree image g u ps true site (suc m) (add d a (OfUpdate place labels)) (updated (length d) a) body
+  BasicAgrees image g u ps within site m d a labels (Scheduled place s) = ScheduleAgrees (u within) site ps a.block s
+  BasicAgrees image g u ps within site m d a labels (Wait place tree) = TimeAgrees (u within) site ps a.block tree
+  BasicAgrees image g u ps within site m d a labels (WaitUntil place tree) = TimeAgrees (u within) site ps a.block tree
+  BasicAgrees image g u ps within site m d a labels (UpdatePriority place name tree) = Agrees (u within) site ps a.block tree
   BasicAgrees image g u ps within site m d a labels (OnErrorStatement place s handler) = StatementAgrees image g u ps within site (suc m) (add d a (OfHandler place s)) (inside a) handler
-  BasicAgrees image g u ps within site m d a labels other = BasicFits image g u within site m other
+  BasicAgrees image g u ps within site m d a labels (OnErrorResponse place s response e) = AnyEventAgrees image site ps a.block e
+  BasicAgrees image g u ps within site m d a labels (Event e) = EventAgrees image site ps a.block e
+  BasicAgrees image g u ps within site m d a labels (Return place None) = Unit {0}
+  BasicAgrees image g u ps within site m d a labels (Return place (Some tree)) = UnitAgrees g.block site ps a.home × Agrees (u within) site ps a.block tree
+  BasicAgrees image g u ps within site m d a labels (Call place name arguments receivers) = CallAgrees (u within) site ps a.block name arguments receivers
+  BasicAgrees image g u ps within site m d a labels other = Unit {0}
 
   -- what stands after ELSE
   pub AlternativeAgrees : ImageParts → Ground → (Bool → Uses) → List Phrase → Bool → Site → ℕ → List Phrase → Around → Alternative → Type 0
