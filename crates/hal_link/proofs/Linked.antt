@@ -1,5 +1,5 @@
 -- The image of a set stands for it.
-use Rattle.std.specs.Prelude.{◌≡◌, ◌<◌, ◌≤◌, ℕ, zero, suc, ◌+◌, ◌==◌, Bool, true, false, List, [], ◌∷◌, ◌++◌, length, find, position, Option, Some, None, slice_get, Ok, Err, if◌then◌else◌}
+use Rattle.std.specs.Prelude.{◌≡◌, ◌<◌, ◌≤◌, ◌⊎◌, ℕ, zero, suc, ◌+◌, ◌==◌, Bool, true, false, List, [], ◌∷◌, ◌++◌, length, find, position, Option, Some, None, slice_get, Ok, Err, if◌then◌else◌}
 use Rattle.std.proofs.Common.{refl, sym, ap, subst, ◌∙◌, inl, inr, arith, append-nil}
 use Rattle.std.proofs.lemmas.Bool.{eqb-true}
 use Rattle.std.proofs.lemmas.Option.{slice_get_within}
@@ -31,8 +31,9 @@ use Rattle.hal_gen_expr.proofs.Numbered as numbered
 use Rattle.hal_link.specs.Outlines.{Outline, own_block, block_of, outlines_of, ranks_of, numbering_of}
 use Rattle.hal_link.specs.ProcessCode.{process_code}
 use Rattle.hal_link.specs.Shapes.{shapes_of}
-use Rattle.hal_link.specs.UnitCode.{clears_of, cleared_code, end_code, unit_code, unit_block}
+use Rattle.hal_link.specs.UnitCode.{clears_from, clears_of, cleared_code, end_code, unit_code, unit_block}
 use Rattle.hal_link.specs.LinkedBlocks.{CallsUnits, IsOfProcess, IsOfUnit, IsLinkedBlock}
+use Rattle.hal_link.specs.KnownBlocks.{KnownProcess, KnownUnit, IsKnown, HasOwnBlock}
 use Rattle.hal_link.specs.Linking.{Linked, linked, Linking, and_then, process_block, process_site, behind_block, with_process, with_unit, with_units, with_outline, with_outlines, image_with, linking, image_by, image_of}
 use Rattle.hal_link.proofs.Beginning.{all_begin}
 use Rattle.hal_link.proofs.Clearing.{all_cleared}
@@ -184,6 +185,7 @@ module _ (s : Set) (views : List View) (whole : Linked) where
     pub block : slice_get whole.blocks number ≡ Some row
     pub its : row.process ≡ o.process
     pub at : UnitAt (code_of o) s (places_of_process s o.process) body row
+    pub clears : at.clears ≡ clears_from s body.number 0 (places_of_process s o.process)
     pub ends : row.end ≡ at.finish + length (end_code (is_function body.head) body.head)
 
   -- the code of a process stands there, and that of the units that it calls
@@ -262,6 +264,7 @@ module _ (s : Set) (views : List View) (whole : Linked) where
             leads_out = coded.leads_out;
             ends = coded.ends;
           };
+          clears = refl;
           ends = coded.long;
         }
 
@@ -435,6 +438,19 @@ module _ (s : Set) (views : List View) (whole : Linked) where
         let number : 0 + q ≡ q = omega arith in
         ap (block_of (outlines_of s)) number ∙ ap (λ r. elim r [ None ↦ 0 | Some one ↦ own_block one ]) there
 
+    -- each process has a block of its own
+    own_there : (q : ℕ) → q < length s.tables.processes → HasOwnBlock s image q
+    own_there q less =
+        let outline = outline_there q less in
+        let one = each q outline.0 outline.1 in
+        let at = outlined_at (ranks_of s.phrases) (processes_of s.phrases) 0 0 q outline.0 outline.1 in
+        let number = at.0 in
+        record {
+          row = process_block outline.0.process (length one.before) one.end;
+          there = subst (λ m. slice_get whole.blocks m ≡ Some (process_block outline.0.process (length one.before) one.end)) (sym (ap (λ r. elim r [ None ↦ 0 | Some x ↦ own_block x ]) outline.1)) one.row;
+          its = omega (arith, number);
+        }
+
     -- the units that the blocks of a process call stand there
     calls_units : (o : Outline) → Stands o → CallsUnits s image (block_number (numbering_of (shapes_of s) views o)) o.process
     calls_units o one =
@@ -455,65 +471,109 @@ module _ (s : Set) (views : List View) (whole : Linked) where
         let there = given.is in
         omega (arith, is, within, there)
 
-    own_linked : (q : ℕ) (o : Outline) (number : ℕ) (row : Block) → slice_get (outlines_of s) q ≡ Some o → number ≡ own_block o → slice_get whole.blocks number ≡ Some row → IsOfProcess s image number row
-    own_linked q o number row there is block =
+    own_is_known : (q : ℕ) (o : Outline) (number : ℕ) (row : Block) → slice_get (outlines_of s) q ≡ Some o → number ≡ own_block o → slice_get whole.blocks number ≡ Some row → KnownProcess s views image o number row
+    own_is_known q o number row there is block =
         let one = each q o there in
         let at = outlined_at (ranks_of s.phrases) (processes_of s.phrases) 0 0 q o there in
         let process : q ≡ o.process = let number = at.0 in omega (arith, number) in
         let unit = subst (λ m. slice_get (processes_of s.phrases) m ≡ Some o.unit) process at.1 in
         let within = subst (λ m. q < m) (sym same) (slice_get_within (processes_of s.phrases) q o.unit at.1) in
         let its = process_block o.process (length one.before) one.end in
-        subst (IsOfProcess s image number) (the_same its row (slice_get whole.blocks number) (subst (λ m. slice_get whole.blocks m ≡ Some its) (sym is) one.row) block)
+        subst (KnownProcess s views image o number) (the_same its row (slice_get whole.blocks number) (subst (λ m. slice_get whole.blocks m ≡ Some its) (sym is) one.row) block)
         (record {
-          there = subst (λ m. m < length s.tables.processes) process within;
-          body = one.body;
-          found = ap (λ r. elim r [ None ↦ None | Some k ↦ body_at s k ]) unit ∙ one.found;
-          owned = subst (λ m. is_of_process image m ≡ true) (block_is q o there ∙ sym is) (own_among s (outlines_of s) 0 s.tables.processes q within);
-          block = block_number (numbering_of (shapes_of s) views o);
-          calls = calls_units o one;
-          before = λ unit callee named. stand_before o number unit callee is named;
-          begins = one.begins;
-          spot = one.spot;
-          code = one.stands;
-          ends = one.ends;
+          numbered = is;
+          its = refl;
+          linked = record {
+            there = subst (λ m. m < length s.tables.processes) process within;
+            body = one.body;
+            found = ap (λ r. elim r [ None ↦ None | Some k ↦ body_at s k ]) unit ∙ one.found;
+            owned = subst (λ m. is_of_process image m ≡ true) (block_is q o there ∙ sym is) (own_among s (outlines_of s) 0 s.tables.processes q within);
+            block = block_number (numbering_of (shapes_of s) views o);
+            calls = calls_units o one;
+            before = λ unit callee named. stand_before o number unit callee is named;
+            begins = one.begins;
+            spot = one.spot;
+            code = one.stands;
+            ends = one.ends;
+          };
+          found = one.found;
+          block = refl;
         })
 
-    unit_linked : (q : ℕ) (o : Outline) (number : ℕ) (row : Block) (k unit : ℕ) → slice_get (outlines_of s) q ≡ Some o → slice_get o.called k ≡ Some unit → number ≡ o.first + k
-        → slice_get whole.blocks number ≡ Some row → IsOfUnit s image number row
-    unit_linked q o number row k unit there named is block =
+    unit_is_known : (q : ℕ) (o : Outline) (number : ℕ) (row : Block) (k unit : ℕ) → slice_get (outlines_of s) q ≡ Some o → slice_get o.called k ≡ Some unit → number ≡ o.first + k
+        → slice_get whole.blocks number ≡ Some row → KnownUnit s views image o number row
+    unit_is_known q o number row k unit there named is block =
         let one = (each q o there).units k unit named in
         let within = slice_get_within o.called k unit named in
         let at = outlined_at (ranks_of s.phrases) (processes_of s.phrases) 0 0 q o there in
         let process : q ≡ o.process = let number = at.0 in omega (arith, number) in
         let among = subst (λ m. m < length s.tables.processes) process (subst (λ m. q < m) (sym same) (slice_get_within (processes_of s.phrases) q o.unit at.1)) in
-        subst (IsOfUnit s image number) (the_same one.row row (slice_get whole.blocks number) (subst (λ m. slice_get whole.blocks m ≡ Some one.row) (sym is) one.block) block)
-        (subst (λ p. (at : UnitAt (code_of o) s (places_of_process s p) one.body one.row) → one.row.end ≡ at.finish + length (end_code (is_function one.body.head) one.body.head)
-        → CallsUnits s image (block_number (numbering_of (shapes_of s) views o)) p → p < length s.tables.processes → IsOfUnit s image number one.row) one.its
-        (λ at ends calls low. record {
-          there = low;
-          body = one.body;
-          owned = none_among s (outlines_of s) 0 s.tables.processes number (λ r less found.
-              let other = outline_there r less in
-              apart 0 (outlines_of s) q r o other.0 k (outlines_laid (ranks_of s.phrases) 0 0 (processes_of s.phrases)) there other.1 within (sym (block_is r other.0 other.1) ∙ (found ∙ is)));
-          block = block_number (numbering_of (shapes_of s) views o);
-          calls = calls;
-          code = at;
-          ends = ends;
-        }) one.at one.ends (calls_units o (each q o there)) among)
+        subst (KnownUnit s views image o number) (the_same one.row row (slice_get whole.blocks number) (subst (λ m. slice_get whole.blocks m ≡ Some one.row) (sym is) one.block) block)
+        (subst (λ p. p ≡ o.process → (at : UnitAt (code_of o) s (places_of_process s p) one.body one.row) → at.clears ≡ clears_from s one.body.number 0 (places_of_process s p)
+        → one.row.end ≡ at.finish + length (end_code (is_function one.body.head) one.body.head)
+        → CallsUnits s image (block_number (numbering_of (shapes_of s) views o)) p → p < length s.tables.processes → KnownUnit s views image o number one.row) one.its
+        (λ its at clears ends calls low. record {
+          place = k;
+          unit = unit;
+          named = named;
+          numbered = is;
+          its = its;
+          linked = record {
+            there = low;
+            body = one.body;
+            owned = none_among s (outlines_of s) 0 s.tables.processes number (λ r less found.
+                let other = outline_there r less in
+                apart 0 (outlines_of s) q r o other.0 k (outlines_laid (ranks_of s.phrases) 0 0 (processes_of s.phrases)) there other.1 within (sym (block_is r other.0 other.1) ∙ (found ∙ is)));
+            block = block_number (numbering_of (shapes_of s) views o);
+            calls = calls;
+            code = at;
+            ends = ends;
+          };
+          found = one.found;
+          block = refl;
+          clears = clears;
+        }) refl one.at one.clears one.ends (calls_units o (each q o there)) among)
 
-    linked_in : (q : ℕ) (o : Outline) (number : ℕ) (row : Block) → slice_get (outlines_of s) q ≡ Some o → IsIn o number → slice_get whole.blocks number ≡ Some row → IsLinkedBlock s image number row
-    linked_in q o number row there (inl is) block = inl (own_linked q o number row there is block)
-    linked_in q o number row there (inr (k, unit, named, is)) block = inr (unit_linked q o number row k unit there named is block)
+    -- the row of a block names the process of its outline
+    outline_at : (q : ℕ) (o : Outline) (row : Block) → slice_get (outlines_of s) q ≡ Some o → row.process ≡ o.process → slice_get (outlines_of s) row.process ≡ Some o
+    outline_at q o row there its =
+        let at = outlined_at (ranks_of s.phrases) (processes_of s.phrases) 0 0 q o there in
+        let same : q ≡ row.process = let number = at.0 in omega (arith, number, its) in
+        subst (λ m. slice_get (outlines_of s) m ≡ Some o) same there
 
-  -- each block is that of a process or of a unit
-  pub blocks_linked : linking s views ≡ Ok whole → length s.tables.processes ≡ length (processes_of s.phrases) → (number : ℕ) (row : Block) → slice_get whole.blocks number ≡ Some row → IsLinkedBlock s image number row
-  blocks_linked is same number row block =
+    known_in : (q : ℕ) (o : Outline) (number : ℕ) (row : Block) → slice_get (outlines_of s) q ≡ Some o → IsIn o number → slice_get whole.blocks number ≡ Some row → IsKnown s views image number row
+    known_in q o number row there (inl is) block =
+        let known = own_is_known q o number row there is block in
+        record { outline = o; there = outline_at q o row there known.its; is = inl known }
+    known_in q o number row there (inr (k, unit, named, is)) block =
+        let known = unit_is_known q o number row k unit there named is block in
+        record { outline = o; there = outline_at q o row there known.its; is = inr known }
+
+  -- each block is that of a process or of a unit, by its outline
+  pub blocks_known : linking s views ≡ Ok whole → length s.tables.processes ≡ length (processes_of s.phrases) → (number : ℕ) (row : Block) → slice_get whole.blocks number ≡ Some row → IsKnown s views image number row
+  blocks_known is same number row block =
       let laid = outlines_laid (ranks_of s.phrases) 0 0 (processes_of s.phrases) in
       let known = outlines_known (outlines_of s) (linked [] []) 0 laid refl is in
       let long = outlines_long s views (outlines_of s) (linked [] []) whole 0 laid refl is in
       let less = slice_get_within whole.blocks number row block in
       let owned = owner 0 (outlines_of s) number laid (omega arith) (subst (λ m. number < m) long less) in
-      linked_in same known.each owned.place owned.outline number row owned.there owned.is block
+      known_in same known.each owned.place owned.outline number row owned.there owned.is block
+
+  pub blocks_linked : linking s views ≡ Ok whole → length s.tables.processes ≡ length (processes_of s.phrases) → (number : ℕ) (row : Block) → slice_get whole.blocks number ≡ Some row → IsLinkedBlock s image number row
+  blocks_linked is same number row block =
+      let known = blocks_known is same number row block in
+      by known.outline known.is
+    where
+      by : (o : Outline) → KnownProcess s views image o number row ⊎ KnownUnit s views image o number row → IsLinkedBlock s image number row
+      by o (inl known) = inl known.linked
+      by o (inr known) = inr known.linked
+
+  -- each process has a block of its own
+  pub owns_given : linking s views ≡ Ok whole → length s.tables.processes ≡ length (processes_of s.phrases) → (q : ℕ) → q < length s.tables.processes → HasOwnBlock s image q
+  owns_given is same =
+      let laid = outlines_laid (ranks_of s.phrases) 0 0 (processes_of s.phrases) in
+      let known = outlines_known (outlines_of s) (linked [] []) 0 laid refl is in
+      own_there same known.each
 
 image_given : (s : Set) (views : List View) (r : Linking) (made : ImageParts) → linking s views ≡ r → image_by s views r ≡ Ok made → length s.tables.processes ≡ length (processes_of s.phrases) → IsPlaced s made
 image_given s views (Ok whole) made linked_so is same = subst (IsPlaced s) (let there : image_with s views whole ≡ made = cc in there) (placed s views whole linked_so same)
@@ -536,3 +596,29 @@ pub image_blocks : (turns : ℕ) (files : List File) (views : List View) (made :
     → (number : ℕ) (row : Block) → slice_get made.blocks number ≡ Some row → IsLinkedBlock (set_of turns files) made number row
 image_blocks turns files views made is =
     blocks_given (set_of turns files) views (linking (set_of turns files) views) made refl is (length-map (processes_of (phrases_of files)) (path_of (phrases_of files)))
+
+known_given : (s : Set) (views : List View) (r : Linking) (made : ImageParts) → linking s views ≡ r → image_by s views r ≡ Ok made → length s.tables.processes ≡ length (processes_of s.phrases)
+    → (number : ℕ) (row : Block) → slice_get made.blocks number ≡ Some row → IsKnown s views made number row
+known_given s views (Ok whole) made linked_so is same =
+    subst (λ (one : ImageParts). (number : ℕ) (row : Block) → slice_get one.blocks number ≡ Some row → IsKnown s views one number row) (let there : image_with s views whole ≡ made = cc in there)
+    (blocks_known s views whole linked_so same)
+known_given s views (Err at) made linked_so is same = absurd (cc)
+
+-- and it is known by the outline of its process
+pub image_known : (turns : ℕ) (files : List File) (views : List View) (made : ImageParts) → image_of (set_of turns files) views ≡ Ok made
+    → (number : ℕ) (row : Block) → slice_get made.blocks number ≡ Some row → IsKnown (set_of turns files) views made number row
+image_known turns files views made is =
+    known_given (set_of turns files) views (linking (set_of turns files) views) made refl is (length-map (processes_of (phrases_of files)) (path_of (phrases_of files)))
+
+own_given : (s : Set) (views : List View) (r : Linking) (made : ImageParts) → linking s views ≡ r → image_by s views r ≡ Ok made → length s.tables.processes ≡ length (processes_of s.phrases)
+    → (process : ℕ) → process < length s.tables.processes → HasOwnBlock s made process
+own_given s views (Ok whole) made linked_so is same =
+    subst (λ (one : ImageParts). (process : ℕ) → process < length s.tables.processes → HasOwnBlock s one process) (let there : image_with s views whole ≡ made = cc in there)
+    (owns_given s views whole linked_so same)
+own_given s views (Err at) made linked_so is same = absurd (cc)
+
+-- and each process has a block of its own
+pub image_owns : (turns : ℕ) (files : List File) (views : List View) (made : ImageParts) → image_of (set_of turns files) views ≡ Ok made
+    → (process : ℕ) → process < length (set_of turns files).tables.processes → HasOwnBlock (set_of turns files) made process
+image_owns turns files views made is =
+    own_given (set_of turns files) views (linking (set_of turns files) views) made refl is (length-map (processes_of (phrases_of files)) (path_of (phrases_of files)))

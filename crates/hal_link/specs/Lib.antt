@@ -12,3 +12,4 @@ pub mod SeenLinking
 pub mod Finding
 pub mod SeenOutlines
 pub mod LinkedBlocks
+pub mod KnownBlocks

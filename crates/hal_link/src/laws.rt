@@ -1,6 +1,6 @@
 //! What holds of linked images.
 
-ghost use Rattle.std.specs.Prelude.{◌≡◌, ℕ, true, List, Ok, Some, slice_get};
+ghost use Rattle.std.specs.Prelude.{◌≡◌, ◌<◌, ℕ, true, List, length, Ok, Some, slice_get};
 ghost use Rattle.hal_grammar.specs.Units.{File};
 ghost use Rattle.hal_values.specs.Loads.{Agree};
 ghost use Rattle.hal_meaning.specs.Sets.{set_of};
@@ -11,6 +11,7 @@ ghost use Rattle.hal_code.specs.declared.row.View.{View};
 ghost use Rattle.hal_code.specs.Courses as code;
 ghost use Rattle.hal_code.specs.Right.{blocks_right};
 ghost use Rattle.hal_agreement.specs.Placed.{IsPlaced};
+ghost use Rattle.hal_link.specs.KnownBlocks.{HasOwnBlock, IsKnown};
 ghost use Rattle.hal_link.specs.LinkedBlocks.{IsLinkedBlock};
 ghost use Rattle.hal_link.specs.Linking.{image_of};
 
@@ -29,4 +30,8 @@ pub fn each_block_of_a_linked_image_is_of_a_process_or_a_unit()
     ensures rows { (turns : ℕ) (files : List File) (views : List View) (image : ImageParts) → image_of (set_of turns files) views ≡ Ok image → blocks_right image ≡ true }
     ensures each { (turns : ℕ) (files : List File) (views : List View) (image : ImageParts) → image_of (set_of turns files) views ≡ Ok image
         → (number : ℕ) (row : Block) → slice_get image.blocks number ≡ Some row → IsLinkedBlock (set_of turns files) image number row }
+    ensures known { (turns : ℕ) (files : List File) (views : List View) (image : ImageParts) → image_of (set_of turns files) views ≡ Ok image
+        → (number : ℕ) (row : Block) → slice_get image.blocks number ≡ Some row → IsKnown (set_of turns files) views image number row }
+    ensures own { (turns : ℕ) (files : List File) (views : List View) (image : ImageParts) → image_of (set_of turns files) views ≡ Ok image
+        → (process : ℕ) → process < length (set_of turns files).tables.processes → HasOwnBlock (set_of turns files) image process }
 {}

@@ -1,17 +1,15 @@
 -- The list that is gathered phrase by phrase has the lock groups of each UPDATE block at its number.
-use Rattle.std.proofs.Common.{◌≡◌, ◌∙◌, ◌==◌, ◌<◌, ◌≤◌, ◌-◌, ℕ, zero, suc, bit_or, Bool, true, false, List, [], ◌∷◌, ◌++◌, length, replicate, Option, Some, None, slice_set, slice_index_or, filter_map, if◌then◌else◌, refl, sym, ap, ap₂, subst, arith, eqb-true, append-nil}
-use Rattle.std.specs.List.{cons_option}
+use Rattle.std.proofs.Common.{◌≡◌, ◌∙◌, ◌==◌, ◌<◌, ◌≤◌, ◌-◌, ℕ, zero, suc, bit_or, Bool, true, false, List, [], ◌∷◌, ◌++◌, length, replicate, Option, Some, None, slice_set, slice_index_or, if◌then◌else◌, refl, sym, ap, subst, arith, eqb-true, append-nil}
 use Rattle.std.proofs.lemmas.Bool.{eqb-false}
 use Rattle.std.proofs.lemmas.List.{get_or-set_same, get_or-set_other, length-append, length-replicate}
 use Rattle.std.proofs.lemmas.Option.{unwrap_or-slice_get}
 use Rattle.hal_phrases.specs.Phrases.{Phrase}
 use Rattle.hal_constants.specs.Known.{Known}
-use Rattle.hal_meaning.specs.LockGroups.{groups_of}
-use Rattle.hal_lock_groups.specs.Gathering.{bits_for, held, joined, with_phrase, with_phrases, gathered, block_at, blocks_among}
+use Rattle.hal_lock_groups.specs.Gathering.{bits_for, held, joined, with_phrase, with_phrases, gathered}
 use Rattle.hal_lock_groups.specs.Groups.{bits_at}
 use Rattle.hal_lock_groups.specs.Shared.{Shared, shared_of}
-use Rattle.hal_lock_groups.specs.Updates.{AreGroups, is_update, block, update_block, update_groups}
-use Rattle.hal_lock_groups.proofs.Gathered.{with_bits, with_all_bits, all_bits}
+use Rattle.hal_lock_groups.specs.Updates.{AreGroups}
+use Rattle.hal_lock_groups.proofs.Gathered.{with_all_bits, all_bits}
 
 -- a list that is long enough
 pub long_enough : (list : List ℕ) (u : ℕ) → suc u ≤ length list → list ≡ held list u
@@ -62,15 +60,3 @@ phrases_for ps s list (p ∷ qs) u = phrases_for ps s (with_phrase ps s list p) 
 
 pub all_gathered : (ps : List Phrase) (vs : Known) → AreGroups ps vs (gathered ps (shared_of ps vs))
 all_gathered ps vs u = phrases_for ps (shared_of ps vs) [] ps u ∙ all_bits ps vs u
-
--- the UPDATE blocks of a set
-one_block : (ps : List Phrase) (vs : Known) (list : List ℕ) → AreGroups ps vs list → (p : Phrase) → block_at list p ≡ update_block ps vs p
-one_block ps vs list are p = ap (λ (n : ℕ). if is_update p.node then Some (block p.number n) else None) (are p.number)
-
-some_blocks : (ps : List Phrase) (vs : Known) (list : List ℕ) → AreGroups ps vs list → (qs : List Phrase) → filter_map (block_at list) qs ≡ filter_map (update_block ps vs) qs
-some_blocks ps vs list are [] = refl
-some_blocks ps vs list are (p ∷ qs) = ap₂ cons_option (one_block ps vs list are p) (some_blocks ps vs list are qs)
-
-pub all_blocks : (ps : List Phrase) (vs : Known) (list : List ℕ) → AreGroups ps vs list → blocks_among list ps ≡ update_groups ps vs
-unfolding blocks_among update_groups
-all_blocks ps vs list are = some_blocks ps vs list are ps

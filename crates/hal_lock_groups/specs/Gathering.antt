@@ -1,10 +1,8 @@
 -- The lock groups of all UPDATE blocks of a set in one list, as bits that are gathered phrase by phrase.
-use Rattle.std.specs.Prelude.{ℕ, suc, ◌-◌, bit_or, List, [], ◌∷◌, ◌++◌, length, replicate, Option, Some, None, slice_get, slice_set, unwrap_or, filter_map, if◌then◌else◌}
+use Rattle.std.specs.Prelude.{ℕ, suc, ◌-◌, bit_or, List, [], ◌∷◌, ◌++◌, length, replicate, Some, None, slice_get, slice_set, unwrap_or}
 use Rattle.hal_phrases.specs.Phrases.{Phrase}
-use Rattle.hal_lock_groups.specs.declared.block.UpdateGroups.{UpdateGroups}
 use Rattle.hal_lock_groups.specs.Groups.{bits_at}
 use Rattle.hal_lock_groups.specs.Shared.{Shared}
-use Rattle.hal_lock_groups.specs.Updates.{is_update, block}
 
 -- what a list has for a number: 0 behind its end
 abbrev pub bits_for : List ℕ → ℕ → ℕ
@@ -30,10 +28,3 @@ with_phrases ps s list (p ∷ qs) = with_phrases ps s (with_phrase ps s list p) 
 -- those of a set
 abbrev pub gathered : List Phrase → Shared → List ℕ
 gathered ps s = with_phrases ps s [] ps
-
--- the UPDATE blocks among phrases, with what a list has for each
-abbrev pub block_at : List ℕ → Phrase → Option UpdateGroups
-block_at list p = if is_update p.node then Some (block p.number (bits_for list p.number)) else None
-
-unfoldable pub blocks_among : List ℕ → List Phrase → List UpdateGroups
-blocks_among list ps = filter_map (block_at list) ps

@@ -2,12 +2,10 @@
 #![tactic(auto)]
 
 mod adding;
-mod block;
 mod blocks;
 mod groups;
 mod naming;
 mod plain;
 mod shared;
 
-pub use block::UpdateGroups;
-pub use blocks::{all_groups, groups_at, update_groups};
+pub use blocks::{all_groups, groups_at};

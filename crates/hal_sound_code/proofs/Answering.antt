@@ -9,7 +9,7 @@ use Rattle.hal_values.specs.declared.value.Kind.{Kind}
 use Rattle.hal_values.specs.declared.value.Kind.TheVariants as kind
 use Rattle.hal_values.specs.declared.value.Value.{Value}
 use Rattle.hal_values.specs.declared.value.Value.TheVariants as value
-use Rattle.hal_values.specs.Answers.{Answered, Ends, FitsAlive, Fits, error, IsAlreadyActive, IsInactive, IsNoDescendant, IsNoDatum, IsOtherDatum}
+use Rattle.hal_values.specs.Answers.{Answered, Ends, FitsAlive, Fits, error}
 use Rattle.hal_values.specs.Answers as answered
 use Rattle.hal_values.specs.Kinds.{IsDatum}
 use Rattle.hal_states.specs.Modes.{opened}

@@ -1,6 +1,5 @@
 -- The entries for errors that a block can have.
 use Rattle.std.specs.Prelude.{ℕ, ◌+◌, length, Bool, true, false, ◌||◌, List, [], ◌∷◌, Some, None, slice_get}
-use Rattle.hal_values.specs.declared.environment.Entry.{Entry}
 use Rattle.hal_values.specs.declared.environment.Selector.{Selector}
 use Rattle.hal_values.specs.Searching.{same_selector}
 use Rattle.hal_code.specs.declared.image.ImageParts.{ImageParts}

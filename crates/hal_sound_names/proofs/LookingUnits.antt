@@ -21,14 +21,14 @@ use Rattle.hal_sound_names.proofs.LookingUp.{Adds, Leaves, adds, adds_then, adds
 use Rattle.hal_sound_names.proofs.LookingStatements.{statement_goes, close_goes}
 use Rattle.hal_sound_names.proofs.LookingDeclarations.{both, head_names, declarations_names}
 
-apart : (k unit : ℕ) → k ≢ unit → (k == unit) ≡ false
+pub apart : (k unit : ℕ) → k ≢ unit → (k == unit) ≡ false
 apart k unit other = grind (arith, nat_tests)
 
 -- the numbers of the phrases behind these, through those, aren't this unit's
-abbrev IsBeside : ℕ → List Phrase → List Phrase → Type 0
+abbrev pub IsBeside : ℕ → List Phrase → List Phrase → Type 0
 IsBeside unit d e = (k : ℕ) → length d ≤ k → k < length e → (k == unit) ≡ false
 
-longer : (d : List Phrase) (a : Around) (n : Node) → length d < length (add d a n)
+pub longer : (d : List Phrase) (a : Around) (n : Node) → length d < length (add d a n)
 longer d a n = omega (arith, length-append d (phrase (length d) a n ∷ []))
 
 -- the phrases of a unit: its own, those of its head, of its declarations, of its elements, and of its end
@@ -39,7 +39,7 @@ abbrev with_declared : List Phrase → Around → Naming → Head → List Decla
 with_declared d a name head declarations =
     gathered_each (gathered_declaration (opened (length d) a)) (gathered_head (with_own d a name head declarations) (opened (length d) a) head) declarations
 
-declared_grows : (d : List Phrase) (a : Around) (name : Naming) (head : Head) (declarations : List Declaration) → length d < length (with_declared d a name head declarations)
+pub declared_grows : (d : List Phrase) (a : Around) (name : Naming) (head : Head) (declarations : List Declaration) → length d < length (with_declared d a name head declarations)
 declared_grows d a name head declarations =
     omega (
       arith,
@@ -48,13 +48,13 @@ declared_grows d a name head declarations =
       ((declarations_names 0 (opened (length d) a) (gathered_head (with_own d a name head declarations) (opened (length d) a) head) declarations).goes 0).grows,
     )
 
-closing_grows : (d e : List Phrase) (a : Around) (close : Option Naming) → length e ≤ length (gathered_any (gathered_close (opened (length d) a)) e close)
+pub closing_grows : (d e : List Phrase) (a : Around) (close : Option Naming) → length e ≤ length (gathered_any (gathered_close (opened (length d) a)) e close)
 closing_grows d e a close = (close_goes 0 0 (opened (length d) a) e close).grows
 
 mutual
   unfolding gathered_block gathered_elements
 
-  block_grows : (d : List Phrase) (a : Around) (b : Block) → length d < length (gathered_block d a b)
+  pub block_grows : (d : List Phrase) (a : Around) (b : Block) → length d < length (gathered_block d a b)
   block_grows d a (BlockOf name head declarations body close) =
       omega (
         arith,
@@ -63,25 +63,25 @@ mutual
         closing_grows d (gathered_elements (with_declared d a name head declarations) (opened (length d) a) body) a close,
       )
 
-  elements_grow : (d : List Phrase) (a : Around) (x : Elements) → length d ≤ length (gathered_elements d a x)
+  pub elements_grow : (d : List Phrase) (a : Around) (x : Elements) → length d ≤ length (gathered_elements d a x)
   elements_grow d a NoElements = le_refl (length d)
   elements_grow d a (StatementFirst s others) = omega (arith, (statement_goes 0 0 d a s).grows, elements_grow (gathered_statement d a s) a others)
   elements_grow d a (BlockFirst b others) = omega (arith, block_grows d a b, elements_grow (gathered_block d a b) a others)
 
 -- the unit's own phrase, its head and its declarations add nothing in another unit
-declared_leaves : (unit : ℕ) (d : List Phrase) (a : Around) (name : Naming) (head : Head) (declarations : List Declaration) → (length d == unit) ≡ false → Leaves unit d (with_declared d a name head declarations)
+pub declared_leaves : (unit : ℕ) (d : List Phrase) (a : Around) (name : Naming) (head : Head) (declarations : List Declaration) → (length d == unit) ≡ false → Leaves unit d (with_declared d a name head declarations)
 unfolding used
 declared_leaves unit d a name head declarations away =
     leaves_then (quiet unit d a (OfUnit name head declarations) refl refl)
     (leaves away ((both (head_names unit (with_own d a name head declarations) (opened (length d) a) head) (declarations_names unit (opened (length d) a) (gathered_head (with_own d a name head declarations) (opened (length d) a) head) declarations)).goes 0))
 
-closing_leaves : (unit : ℕ) (d e : List Phrase) (a : Around) (close : Option Naming) → (length d == unit) ≡ false → Leaves unit e (gathered_any (gathered_close (opened (length d) a)) e close)
+pub closing_leaves : (unit : ℕ) (d e : List Phrase) (a : Around) (close : Option Naming) → (length d == unit) ≡ false → Leaves unit e (gathered_any (gathered_close (opened (length d) a)) e close)
 closing_leaves unit d e a close away = leaves away (close_goes unit 0 (opened (length d) a) e close)
 
 mutual
   unfolding gathered_block gathered_elements
 
-  block_leaves : (unit : ℕ) (d : List Phrase) (a : Around) (b : Block) → IsBeside unit d (gathered_block d a b) → Leaves unit d (gathered_block d a b)
+  pub block_leaves : (unit : ℕ) (d : List Phrase) (a : Around) (b : Block) → IsBeside unit d (gathered_block d a b) → Leaves unit d (gathered_block d a b)
   block_leaves unit d a (BlockOf name head declarations body close) beside =
       let grown = block_grows d a (BlockOf name head declarations body close) in
       let named = declared_grows d a name head declarations in
@@ -91,7 +91,7 @@ mutual
       (leaves_then (elements_leave unit (with_declared d a name head declarations) (opened (length d) a) body away (λ k low high. beside k (omega (arith, low, named)) (omega (arith, high, closed))))
       (closing_leaves unit d (gathered_elements (with_declared d a name head declarations) (opened (length d) a) body) a close away))
 
-  elements_leave : (unit : ℕ) (d : List Phrase) (a : Around) (x : Elements) → (a.home == unit) ≡ false → IsBeside unit d (gathered_elements d a x) → Leaves unit d (gathered_elements d a x)
+  pub elements_leave : (unit : ℕ) (d : List Phrase) (a : Around) (x : Elements) → (a.home == unit) ≡ false → IsBeside unit d (gathered_elements d a x) → Leaves unit d (gathered_elements d a x)
   elements_leave unit d a NoElements away beside = leaves_none unit d
   elements_leave unit d a (StatementFirst s others) away beside =
       let grown = (statement_goes 0 0 d a s).grows in
@@ -102,7 +102,7 @@ mutual
       (elements_leave unit (gathered_block d a b) a others away (λ k low high. beside k (omega (arith, low, grown)) high))
 
 -- the statements among a unit's elements
-elements_add : (unit m : ℕ) (d : List Phrase) (a : Around) (x : Elements) → (a.home == unit) ≡ true → unit < length d
+pub elements_add : (unit m : ℕ) (d : List Phrase) (a : Around) (x : Elements) → (a.home == unit) ≡ true → unit < length d
     → Adds unit m (after_statements m (statements_of x)) (λ all. looked_in_statements all a.block m (statements_of x)) d (gathered_elements d a x)
 unfolding gathered_elements
 elements_add unit m d a NoElements at low = adds_nothing unit m d d (leaves_none unit d)
@@ -115,17 +115,17 @@ elements_add unit m d a (BlockFirst b others) at low =
     (elements_add unit m (gathered_block d a b) a others at (omega (arith, low, grown)))
 
 -- what a unit looks up, where these are all phrases
-abbrev IsRight : List Phrase → ℕ → Block → Type 0
+abbrev pub IsRight : List Phrase → ℕ → Block → Type 0
 IsRight ps k (BlockOf name head declarations body close) = (declared : List Looked) × (unit_looked k ps ≡ declared ++ looked_in_statements (marks_of ps k) k 0 (statements_of body))
 
 -- nothing of a unit is there yet
-abbrev IsFresh : ℕ → List Phrase → Type 0
+abbrev pub IsFresh : ℕ → List Phrase → Type 0
 IsFresh k d = (marks_of d k ≡ []) × (unit_looked k d ≡ [])
 
-still_fresh : (k : ℕ) (d e : List Phrase) → IsFresh k d → Leaves k d e → IsFresh k e
+pub still_fresh : (k : ℕ) (d e : List Phrase) → IsFresh k d → Leaves k d e → IsFresh k e
 still_fresh k d e fresh step = (step.marks ∙ fresh.0, step.looks ∙ fresh.1)
 
-unit_right : (d : List Phrase) (a : Around) (b : Block) → IsFresh (length d) d → (ps : List Phrase) → Leaves (length d) (gathered_block d a b) ps → IsRight ps (length d) b
+pub unit_right : (d : List Phrase) (a : Around) (b : Block) → IsFresh (length d) d → (ps : List Phrase) → Leaves (length d) (gathered_block d a b) ps → IsRight ps (length d) b
 unfolding gathered_block used
 unit_right d a (BlockOf name head declarations body close) fresh ps later =
     let k : ℕ = length d in
@@ -146,29 +146,29 @@ unit_right d a (BlockOf name head declarations body close) fresh ps later =
     )
 
 -- numbers of units, and their trees
-abbrev ArePaired : List Phrase → List ℕ → List Block → Type 0
+abbrev pub ArePaired : List Phrase → List ℕ → List Block → Type 0
 ArePaired ps [] [] = Unit {0}
 ArePaired ps (k ∷ ks) (b ∷ bs) = IsRight ps k b × ArePaired ps ks bs
 ArePaired ps [] (b ∷ bs) = ⊥
 ArePaired ps (k ∷ ks) [] = ⊥
 
-paired_append : (ps : List Phrase) (ks js : List ℕ) (bs cs : List Block) → ArePaired ps ks bs → ArePaired ps js cs → ArePaired ps (ks ++ js) (bs ++ cs)
+pub paired_append : (ps : List Phrase) (ks js : List ℕ) (bs cs : List Block) → ArePaired ps ks bs → ArePaired ps js cs → ArePaired ps (ks ++ js) (bs ++ cs)
 paired_append ps [] js [] cs first second = second
 paired_append ps (k ∷ ks) js (b ∷ bs) cs first second = (first.0, paired_append ps ks js bs cs first.1 second)
 paired_append ps [] js (b ∷ bs) cs first second = absurd first
 paired_append ps (k ∷ ks) js [] cs first second = absurd first
 
 -- the units among the phrases that are added, where later phrases are none of theirs
-record Units (d e : List Phrase) (bs : List Block) : Type 0 where
-  ks : List ℕ
-  numbers : unit_numbers e ≡ unit_numbers d ++ ks
-  rights : (ps : List Phrase) → ((k : ℕ) → length d ≤ k → IsFresh k d) → ((k : ℕ) → length d ≤ k → k < length e → Leaves k e ps) → ArePaired ps ks bs
+pub record Units (d e : List Phrase) (bs : List Block) : Type 0 where
+  pub ks : List ℕ
+  pub numbers : unit_numbers e ≡ unit_numbers d ++ ks
+  pub rights : (ps : List Phrase) → ((k : ℕ) → length d ≤ k → IsFresh k d) → ((k : ℕ) → length d ≤ k → k < length e → Leaves k e ps) → ArePaired ps ks bs
 
-no_units : (d : List Phrase) → Units d d []
+pub no_units : (d : List Phrase) → Units d d []
 no_units d = record { ks = []; numbers = sym (append-nil (unit_numbers d)); rights = λ ps fresh later. tt }
 
 -- phrases that are no units, and then units
-after_others : (d e h : List Phrase) (bs : List Block) → unit_numbers e ≡ unit_numbers d → length d ≤ length e → ((k : ℕ) → length e ≤ k → Leaves k d e) → Units e h bs → Units d h bs
+pub after_others : (d e h : List Phrase) (bs : List Block) → unit_numbers e ≡ unit_numbers d → length d ≤ length e → ((k : ℕ) → length e ≤ k → Leaves k d e) → Units e h bs → Units d h bs
 after_others d e h bs same grown out units = record {
   ks = units.ks;
   numbers = units.numbers ∙ ap (λ x. x ++ units.ks) same;
@@ -177,7 +177,7 @@ after_others d e h bs same grown out units = record {
 }
 
 -- units, and then others, which leave them alone
-then_units : (d e h : List Phrase) (bs cs : List Block) → length d ≤ length e → length e ≤ length h → ((k : ℕ) → length e ≤ k → Leaves k d e) → ((k : ℕ) → length d ≤ k → k < length e → Leaves k e h)
+pub then_units : (d e h : List Phrase) (bs cs : List Block) → length d ≤ length e → length e ≤ length h → ((k : ℕ) → length e ≤ k → Leaves k d e) → ((k : ℕ) → length d ≤ k → k < length e → Leaves k e h)
     → Units d e bs → Units e h cs → Units d h (bs ++ cs)
 then_units d e h bs cs grown more out alone first second = record {
   ks = first.ks ++ second.ks;
@@ -188,11 +188,11 @@ then_units d e h bs cs grown more out alone first second = record {
       (second.rights ps (λ k low. still_fresh k d e (fresh k (omega (arith, low, grown))) (out k low)) (λ k low high. later k (omega (arith, low, grown)) high));
 }
 
-own_number : (d : List Phrase) (a : Around) (name : Naming) (head : Head) (declarations : List Declaration) → unit_numbers (with_own d a name head declarations) ≡ unit_numbers d ++ (length d ∷ [])
+pub own_number : (d : List Phrase) (a : Around) (name : Naming) (head : Head) (declarations : List Declaration) → unit_numbers (with_own d a name head declarations) ≡ unit_numbers d ++ (length d ∷ [])
 own_number d a name head declarations =
     filter_map-append (λ (p : Phrase). if is_unit p.node then Some p.number else None) d (phrase (length d) a (OfUnit name head declarations) ∷ [])
 
-declared_numbers : (d : List Phrase) (a : Around) (name : Naming) (head : Head) (declarations : List Declaration) → unit_numbers (with_declared d a name head declarations) ≡ unit_numbers d ++ (length d ∷ [])
+pub declared_numbers : (d : List Phrase) (a : Around) (name : Naming) (head : Head) (declarations : List Declaration) → unit_numbers (with_declared d a name head declarations) ≡ unit_numbers d ++ (length d ∷ [])
 declared_numbers d a name head declarations =
     ((both (head_names 0 (with_own d a name head declarations) (opened (length d) a) head) (declarations_names 0 (opened (length d) a) (gathered_head (with_own d a name head declarations) (opened (length d) a) head) declarations)).goes 0).units
     ∙ own_number d a name head declarations
@@ -200,7 +200,7 @@ declared_numbers d a name head declarations =
 mutual
   unfolding gathered_block gathered_elements
 
-  block_units : (d : List Phrase) (a : Around) (b : Block) → Units d (gathered_block d a b) (units_from b)
+  pub block_units : (d : List Phrase) (a : Around) (b : Block) → Units d (gathered_block d a b) (units_from b)
   block_units d a (BlockOf name head declarations body close) =
       let o : Around = opened (length d) a in
       let d3 : List Phrase = with_declared d a name head declarations in
@@ -220,7 +220,7 @@ mutual
         );
       }
 
-  elements_units : (d : List Phrase) (a : Around) (x : Elements) → a.home < length d → Units d (gathered_elements d a x) (units_within x)
+  pub elements_units : (d : List Phrase) (a : Around) (x : Elements) → a.home < length d → Units d (gathered_elements d a x) (units_within x)
   elements_units d a NoElements low = no_units d
   elements_units d a (StatementFirst s others) low =
       let e : List Phrase = gathered_statement d a s in
@@ -236,7 +236,7 @@ mutual
       (block_units d a b) (elements_units e a others (omega (arith, low, grown)))
 
 -- the block of a template's declarations isn't this unit either
-around_away : (unit k : ℕ) (a : Around) (head : Head) → (a.home == unit) ≡ false → (k == unit) ≡ false → ((around_template k a head).home == unit) ≡ false
+pub around_away : (unit k : ℕ) (a : Around) (head : Head) → (a.home == unit) ≡ false → (k == unit) ≡ false → ((around_template k a head).home == unit) ≡ false
 unfolding around_template
 around_away unit k a (Program p) outer own = own
 around_away unit k a (Compool p) outer own = outer
@@ -245,12 +245,12 @@ around_away unit k a (Procedure p inputs outputs mode) outer own = own
 around_away unit k a (Function p inputs returns mode) outer own = own
 
 -- phrases are added that are no units and stand in none
-record Others (a : Around) (d e : List Phrase) : Type 0 where
-  grows : length d ≤ length e
-  units : unit_numbers e ≡ unit_numbers d
-  out : (unit : ℕ) → (a.home == unit) ≡ false → IsBeside unit d e → Leaves unit d e
+pub record Others (a : Around) (d e : List Phrase) : Type 0 where
+  pub grows : length d ≤ length e
+  pub units : unit_numbers e ≡ unit_numbers d
+  pub out : (unit : ℕ) → (a.home == unit) ≡ false → IsBeside unit d e → Leaves unit d e
 
-others_then : (a : Around) (d e h : List Phrase) → Others a d e → Others a e h → Others a d h
+pub others_then : (a : Around) (d e h : List Phrase) → Others a d e → Others a e h → Others a d h
 others_then a d e h first second = record {
   grows = omega (arith, first.grows, second.grows);
   units = second.units ∙ first.units;
@@ -258,7 +258,7 @@ others_then a d e h first second = record {
       leaves_then (first.out unit away (λ k low high. beside k low (omega (arith, high, second.grows)))) (second.out unit away (λ k low high. beside k (omega (arith, low, first.grows)) high));
 }
 
-template_others : (a : Around) (d : List Phrase) (t : Template) → Others a d (gathered_template d a t)
+pub template_others : (a : Around) (d : List Phrase) (t : Template) → Others a d (gathered_template d a t)
 unfolding gathered_template used
 template_others a d t =
     let o : Around = opened (length d) a in
@@ -280,7 +280,7 @@ template_others a d t =
           (leaves_then (leaves (around_away unit (length d) a t.head away own) ((declarations_names unit w d2 t.declarations).goes 0)) (leaves own (close_goes unit 0 o d3 t.close))));
     }
 
-preface_others : (d : List Phrase) (a : Around) (x : Preface) → Others a d (gathered_preface d a x)
+pub preface_others : (d : List Phrase) (a : Around) (x : Preface) → Others a d (gathered_preface d a x)
 unfolding gathered_preface used
 preface_others d a (Include p name) = record {
   grows = omega (arith, longer d a (OfInclude name));
@@ -289,7 +289,7 @@ preface_others d a (Include p name) = record {
 }
 preface_others d a (Templates template) = template_others a d template
 
-prefaces_others : (d : List Phrase) (a : Around) (n : ℕ) (xs : List Preface) → Others a d (gathered_prefaces d a n xs)
+pub prefaces_others : (d : List Phrase) (a : Around) (n : ℕ) (xs : List Preface) → Others a d (gathered_prefaces d a n xs)
 unfolding gathered_prefaces
 prefaces_others d a n [] = record { grows = le_refl (length d); units = refl; out = λ unit away beside. leaves_none unit d }
 prefaces_others d a n (x ∷ xs) =
@@ -301,7 +301,7 @@ prefaces_others d a n (x ∷ xs) =
 abbrev before_unit : List Phrase → File → List Phrase
 before_unit d f = gathered_prefaces (add d (in_file (length d)) (OfFile f.prefaces (name_of_block f.block))) (in_file (length d)) 0 f.prefaces
 
-before_others : (d : List Phrase) (f : File) → Others (in_file (length d)) d (before_unit d f)
+pub before_others : (d : List Phrase) (f : File) → Others (in_file (length d)) d (before_unit d f)
 unfolding used
 before_others d f =
     let a : Around = in_file (length d) in
@@ -309,17 +309,17 @@ before_others d f =
     others_then a d (add d a n) (before_unit d f)
     (record { grows = omega (arith, longer d a n); units = no_unit d a n refl; out = λ unit away beside. quiet unit d a n refl refl }) (prefaces_others (add d a n) a 0 f.prefaces)
 
-before_longer : (d : List Phrase) (f : File) → length d < length (before_unit d f)
+pub before_longer : (d : List Phrase) (f : File) → length d < length (before_unit d f)
 before_longer d f =
     let a : Around = in_file (length d) in
     let n : Node = OfFile f.prefaces (name_of_block f.block) in
     omega (arith, longer d a n, (prefaces_others (add d a n) a 0 f.prefaces).grows)
 
-file_grows : (d : List Phrase) (f : File) → length d < length (gathered_file d f)
+pub file_grows : (d : List Phrase) (f : File) → length d < length (gathered_file d f)
 unfolding gathered_file
 file_grows d f = omega (arith, before_longer d f, block_grows (before_unit d f) (behind (length f.prefaces) (in_file (length d))) f.block)
 
-file_leaves : (unit : ℕ) (d : List Phrase) (f : File) → IsBeside unit d (gathered_file d f) → Leaves unit d (gathered_file d f)
+pub file_leaves : (unit : ℕ) (d : List Phrase) (f : File) → IsBeside unit d (gathered_file d f) → Leaves unit d (gathered_file d f)
 unfolding gathered_file
 file_leaves unit d f beside =
     let begun = before_longer d f in
@@ -327,17 +327,17 @@ file_leaves unit d f beside =
     leaves_then ((before_others d f).out unit (beside (length d) (le_refl (length d)) (omega (arith, begun, block))) (λ k low high. beside k low (omega (arith, high, block))))
     (block_leaves unit (before_unit d f) (behind (length f.prefaces) (in_file (length d))) f.block (λ k low high. beside k (omega (arith, low, begun)) high))
 
-files_grow : (d : List Phrase) (fs : List File) → length d ≤ length (gathered_each gathered_file d fs)
+pub files_grow : (d : List Phrase) (fs : List File) → length d ≤ length (gathered_each gathered_file d fs)
 files_grow d [] = le_refl (length d)
 files_grow d (f ∷ fs) = omega (arith, file_grows d f, files_grow (gathered_file d f) fs)
 
-files_leave : (unit : ℕ) (d : List Phrase) (fs : List File) → IsBeside unit d (gathered_each gathered_file d fs) → Leaves unit d (gathered_each gathered_file d fs)
+pub files_leave : (unit : ℕ) (d : List Phrase) (fs : List File) → IsBeside unit d (gathered_each gathered_file d fs) → Leaves unit d (gathered_each gathered_file d fs)
 files_leave unit d [] beside = leaves_none unit d
 files_leave unit d (f ∷ fs) beside =
     let grown = file_grows d f in let more = files_grow (gathered_file d f) fs in
     leaves_then (file_leaves unit d f (λ k low high. beside k low (omega (arith, high, more)))) (files_leave unit (gathered_file d f) fs (λ k low high. beside k (omega (arith, low, grown)) high))
 
-file_units : (d : List Phrase) (f : File) → Units d (gathered_file d f) (units_from f.block)
+pub file_units : (d : List Phrase) (f : File) → Units d (gathered_file d f) (units_from f.block)
 unfolding gathered_file
 file_units d f =
     let before = before_others d f in
@@ -345,7 +345,7 @@ file_units d f =
     (λ k low. before.out k (apart (length d) k (omega (arith, low, before_longer d f))) (λ j from to. apart j k (omega (arith, to, low))))
     (block_units (before_unit d f) (behind (length f.prefaces) (in_file (length d))) f.block)
 
-files_units : (d : List Phrase) (fs : List File) → Units d (gathered_each gathered_file d fs) (flat_map (λ (f : File). units_from f.block) fs)
+pub files_units : (d : List Phrase) (fs : List File) → Units d (gathered_each gathered_file d fs) (flat_map (λ (f : File). units_from f.block) fs)
 files_units d [] = no_units d
 files_units d (f ∷ fs) =
     let e : List Phrase = gathered_file d f in
@@ -353,7 +353,7 @@ files_units d (f ∷ fs) =
     (λ k low. file_leaves k d f (λ j from to. apart j k (omega (arith, to, low)))) (λ k low high. files_leave k e fs (λ j from to. apart j k (omega (arith, high, from))))
     (file_units d f) (files_units e fs)
 
-bodies_right : (ps : List Phrase) (ks : List ℕ) (bs : List Block) → ArePaired ps ks bs → AllLookRight ps (bodies_from ps ks bs)
+pub bodies_right : (ps : List Phrase) (ks : List ℕ) (bs : List Block) → ArePaired ps ks bs → AllLookRight ps (bodies_from ps ks bs)
 bodies_right ps [] [] paired = tt
 bodies_right ps [] (b ∷ bs) paired = absurd paired
 bodies_right ps (k ∷ ks) [] paired = absurd paired
