@@ -19,9 +19,9 @@ use Rattle.hal_agreement.specs.Codes.{Code}
 use Rattle.hal_agreement.specs.Sites.{Site, here_at}
 use Rattle.hal_agreement.specs.PlacedExpressions.{One}
 use Rattle.hal_agreement.specs.PlacedStatements.{ChannelAt, ItemsAt, ReadsAt}
-use Rattle.hal_fitting.specs.Fitting.{Ground, goes_on, Fits}
+use Rattle.hal_fitting.specs.Fitting.{Ground, goes_on, stands_there, Fits}
 use Rattle.hal_fitting.specs.Leading.{standing, Leads, IsAhead}
-use Rattle.hal_fitting.proofs.Joining.{one_fits, suits_there, both_fit, fits_to}
+use Rattle.hal_fitting.proofs.Joining.{outside_there, one_fits, suits_there, both_fit, fits_to}
 use Rattle.hal_fitting.proofs.Leading.{fits_lead, nothing_leads, both_lead, one_leads}
 use Rattle.hal_fit_expr.specs.Uses.{Uses}
 use Rattle.hal_fit_expr.specs.Serving.{Serves}
@@ -42,13 +42,13 @@ input_framed channel kind next false = refl
 pub outside_fits : (image : ImageParts) (g : Ground) (i : Instr) (from to : ℕ) (stack next : Sorts) → g.inside ≡ false → stands_outside i ≡ true → goes_on i ≡ true → operands_right image g.block g.number i ≡ true
     → sorts_after image g.block i stack ≡ Some next → slice_get image.code from ≡ Some i → suc from ≡ to → Fits image g from stack to next
 outside_fits image g i from to stack next outside stands onward operands effect has behind =
-    fits_to image g behind (one_fits image g i from stack next has (suits_there image g i operands (ap (λ b. stands_right g.out b i) outside ∙ stands) onward) effect)
+    fits_to image g behind (one_fits image g i from stack next has (suits_there image g i operands (ap (λ b. stands_there g.out b i) outside ∙ outside_there g.out i stands) onward) effect)
 
 module _ (code : Code) (g : Ground) (part : Option ℕ) (site : Site) (u : Uses) (serves : Serves code (standing part g) site.set site.places u) where
   pub written_fits : (channel : Expression) (items : Expressions) (number from last to : ℕ) → is_inside part ≡ false → ChannelFits site channel → items_fit u site items ≡ true → ChannelAt site channel number
       → ItemsAt code site items from last → One code last (instr.Print number) to → Fits code.image (standing part g) from [] to []
   written_fits channel items number from last to outside known fits is there prints =
-      both_fit code.image (standing part g) (items_there code (standing part g) site u serves items from last [] fits there)
+      both_fit code.image (standing part g) (items_there code (standing part g) site u serves items from last [] outside fits there)
       (outside_fits code.image (standing part g) (instr.Print number) last to [] [] outside refl refl (known number is) refl prints.0 prints.1)
 
   -- an INPUT, behind which control goes to the next one where there is no datum

@@ -11,4 +11,8 @@ pub mod Updating
 pub mod Stating
 pub mod Processes
 pub mod Units
+pub mod Quiet
+pub mod QuietLoops
+pub mod QuietStatements
+pub mod QuietUnits
 mod Samples

@@ -36,7 +36,7 @@ integer_taken (kind.Bits n) is = absurd (cc)
 integer_taken (kind.Text n) is = absurd (cc)
 
 module _ (code : Code) (g : Ground) (part : Option ℕ) (site : Site) (u : Uses) (serves : Serves code (standing part g) site.set site.places u) where
-  integer_fits : (tree : Expression) (from to : ℕ) (stack : Sorts) → sort_of_expression u site tree ≡ Some I → ExpressionAt code site tree from to → Fits code.image (standing part g) from stack to (I ∷ stack)
+  pub integer_fits : (tree : Expression) (from to : ℕ) (stack : Sorts) → sort_of_expression u site tree ≡ Some I → ExpressionAt code site tree from to → Fits code.image (standing part g) from stack to (I ∷ stack)
   integer_fits tree from to stack sorted at = expression_fits code (standing part g) site u serves tree I from to stack sorted at
 
   -- a condition
@@ -98,10 +98,10 @@ module _ (code : Code) (g : Ground) (part : Option ℕ) (site : Site) (u : Uses)
   fetched_there (MeantBuiltin b) from to stack sorted at = absurd (at)
   fetched_there MeantNothing from to stack sorted at = absurd (at)
 
-  variable_fits : (name : List ℕ) (from to : ℕ) (stack : Sorts) → sort_of_name u site name [] ≡ Some I → VariableAt code site name from to → Fits code.image (standing part g) from (I ∷ stack) to stack
+  pub variable_fits : (name : List ℕ) (from to : ℕ) (stack : Sorts) → sort_of_name u site name [] ≡ Some I → VariableAt code site name from to → Fits code.image (standing part g) from (I ∷ stack) to stack
   variable_fits name from to stack sorted at = kept_there (name_meant (here_at site) name []) from to stack sorted (at [])
 
-  variable_value_fits : (name : List ℕ) (from to : ℕ) (stack : Sorts) → sort_of_name u site name [] ≡ Some I → VariableValueAt code site name from to → Fits code.image (standing part g) from stack to (I ∷ stack)
+  pub variable_value_fits : (name : List ℕ) (from to : ℕ) (stack : Sorts) → sort_of_name u site name [] ≡ Some I → VariableValueAt code site name from to → Fits code.image (standing part g) from stack to (I ∷ stack)
   variable_value_fits name from to stack sorted at = fetched_there (name_meant (here_at site) name []) from to stack sorted (at [])
 
   -- the test of a DO FOR before its first turn, and those before later ones
@@ -117,12 +117,12 @@ module _ (code : Code) (g : Ground) (part : Option ℕ) (site : Site) (u : Uses)
       (back_leads code.image g Asked part from turn at.0 (λ asked. turn_there code.image g part Asked (suc from) turn to has (let last = at.1 in omega (arith, last)) (turned asked)))
   later_span_leads Asked (Some guard) from turn to fits at has turned ended = test_there Asked guard from turn to fits at has turned ended
 
-  step_fits : (step : Option Expression) (from to : ℕ) (stack : Sorts) → StepFits u site step → StepAt code site step from to → Fits code.image (standing part g) from stack to (I ∷ stack)
+  pub step_fits : (step : Option Expression) (from to : ℕ) (stack : Sorts) → StepFits u site step → StepAt code site step from to → Fits code.image (standing part g) from stack to (I ∷ stack)
   step_fits None from to stack fits at = fits_to code.image (standing part g) at.1 (number_fits code (standing part g) 1 from stack at.0)
   step_fits (Some tree) from to stack fits at = integer_fits tree from to stack fits at
 
   -- what stands before the first turn of a DO FOR with TO: its bounds are kept, and its variable gets the first value
-  bounded_fits : (name : List ℕ) (place : ℕ) (first last : Expression) (step : Option Expression) (from exit to : ℕ) → sort_of_name u site name [] ≡ Some I → sort_of_expression u site first ≡ Some I
+  pub bounded_fits : (name : List ℕ) (place : ℕ) (first last : Expression) (step : Option Expression) (from exit to : ℕ) → sort_of_name u site name [] ≡ Some I → sort_of_expression u site first ≡ Some I
       → sort_of_expression u site last ≡ Some I → StepFits u site step → (at : BegunAt code site name place first last step from exit to) → Fits code.image (standing part g) from [] at.7 []
   bounded_fits name place first last step from exit to variable begins ends steps at =
       both_fit code.image (standing part g) (integer_fits first from at.0 [] begins at.8)
@@ -183,7 +183,7 @@ module _ (code : Code) (g : Ground) (part : Option ℕ) (site : Site) (u : Uses)
       tests = first_span_leads (Round code.image g part Asked turn again to) guard test to turn fits.guarded early (λ all. record { ahead = far; comes = all.ended })
 
   -- a value of a list
-  value_kept_fits : (name : List ℕ) (place k : ℕ) (tree : Expression) (from to : ℕ) → sort_of_name u site name [] ≡ Some I → sort_of_expression u site tree ≡ Some I → ValueKeptAt code site name place k tree from to
+  pub value_kept_fits : (name : List ℕ) (place k : ℕ) (tree : Expression) (from to : ℕ) → sort_of_name u site name [] ≡ Some I → sort_of_expression u site tree ≡ Some I → ValueKeptAt code site name place k tree from to
       → Fits code.image (standing part g) from [] to []
   value_kept_fits name place k tree from to variable sorted at =
       both_fit code.image (standing part g) (integer_fits tree from at.0 [] sorted at.2)

@@ -18,14 +18,13 @@ use Rattle.hal_code.specs.declared.operand.Places.{Places}
 use Rattle.hal_code.specs.declared.operand.Places.TheVariants as places
 use Rattle.hal_code.specs.declared.row.Target.TheVariants as target
 use Rattle.hal_code.specs.Effects.{Sorts, is_value, has_places, places_taken, patched_sorts}
-use Rattle.hal_code.specs.Right.{stands_right}
 use Rattle.hal_code.specs.Sorts.{Sort, I, A, sort_of, takes, takes_part}
 use Rattle.hal_agreement.specs.Codes.{Code}
 use Rattle.hal_agreement.specs.Sites.{Site, here_at}
 use Rattle.hal_agreement.specs.PlacedExpressions.{Has, One, places_of, ChosenAt}
 use Rattle.hal_agreement.specs.PlacedStatements.{KeptAt, StoredAt, ReceivedAt, AddressedAt, ReceiverAt, ReceiversAt, ItemsAt, patches}
-use Rattle.hal_fitting.specs.Fitting.{Ground, Fits}
-use Rattle.hal_fitting.proofs.Joining.{nothing_fits, one_fits, suits_there, modest_fits, both_fit, fits_to}
+use Rattle.hal_fitting.specs.Fitting.{Ground, stands_there, Fits}
+use Rattle.hal_fitting.proofs.Joining.{outside_there, nothing_fits, one_fits, suits_there, modest_fits, both_fit, fits_to}
 use Rattle.hal_fit_expr.specs.Uses.{Uses}
 use Rattle.hal_fit_expr.specs.Sorted.{is_integer, sort_of_name, sort_of_expression, places_fit, part_fits}
 use Rattle.hal_fit_expr.specs.Serving.{Serves}
@@ -47,10 +46,6 @@ takes_itself kind.Single = refl
 takes_itself kind.Double = refl
 takes_itself (kind.Bits n) = refl
 takes_itself (kind.Text n) = refl
-
-item_stands : (out : List Bool) (inside : Bool) → stands_right out inside instr.Item ≡ true
-item_stands out true = refl
-item_stands out false = refl
 
 module _ (code : Code) (g : Ground) (site : Site) (u : Uses) (serves : Serves code g site.set site.places u) where
   keep_fits : (k : Kind) (s : Sort) (from to : ℕ) (stack : Sorts) → takes k s ≡ true → One code from instr.Keep to → Fits code.image g from (A k ∷ s ∷ stack) to stack
@@ -133,15 +128,15 @@ module _ (code : Code) (g : Ground) (site : Site) (u : Uses) (serves : Serves co
       (both_fit code.image g (receiver_there receiver s (suc from) at.0 (s ∷ stack) both.0 at.2) (receivers_there (next ∷ others) s at.0 to stack both.1 at.3))
 
   -- an item
-  item_fits : (o : Option Sort) (from middle : ℕ) (stack : Sorts) → is_item o ≡ true → ((s : Sort) → o ≡ Some s → Fits code.image g from stack middle (s ∷ stack)) → Has code middle instr.Item → Fits code.image g from stack (suc middle) stack
-  item_fits None from middle stack fits each has = absurd (cc)
-  item_fits (Some s) from middle stack fits each has =
+  item_fits : (o : Option Sort) (from middle : ℕ) (stack : Sorts) → g.inside ≡ false → is_item o ≡ true → ((s : Sort) → o ≡ Some s → Fits code.image g from stack middle (s ∷ stack)) → Has code middle instr.Item → Fits code.image g from stack (suc middle) stack
+  item_fits None from middle stack outside fits each has = absurd (cc)
+  item_fits (Some s) from middle stack outside fits each has =
       both_fit code.image g (each s refl)
-      (one_fits code.image g instr.Item middle (s ∷ stack) stack has (suits_there code.image g instr.Item refl (item_stands g.out g.inside) refl) (ap (λ b. if b then Some stack else None) fits))
+      (one_fits code.image g instr.Item middle (s ∷ stack) stack has (suits_there code.image g instr.Item refl (ap (λ b. stands_there g.out b instr.Item) outside ∙ outside_there g.out instr.Item refl) refl) (ap (λ b. if b then Some stack else None) fits))
 
-  pub items_there : (items : Expressions) (from to : ℕ) (stack : Sorts) → items_fit u site items ≡ true → ItemsAt code site items from to → Fits code.image g from stack to stack
-  items_there NoExpressions from to stack fits at = nothing_fits code.image g from to stack at
-  items_there (MoreExpressions first others) from to stack fits at =
+  pub items_there : (items : Expressions) (from to : ℕ) (stack : Sorts) → g.inside ≡ false → items_fit u site items ≡ true → ItemsAt code site items from to → Fits code.image g from stack to stack
+  items_there NoExpressions from to stack outside fits at = nothing_fits code.image g from to stack at
+  items_there (MoreExpressions first others) from to stack outside fits at =
       let both = and_parts (is_item (sort_of_expression u site first)) (items_fit u site others) fits in
-      both_fit code.image g (item_fits (sort_of_expression u site first) from at.0 stack both.0 (λ s sorted. expression_fits code g site u serves first s from at.0 stack sorted at.1) at.2)
-      (items_there others (suc at.0) to stack both.1 at.3)
+      both_fit code.image g (item_fits (sort_of_expression u site first) from at.0 stack outside both.0 (λ s sorted. expression_fits code g site u serves first s from at.0 stack sorted at.1) at.2)
+      (items_there others (suc at.0) to stack outside both.1 at.3)

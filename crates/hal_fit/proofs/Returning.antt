@@ -42,7 +42,7 @@ module _ (code : Code) (g : Ground) where
   becomes_by (Task place) s t from to is at = same_fits s t from to is at
   becomes_by (Procedure place inputs outputs mode) s t from to is at = same_fits s t from to is at
 
-  becomes_fits : (b : Option Body) (s t : Sort) (from to : ℕ) → sort_given b s ≡ Some t → ResultAt code b from to → Fits code.image g from (s ∷ []) to (t ∷ [])
+  pub becomes_fits : (b : Option Body) (s t : Sort) (from to : ℕ) → sort_given b s ≡ Some t → ResultAt code b from to → Fits code.image g from (s ∷ []) to (t ∷ [])
   becomes_fits None s t from to is at = same_fits s t from to is at
   becomes_fits (Some b) s t from to is at = becomes_by b.head s t from to is at
 

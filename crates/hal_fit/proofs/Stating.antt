@@ -51,7 +51,7 @@ supported_at code g u site None supports = supports
 supported_at code g u site (Some k) supports = supports
 
 -- it does so in the same set and with the same own places
-supported_there : (code : Code) (g : Ground) (u : Bool → Uses) (site : Site) (temporary : Bool) (m : ℕ) → Supports code g site.set site.places u
+pub supported_there : (code : Code) (g : Ground) (u : Bool → Uses) (site : Site) (temporary : Bool) (m : ℕ) → Supports code g site.set site.places u
     → Supports code g (group_site site temporary m).set (group_site site temporary m).places u
 supported_there code g u site false m supports = supports
 supported_there code g u site true m supports = supported_at code g u site (slice_get site.marks m) supports
@@ -63,15 +63,15 @@ module _ (code : Code) (g : Ground) (u : Bool → Uses) where
     pub may : MayLeave code.image (standing part g) exits.leaving
 
   -- what an image has for expressions there
-  serves_there : (part : Option ℕ) (site : Site) → Supports code g site.set site.places u → Serves code (standing part g) site.set site.places (u (is_inside part))
+  pub serves_there : (part : Option ℕ) (site : Site) → Supports code g site.set site.places u → Serves code (standing part g) site.set site.places (u (is_inside part))
   serves_there part site supports = supports.serves (is_inside part)
 
-  number_fits : (part : Option ℕ) (site : Site) (tree : Expression) (s : Sort) (from to : ℕ) → Supports code g site.set site.places u → sort_of_expression (u (is_inside part)) site tree ≡ Some s
+  pub number_fits : (part : Option ℕ) (site : Site) (tree : Expression) (s : Sort) (from to : ℕ) → Supports code g site.set site.places u → sort_of_expression (u (is_inside part)) site tree ≡ Some s
       → ExpressionAt code site tree from to → Fits code.image (standing part g) from [] to (s ∷ [])
   number_fits part site tree s from to supports sorted at = expression_fits code (standing part g) site (u (is_inside part)) (serves_there part site supports) tree s from to [] sorted at
 
   -- an assignment
-  assigned_by : (part : Option ℕ) (site : Site) (receivers : List Reference) (o : Option Sort) (from middle to : ℕ) → Supports code g site.set site.places u → is_assigned (u (is_inside part)) site receivers o ≡ true
+  pub assigned_by : (part : Option ℕ) (site : Site) (receivers : List Reference) (o : Option Sort) (from middle to : ℕ) → Supports code g site.set site.places u → is_assigned (u (is_inside part)) site receivers o ≡ true
       → ((s : Sort) → o ≡ Some s → Fits code.image (standing part g) from [] middle (s ∷ [])) → ReceiversAt code site receivers middle to → Fits code.image (standing part g) from [] to []
   assigned_by part site receivers None from middle to supports fits each at = absurd (cc)
   assigned_by part site receivers (Some s) from middle to supports fits each at =

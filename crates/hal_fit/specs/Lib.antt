@@ -6,3 +6,4 @@ pub mod Supporting
 pub mod Jumping
 pub mod Stating
 pub mod Ending
+pub mod Quiet

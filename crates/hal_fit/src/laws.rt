@@ -1,6 +1,7 @@
 //! What holds of the code of statements and of their parts.
 
 ghost use Rattle.std.specs.Prelude.{◌≡◌, ℕ, suc, Bool, true, false, List, [], ◌∷◌, Option, Some, slice_get};
+ghost use Rattle.std.specs.List.{list_any};
 ghost use Rattle.hal_grammar.specs.Expressions.{Expressions, Reference};
 ghost use Rattle.hal_grammar.specs.Statements.{Statements};
 ghost use Rattle.hal_meaning.specs.Bodies.{Body};
@@ -8,7 +9,9 @@ ghost use Rattle.hal_meaning.specs.Calls.{is_function};
 ghost use Rattle.hal_meaning.specs.Places.{Place};
 ghost use Rattle.hal_meaning.specs.Sets.{Set};
 ghost use Rattle.hal_code.specs.declared.instr.Instr.TheVariants as instr;
-ghost use Rattle.hal_code.specs.Blocks.{is_of_process};
+ghost use Rattle.hal_code.specs.declared.image.ImageParts.{ImageParts};
+ghost use Rattle.hal_code.specs.declared.row.Block.{Block};
+ghost use Rattle.hal_code.specs.Blocks.{code_of, is_of_process, leads_out, outward};
 ghost use Rattle.hal_code.specs.Effects.{Sorts};
 ghost use Rattle.hal_code.specs.Flow.{is_inside};
 ghost use Rattle.hal_code.specs.Sorts.{Sort};
@@ -33,10 +36,10 @@ pub fn the_code_of_receivers_fits()
         → receivers_fit u site s receivers ≡ true → ReceiversAt code site receivers from to → Fits code.image g from (s ∷ stack) to stack }
 {}
 
-/// The same of items that are added to a line, which leave the stack as it is.
+/// The same of items that are added to a line outside of UPDATE blocks, which leave the stack as it is.
 pub fn the_code_of_items_fits()
     ensures { (code : Code) (g : Ground) (site : Site) (u : Uses) (items : Expressions) (from to : ℕ) (stack : Sorts) → Serves code g site.set site.places u
-        → items_fit u site items ≡ true → ItemsAt code site items from to → Fits code.image g from stack to stack }
+        → g.inside ≡ false → items_fit u site items ≡ true → ItemsAt code site items from to → Fits code.image g from stack to stack }
 {}
 
 /// Where the code of statements that fit stands in an image that has what they use, that code leads on with an empty stack: control comes from its beginning to its
@@ -60,4 +63,13 @@ pub fn the_code_of_a_unit_is_right()
     ensures { (code : Code) (g : Ground) (u : Bool → Uses) (s : Set) (places : List Place) (b : Body) (at : UnitAt code s places b g.block) → g.block.end ≡ end_behind (is_function b.head) at.finish
         → slice_get code.image.blocks g.number ≡ Some g.block → is_of_process code.image g.number ≡ false → ClearsFit code.image g.block at.clears → Supports code g s places u
         → StatementsFit code.image g u false (unit_site s places b) 0 b.statements → (n : ℕ) → IsRightAt code.image g.out (ground_flow code.image g) n }
+{}
+
+/// The code of a unit that is called asks nothing, nor calls what does, where its statements fit as they would inside of an UPDATE block; so its block is one that may be
+/// called there (image document, When an image is right).
+pub fn a_unit_that_fits_inside_asks_nothing()
+    ensures quiet { (code : Code) (g : Ground) (u : Bool → Uses) (s : Set) (places : List Place) (b : Body) (at : UnitAt code s places b g.block) → g.block.end ≡ end_behind (is_function b.head) at.finish
+        → Supports code g s places u → StatementsFit code.image g u true (unit_site s places b) 0 b.statements → list_any (leads_out g.out) (code_of code.image g.block) ≡ false }
+    ensures flag { (image : ImageParts) (number : ℕ) (row : Block) → slice_get image.blocks number ≡ Some row → list_any (leads_out (outward image)) (code_of image row) ≡ false
+        → slice_get (outward image) number ≡ Some false }
 {}

@@ -5,6 +5,7 @@
 mod laws;
 
 pub use laws::{
-    the_code_of_a_process_is_right, the_code_of_a_unit_is_right, the_code_of_items_fits,
-    the_code_of_receivers_fits, the_code_of_statements_leads_on,
+    a_unit_that_fits_inside_asks_nothing, the_code_of_a_process_is_right,
+    the_code_of_a_unit_is_right, the_code_of_items_fits, the_code_of_receivers_fits,
+    the_code_of_statements_leads_on,
 };

@@ -1,13 +1,13 @@
 -- Code that fits, put together.
-use Rattle.std.specs.Prelude.{◌≡◌, ℕ, suc, Bool, true, false, ◌&&◌, List, [], ◌∷◌, ◌++◌, Some, slice_get}
+use Rattle.std.specs.Prelude.{◌≡◌, ℕ, suc, Bool, true, false, not, ◌&&◌, List, [], ◌∷◌, ◌++◌, Some, slice_get}
 use Rattle.std.proofs.Common.{refl, subst, ap, ◌∙◌}
 use Rattle.hal_code.specs.declared.image.ImageParts.{ImageParts}
 use Rattle.hal_code.specs.declared.instr.Instr.{Instr}
 use Rattle.hal_code.specs.declared.instr.Instr.TheVariants as instr
 use Rattle.hal_code.specs.Effects.{Sorts, sorts_after}
 use Rattle.hal_code.specs.Operands.{operands_right}
-use Rattle.hal_code.specs.Right.{stands_right}
-use Rattle.hal_fitting.specs.Fitting.{Ground, goes_on, suits, FitsBy, Fits}
+use Rattle.hal_code.specs.Right.{stands_right, stands_outside}
+use Rattle.hal_fitting.specs.Fitting.{Ground, goes_on, adds_item, stands_there, suits, FitsBy, Fits}
 
 -- an instruction that may stand in any place between a block's ends
 abbrev pub is_modest : Instr → Bool
@@ -36,9 +36,17 @@ is_modest (instr.Off group number) = true
 is_modest instr.Next = true
 is_modest other = false
 
-modest_stands : (out : List Bool) (inside : Bool) (i : Instr) → is_modest i ≡ true → stands_right out inside i ≡ true
-modest_stands out false instr.Close is = absurd (cc)
-modest_stands out false other is = refl
+modest_outside : (i : Instr) → is_modest i ≡ true → stands_outside i ≡ true
+modest_outside instr.Close is = absurd (cc)
+modest_outside other is = refl
+
+-- outside of UPDATE blocks, ITEM stands too
+pub outside_there : (out : List Bool) (i : Instr) → stands_outside i ≡ true → stands_there out false i ≡ true
+outside_there out instr.Item stands = refl
+outside_there out other stands = stands
+
+modest_stands : (out : List Bool) (inside : Bool) (i : Instr) → is_modest i ≡ true → stands_there out inside i ≡ true
+modest_stands out false i is = outside_there out i (modest_outside i is)
 modest_stands out true (instr.Int n) is = refl
 modest_stands out true (instr.Bits len word) is = refl
 modest_stands out true (instr.Text text) is = refl
@@ -77,6 +85,10 @@ modest_goes_on (instr.Open groups) is = absurd (cc)
 modest_goes_on instr.Close is = absurd (cc)
 modest_goes_on other is = refl
 
+-- an instruction that is no ITEM
+pub no_item : (out : List Bool) (inside : Bool) (i : Instr) → adds_item i ≡ false → stands_right out inside i ≡ true → stands_there out inside i ≡ true
+no_item out inside i is stands = ap (λ b. not (b && inside) && stands_right out inside i) is ∙ stands
+
 all_three : (a b c : Bool) → a ≡ true → b ≡ true → c ≡ true → ((a && b) && c) ≡ true
 all_three true true true ia ib ic = refl
 all_three a b c ia ib ic = absurd (cc)
@@ -92,10 +104,10 @@ module _ (image : ImageParts) (g : Ground) where
 
   pub modest_suits : (i : Instr) → is_modest i ≡ true → operands_right image g.block g.number i ≡ true → suits image g i ≡ true
   modest_suits i modest operands =
-      all_three (operands_right image g.block g.number i) (stands_right g.out g.inside i) (goes_on i) operands (modest_stands g.out g.inside i modest) (modest_goes_on i modest)
+      all_three (operands_right image g.block g.number i) (stands_there g.out g.inside i) (goes_on i) operands (modest_stands g.out g.inside i modest) (modest_goes_on i modest)
 
-  pub suits_there : (i : Instr) → operands_right image g.block g.number i ≡ true → stands_right g.out g.inside i ≡ true → goes_on i ≡ true → suits image g i ≡ true
-  suits_there i operands stands onward = all_three (operands_right image g.block g.number i) (stands_right g.out g.inside i) (goes_on i) operands stands onward
+  pub suits_there : (i : Instr) → operands_right image g.block g.number i ≡ true → stands_there g.out g.inside i ≡ true → goes_on i ≡ true → suits image g i ≡ true
+  suits_there i operands stands onward = all_three (operands_right image g.block g.number i) (stands_there g.out g.inside i) (goes_on i) operands stands onward
 
   pub modest_fits : (i : Instr) (from : ℕ) (stack next : Sorts) → slice_get image.code from ≡ Some i → is_modest i ≡ true → operands_right image g.block g.number i ≡ true → sorts_after image g.block i stack ≡ Some next
       → Fits image g from stack (suc from) next

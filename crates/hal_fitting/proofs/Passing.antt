@@ -13,7 +13,7 @@ use Rattle.hal_code.specs.Flow.{Flow, goes_away, sorts_next, stacks, part_next, 
 use Rattle.hal_code.specs.Operands.{operands_right}
 use Rattle.hal_code.specs.Right.{stack_right, stands_right, frames_right, ends_right, is_last, instr_right}
 use Rattle.hal_sound_code.proofs.Flows.{stack_next, part_of, part_onward}
-use Rattle.hal_fitting.specs.Fitting.{Ground, goes_on, suits, FitsBy, Fits, ground_flow, IsRightAt, Passes}
+use Rattle.hal_fitting.specs.Fitting.{Ground, goes_on, adds_item, stands_there, suits, FitsBy, Fits, ground_flow, IsRightAt, Passes}
 
 -- an instruction behind which control goes on
 stays : (i : Instr) → goes_on i ≡ true → goes_away i ≡ false
@@ -81,9 +81,10 @@ record Suits (image : ImageParts) (g : Ground) (i : Instr) : Type 0 where
 
 suits_by : (image : ImageParts) (g : Ground) (i : Instr) → suits image g i ≡ true → Suits image g i
 suits_by image g i e =
-    let parts = and_parts (operands_right image g.block g.number i && stands_right g.out g.inside i) (goes_on i) e in
-    let early = and_parts (operands_right image g.block g.number i) (stands_right g.out g.inside i) parts.0
-    in record { operands = early.0; stands = early.1; onward = parts.1 }
+    let parts = and_parts (operands_right image g.block g.number i && stands_there g.out g.inside i) (goes_on i) e in
+    let early = and_parts (operands_right image g.block g.number i) (stands_there g.out g.inside i) parts.0 in
+    let stands = and_parts (not (adds_item i && g.inside)) (stands_right g.out g.inside i) early.1
+    in record { operands = early.0; stands = stands.1; onward = parts.1 }
 
 -- an instruction of a block stands in the code
 taken_there : {X : Type 0} (n : ℕ) (xs : List X) (k : ℕ) → k < length (take n xs) → slice_get (take n xs) k ≡ slice_get xs k

@@ -1,5 +1,5 @@
 -- Code that fits: from one instruction to another, control goes through, and each instruction takes its operands from the stack.
-use Rattle.std.specs.Prelude.{◌≡◌, ◌≤◌, ◌<◌, ℕ, suc, Bool, true, false, ◌&&◌, List, [], ◌∷◌, Some, slice_get}
+use Rattle.std.specs.Prelude.{◌≡◌, ◌≤◌, ◌<◌, ℕ, suc, Bool, true, false, not, ◌&&◌, List, [], ◌∷◌, Some, slice_get}
 use Rattle.hal_code.specs.declared.image.ImageParts.{ImageParts}
 use Rattle.hal_code.specs.declared.instr.Instr.{Instr}
 use Rattle.hal_code.specs.declared.instr.Instr.TheVariants as instr
@@ -31,9 +31,17 @@ goes_on (instr.Open groups) = false
 goes_on instr.Close = false
 goes_on other = true
 
+abbrev pub adds_item : Instr → Bool
+adds_item instr.Item = true
+adds_item other = false
+
+-- an instruction may stand inside of UPDATE blocks or outside, as it does; ITEM stands outside alone, as WRITE does, and so no instruction that stands inside asks
+abbrev pub stands_there : List Bool → Bool → Instr → Bool
+stands_there out inside i = not (adds_item i && inside) && stands_right out inside i
+
 -- an instruction with operands of its own that are right, which may stand there
 abbrev pub suits : ImageParts → Ground → Instr → Bool
-suits image g i = (operands_right image g.block g.number i && stands_right g.out g.inside i) && goes_on i
+suits image g i = (operands_right image g.block g.number i && stands_there g.out g.inside i) && goes_on i
 
 -- these instructions lead from one with this stack to another one with that
 abbrev pub FitsBy : ImageParts → Ground → List Instr → ℕ → Sorts → ℕ → Sorts → Type 0
