@@ -32,3 +32,4 @@ pub mod Calling
 pub mod Constants
 pub mod Structuring
 pub mod Eventful
+mod LookedAt

@@ -1,5 +1,5 @@
--- What no UPDATE block may do stands in none, where no rule of locks is broken.
-use Rattle.std.proofs.Common.{◌≡◌, Bool, true, false, List, length, Some, None, inl, inr, if◌then◌else◌, refl, sym, ap, ◌∙◌}
+-- What no UPDATE block may do stands in none, where no rule of locks is broken, nor in a unit that does none of it.
+use Rattle.std.proofs.Common.{◌≡◌, Bool, true, false, ◌||◌, List, length, Some, None, inl, inr, if◌then◌else◌, refl, sym, ap, ◌∙◌}
 use Rattle.std.specs.Option.{is_some}
 use Rattle.hal_base.specs.declared.refusal.Place.{Place}
 use Rattle.hal_grammar.specs.Leaves.{Naming}
@@ -8,9 +8,11 @@ use Rattle.hal_phrases.specs.declared.around.Around.{Around}
 use Rattle.hal_phrases.specs.Phrases.{Node, Phrase, phrase, add, OfRead, OfWrite, OfRealTime, OfEvent, OfUpdate}
 use Rattle.hal_scope.specs.Rules.{IsSound, ruled}
 use Rattle.hal_locks.specs.Barred.{barred, barred_within}
+use Rattle.hal_locks.specs.Callees.{is_barred}
 use Rattle.hal_locks.specs.Rules.{lock_rows}
 use Rattle.hal_locks.specs.Updates.{nested, updating}
 use Rattle.hal_fit_rules.specs.Begun.{AreFirst}
+use Rattle.hal_fit_rules.specs.Looked.{AreLooked}
 use Rattle.hal_fit_rules.proofs.Beginning.{among}
 use Rattle.hal_fit_rules.proofs.Unbroken.{ruled_none, unbroken}
 
@@ -18,34 +20,49 @@ none_within : (inside : Bool) (place : Place) → (if inside then Some place els
 none_within true place none = absurd (cc)
 none_within false place none = refl
 
+one_true : (a b : Bool) → b ≡ true → (a || b) ≡ true
+one_true true b is = refl
+one_true false b is = is
+
 module _ (ps : List Phrase) (sound : IsSound lock_rows ps) where
-  outside : (d : List Phrase) (a : Around) (n : Node) (place : Place) → AreFirst (add d a n) ps → barred ps a.block n ≡ Some place → is_some a.update ≡ false
+  -- a phrase that does what no UPDATE block may do is looked at as outside
+  outside : (within : Bool) (d : List Phrase) (a : Around) (n : Node) (place : Place) → AreLooked ps within a → AreFirst (add d a n) ps → barred ps a.block n ≡ Some place → within ≡ false
   unfolding lock_rows
-  outside d a n place first bars =
+  outside within d a n place (inl stands) first bars =
       let p : Phrase = phrase (length d) a n in
-      none_within (is_some a.update) place
+      stands
+      ∙ none_within (is_some a.update) place
       (ap (λ o. if is_some a.update then o else None) (sym bars)
       ∙ ruled_none 803 (barred_within ps p) (unbroken lock_rows ps sound p (among ps d a n first) (λ qs q. ruled 803 (barred_within qs q)) (inr (inr (inl refl)))))
+  outside within d a n place (inr looked) first bars =
+      let p : Phrase = phrase (length d) a n in
+      let harmless : (is_some (updating n) || is_some (barred ps a.block n)) ≡ false = looked.1 p (among ps d a n first) refl in
+      let no : (is_some (updating n) || is_some (barred ps a.block n)) ≡ true = one_true (is_some (updating n)) (is_some (barred ps a.block n)) (ap is_some bars) in
+      absurd (cc)
 
-  pub read_outside : (d : List Phrase) (a : Around) (place : Place) → AreFirst (add d a (OfRead place)) ps → is_some a.update ≡ false
+  pub read_outside : (within : Bool) (d : List Phrase) (a : Around) (place : Place) → AreLooked ps within a → AreFirst (add d a (OfRead place)) ps → within ≡ false
   unfolding barred
-  read_outside d a place first = outside d a (OfRead place) place first refl
+  read_outside within d a place looked first = outside within d a (OfRead place) place looked first refl
 
-  pub write_outside : (d : List Phrase) (a : Around) (place : Place) → AreFirst (add d a (OfWrite place)) ps → is_some a.update ≡ false
+  pub write_outside : (within : Bool) (d : List Phrase) (a : Around) (place : Place) → AreLooked ps within a → AreFirst (add d a (OfWrite place)) ps → within ≡ false
   unfolding barred
-  write_outside d a place first = outside d a (OfWrite place) place first refl
+  write_outside within d a place looked first = outside within d a (OfWrite place) place looked first refl
 
-  pub real_time_outside : (d : List Phrase) (a : Around) (place : Place) → AreFirst (add d a (OfRealTime place)) ps → is_some a.update ≡ false
+  pub real_time_outside : (within : Bool) (d : List Phrase) (a : Around) (place : Place) → AreLooked ps within a → AreFirst (add d a (OfRealTime place)) ps → within ≡ false
   unfolding barred
-  real_time_outside d a place first = outside d a (OfRealTime place) place first refl
+  real_time_outside within d a place looked first = outside within d a (OfRealTime place) place looked first refl
 
-  pub event_outside : (d : List Phrase) (a : Around) (e : Eventful) → AreFirst (add d a (OfEvent e)) ps → is_some a.update ≡ false
+  pub event_outside : (within : Bool) (d : List Phrase) (a : Around) (e : Eventful) → AreLooked ps within a → AreFirst (add d a (OfEvent e)) ps → within ≡ false
   unfolding barred
-  event_outside d a e first = outside d a (OfEvent e) e.place first refl
+  event_outside within d a e looked first = outside within d a (OfEvent e) e.place looked first refl
 
-  pub update_outside : (d : List Phrase) (a : Around) (place : Place) (labels : List Naming) → AreFirst (add d a (OfUpdate place labels)) ps → is_some a.update ≡ false
+  pub update_outside : (within : Bool) (d : List Phrase) (a : Around) (place : Place) (labels : List Naming) → AreLooked ps within a → AreFirst (add d a (OfUpdate place labels)) ps → within ≡ false
   unfolding lock_rows updating
-  update_outside d a place labels first =
+  update_outside within d a place labels (inl stands) first =
       let p : Phrase = phrase (length d) a (OfUpdate place labels) in
-      none_within (is_some a.update) place
+      stands
+      ∙ none_within (is_some a.update) place
       (ruled_none 802 (nested p) (unbroken lock_rows ps sound p (among ps d a (OfUpdate place labels) first) (λ qs q. ruled 802 (nested q)) (inr (inl refl))))
+  update_outside within d a place labels (inr looked) first =
+      let harmless : is_barred ps (phrase (length d) a (OfUpdate place labels)) ≡ false = looked.1 (phrase (length d) a (OfUpdate place labels)) (among ps d a (OfUpdate place labels) first) refl in
+      absurd (cc)

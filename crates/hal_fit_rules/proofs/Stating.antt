@@ -1,6 +1,6 @@
 -- Statements whose expressions agree fit, where the set that they stand in breaks no rule of types.
 use Rattle.std.proofs.Common.{◌≡◌, ℕ, suc, Bool, true, false, List, [], length, Option, Some, None, inl, inr, refl, sym, ap, ◌∙◌}
-use Rattle.std.specs.Option.{option_and_then, is_some}
+use Rattle.std.specs.Option.{option_and_then}
 use Rattle.std.proofs.lemmas.Bool.{and_from}
 use Rattle.hal_base.specs.declared.refusal.Place.{Place}
 use Rattle.hal_grammar.specs.Leaves.{Naming}
@@ -45,6 +45,7 @@ use Rattle.hal_fit_rules.specs.Leaves.{is_value_role}
 use Rattle.hal_fit_rules.specs.Agreeing.{Agrees, AllAgree}
 use Rattle.hal_fit_rules.specs.Received.{ReceiversAgree}
 use Rattle.hal_fit_rules.specs.Signalled.{AnyEventAgrees}
+use Rattle.hal_fit_rules.specs.Looked.{AreLooked}
 use Rattle.hal_fit_rules.specs.Stated.{AnyAgrees, GuardAgrees, AnyGuardAgrees, SpanAgrees, TimeAgrees, StartAgrees, CycleAgrees, EndAgrees, LimitAgrees, ScheduleAgrees, VariableAgrees, StatementAgrees, BasicAgrees, AlternativeAgrees, GroupAgrees, StatementsAgree}
 use Rattle.hal_fit_rules.proofs.Beginning.{then_, one, there, among}
 use Rattle.hal_fit_rules.proofs.BegunExpressions.{own_first, expression_first, expressions_first}
@@ -282,11 +283,11 @@ module _ (u : Uses) (site : Site) (ps : List Phrase) (sound : IsSound type_rows 
       ∙ receivers_right u site ps sound e (below d a) ts of.found worth.0 (then_ (expression_first f (below d a) role.Assigned t) begun) receivers
       (ap (λ c. all_take ps a.block c ts) (sym of.known) ∙ taken_of d a ts t begun) fits worth.1 (sort_value of.found worth.0 fits worth.1)
 
--- a DO FOR stands in the same UPDATE block as its statements
-for_update : (d : List Phrase) (a : Around) (temporary : Bool) → is_some a.update ≡ is_some (around_for d a temporary).update
+-- a DO FOR stands in the same unit and UPDATE block as its statements
+for_looked : (ps : List Phrase) (within : Bool) (d : List Phrase) (a : Around) (temporary : Bool) → AreLooked ps within a → AreLooked ps within (around_for d a temporary)
 unfolding around_for
-for_update d a true = refl
-for_update d a false = refl
+for_looked ps within d a true looked = looked
+for_looked ps within d a false looked = looked
 
 -- an event that ON ERROR changes
 change_fits : (image : ImageParts) (g : Ground) (ps : List Phrase) → IsSound type_rows ps → (site : Site) (d : List Phrase) (a : Around) (o : Option Eventful) → AreFirst (gathered_any (gathered_event a) d o) ps
@@ -305,11 +306,11 @@ module _ (image : ImageParts) (g : Ground) (u : Bool → Uses) (ps : List Phrase
   mutual
     unfolding gathered_statement gathered_basic gathered_alternative gathered_group gathered_statements
 
-    statement_fits : (within : Bool) (site : Site) (m : ℕ) (d : List Phrase) (a : Around) (x : Statement) → within ≡ is_some a.update → AreFirst (gathered_statement d a x) ps → StatementAgrees image g u ps within site m d a x
+    statement_fits : (within : Bool) (site : Site) (m : ℕ) (d : List Phrase) (a : Around) (x : Statement) → AreLooked ps within a → AreFirst (gathered_statement d a x) ps → StatementAgrees image g u ps within site m d a x
         → StatementFits image g u within site m x
     statement_fits within site m d a (Labelled labels basic) stands begun agree = basic_fits within site m (gathered_each (gathered_label a) d labels) a labels basic stands begun agree
 
-    basic_fits : (within : Bool) (site : Site) (m : ℕ) (d : List Phrase) (a : Around) (labels : List Naming) (x : Basic) → within ≡ is_some a.update → AreFirst (gathered_basic d a labels x) ps → BasicAgrees image g u ps within site m d a labels x
+    basic_fits : (within : Bool) (site : Site) (m : ℕ) (d : List Phrase) (a : Around) (labels : List Naming) (x : Basic) → AreLooked ps within a → AreFirst (gathered_basic d a labels x) ps → BasicAgrees image g u ps within site m d a labels x
         → BasicFits image g u within site m x
     basic_fits within site m d a labels (Assignment p receivers tree) stands begun agree = assigned_of (u within) site ps sound d a receivers tree begun agree.0 agree.1
     basic_fits within site m d a labels (If p condition consequence alternative) stands begun agree =
@@ -347,13 +348,13 @@ module _ (image : ImageParts) (g : Ground) (u : Bool → Uses) (ps : List Phrase
             spanned = span_of (u within) (group_site site temporary m) ps sound e o span (then_ (any_guard_first o f guard) guard_begun) agree.0.spanned;
             guarded = any_guard_of (u within) (group_site site temporary m) ps sound f o guard guard_begun agree.0.guarded;
           },
-          group_fits within (group_site site temporary m) (suc m) h o group (stands ∙ for_update d a temporary) begun agree.1,
+          group_fits within (group_site site temporary m) (suc m) h o group (for_looked ps within d a temporary stands) begun agree.1,
         )
     basic_fits within site m d a labels (Read p channel receivers) stands begun agree =
         let e : List Phrase = add d a (OfRead p) in
         let f : List Phrase = gathered e (below d a) role.Channel channel in
         let channel_begun = then_ (own_first e (below d a) role.Channel channel) (then_ (receivers_first (below d a) role.Receiver f receivers) begun) in (
-          stands ∙ read_outside ps locks d a p (then_ (one e (below d a) (OfExpression role.Channel channel)) channel_begun),
+          read_outside ps locks within d a p stands (then_ (one e (below d a) (OfExpression role.Channel channel)) channel_begun),
           channel_fits ps sound site e (below d a) channel channel_begun agree.0,
           reads_right (u within) site ps sound f (below d a) receivers begun agree.1,
         )
@@ -361,35 +362,35 @@ module _ (image : ImageParts) (g : Ground) (u : Bool → Uses) (ps : List Phrase
         let e : List Phrase = add d a (OfWrite p) in
         let f : List Phrase = gathered e (below d a) role.Channel channel in
         let channel_begun = then_ (own_first e (below d a) role.Channel channel) (then_ (expressions_first f (below d a) role.Item items) begun) in (
-          stands ∙ write_outside ps locks d a p (then_ (one e (below d a) (OfExpression role.Channel channel)) channel_begun),
+          write_outside ps locks within d a p stands (then_ (one e (below d a) (OfExpression role.Channel channel)) channel_begun),
           channel_fits ps sound site e (below d a) channel channel_begun agree.0,
           items_of (u within) site ps sound f (below d a) items begun agree.1,
         )
     basic_fits within site m d a labels (Update p body close) stands begun agree =
         let e : List Phrase = add d a (OfUpdate p labels) in
         let body_begun = then_ (close_first (updated (length d) a) (gathered_statements e (updated (length d) a) body) close) begun in (
-          stands ∙ update_outside ps locks d a p labels (then_ (statements_first e (updated (length d) a) body) body_begun),
-          statements_fit true site (suc m) e (updated (length d) a) body refl body_begun agree,
+          update_outside ps locks within d a p labels stands (then_ (statements_first e (updated (length d) a) body) body_begun),
+          statements_fit true site (suc m) e (updated (length d) a) body (inl refl) body_begun agree,
         )
     basic_fits within site m d a labels (Scheduled p s) stands begun agree =
-        (stands ∙ real_time_outside ps locks d a p (then_ (schedule_first (add d a (OfRealTime p)) (below d a) s) begun), schedule_of (u within) site ps sound d a p s begun agree)
-    basic_fits within site m d a labels (Cancel p names) stands begun agree = stands ∙ real_time_outside ps locks d a p (then_ (processes_first (below d a) (add d a (OfRealTime p)) names) begun)
-    basic_fits within site m d a labels (Terminate p names) stands begun agree = stands ∙ real_time_outside ps locks d a p (then_ (processes_first (below d a) (add d a (OfRealTime p)) names) begun)
+        (real_time_outside ps locks within d a p stands (then_ (schedule_first (add d a (OfRealTime p)) (below d a) s) begun), schedule_of (u within) site ps sound d a p s begun agree)
+    basic_fits within site m d a labels (Cancel p names) stands begun agree = real_time_outside ps locks within d a p stands (then_ (processes_first (below d a) (add d a (OfRealTime p)) names) begun)
+    basic_fits within site m d a labels (Terminate p names) stands begun agree = real_time_outside ps locks within d a p stands (then_ (processes_first (below d a) (add d a (OfRealTime p)) names) begun)
     basic_fits within site m d a labels (Wait p tree) stands begun agree =
         let e : List Phrase = add d a (OfRealTime p) in
-        (stands ∙ real_time_outside ps locks d a p (then_ (expression_first e (below d a) role.Time tree) begun), time_fits (u within) site ps sound e (below d a) tree begun agree)
+        (real_time_outside ps locks within d a p stands (then_ (expression_first e (below d a) role.Time tree) begun), time_fits (u within) site ps sound e (below d a) tree begun agree)
     basic_fits within site m d a labels (WaitUntil p tree) stands begun agree =
         let e : List Phrase = add d a (OfRealTime p) in
-        (stands ∙ real_time_outside ps locks d a p (then_ (expression_first e (below d a) role.Time tree) begun), time_fits (u within) site ps sound e (below d a) tree begun agree)
-    basic_fits within site m d a labels (WaitForDependent p) stands begun agree = stands ∙ real_time_outside ps locks d a p begun
-    basic_fits within site m d a labels (WaitFor p tree) stands begun agree = stands ∙ real_time_outside ps locks d a p (then_ (expression_first (add d a (OfRealTime p)) (below d a) role.Event tree) begun)
+        (real_time_outside ps locks within d a p stands (then_ (expression_first e (below d a) role.Time tree) begun), time_fits (u within) site ps sound e (below d a) tree begun agree)
+    basic_fits within site m d a labels (WaitForDependent p) stands begun agree = real_time_outside ps locks within d a p stands begun
+    basic_fits within site m d a labels (WaitFor p tree) stands begun agree = real_time_outside ps locks within d a p stands (then_ (expression_first (add d a (OfRealTime p)) (below d a) role.Event tree) begun)
     basic_fits within site m d a labels (UpdatePriority p name tree) stands begun agree =
         let e : List Phrase = add d a (OfRealTime p) in
         let f : List Phrase = gathered_any (gathered_process (below d a)) e name in (
-          stands ∙ real_time_outside ps locks d a p (then_ (process_first (below d a) e name) (then_ (expression_first f (below d a) role.Priority tree) begun)),
+          real_time_outside ps locks within d a p stands (then_ (process_first (below d a) e name) (then_ (expression_first f (below d a) role.Priority tree) begun)),
           integer_of (u within) site ps sound f (below d a) role.Priority tree refl priority_wanted begun agree,
         )
-    basic_fits within site m d a labels (Event e) stands begun agree = (stands ∙ event_outside ps locks d a e begun, event_fits ps sound image g site d a e begun agree)
+    basic_fits within site m d a labels (Event e) stands begun agree = (event_outside ps locks within d a e stands begun, event_fits ps sound image g site d a e begun agree)
     basic_fits within site m d a labels (SendError p group_at group number_at number) stands begun agree = error_fits ps sound image g d a group_at number_at group number begun
     basic_fits within site m d a labels (OnErrorResponse p s response e) stands begun agree = change_fits image g ps sound site (add d a (OfResponse p s)) (below d a) e begun agree
     basic_fits within site m d a labels (OnErrorStatement p s handler) stands begun agree = statement_fits within site (suc m) (add d a (OfHandler p s)) (inside a) handler stands begun agree
@@ -401,15 +402,15 @@ module _ (image : ImageParts) (g : Ground) (u : Bool → Uses) (ps : List Phrase
     basic_fits within site m d a labels (Repeat p label) stands begun agree = tt
     basic_fits within site m d a labels (OffError p s) stands begun agree = tt
 
-    alternative_fits : (within : Bool) (site : Site) (m : ℕ) (d : List Phrase) (a : Around) (x : Alternative) → within ≡ is_some a.update → AreFirst (gathered_alternative d a x) ps → AlternativeAgrees image g u ps within site m d a x
+    alternative_fits : (within : Bool) (site : Site) (m : ℕ) (d : List Phrase) (a : Around) (x : Alternative) → AreLooked ps within a → AreFirst (gathered_alternative d a x) ps → AlternativeAgrees image g u ps within site m d a x
         → AlternativeFits image g u within site m x
     alternative_fits within site m d a NoAlternative stands begun agree = tt
     alternative_fits within site m d a (Otherwise statement) stands begun agree = statement_fits within site m d a statement stands begun agree
 
-    group_fits : (within : Bool) (site : Site) (m : ℕ) (d : List Phrase) (a : Around) (x : Group) → within ≡ is_some a.update → AreFirst (gathered_group d a x) ps → GroupAgrees image g u ps within site m d a x → GroupFits image g u within site m x
+    group_fits : (within : Bool) (site : Site) (m : ℕ) (d : List Phrase) (a : Around) (x : Group) → AreLooked ps within a → AreFirst (gathered_group d a x) ps → GroupAgrees image g u ps within site m d a x → GroupFits image g u within site m x
     group_fits within site m d a (Groups list close) stands begun agree = statements_fit within site m d a list stands (then_ (close_first a (gathered_statements d a list) close) begun) agree
 
-    pub statements_fit : (within : Bool) (site : Site) (m : ℕ) (d : List Phrase) (a : Around) (x : Statements) → within ≡ is_some a.update → AreFirst (gathered_statements d a x) ps → StatementsAgree image g u ps within site m d a x
+    pub statements_fit : (within : Bool) (site : Site) (m : ℕ) (d : List Phrase) (a : Around) (x : Statements) → AreLooked ps within a → AreFirst (gathered_statements d a x) ps → StatementsAgree image g u ps within site m d a x
         → StatementsFit image g u within site m x
     statements_fit within site m d a NoStatements stands begun agree = tt
     statements_fit within site m d a (MoreStatements first others) stands begun agree = (

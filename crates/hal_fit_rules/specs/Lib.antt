@@ -13,3 +13,4 @@ pub mod Received
 pub mod Used
 pub mod Passing
 pub mod Valued
+pub mod Looked

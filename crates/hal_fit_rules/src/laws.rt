@@ -33,6 +33,7 @@ ghost use Rattle.hal_fit_classes.specs.Kinded.{IsKinded, IsOf};
 ghost use Rattle.hal_fit_rules.specs.Begun.{AreFirst};
 ghost use Rattle.hal_fit_rules.specs.Leaves.{HasKnownLeaves, IsKnown, is_value_role};
 ghost use Rattle.hal_fit_rules.specs.Agreeing.{Agrees, FormAgrees, NameAgrees};
+ghost use Rattle.hal_fit_rules.specs.Looked.{AreLooked, IsHarmless};
 ghost use Rattle.hal_fit_rules.specs.Owned.{IsBuiltinName, IsFunction, IsOwn, IsPlainData, IsStructureData, IsTemporary};
 ghost use Rattle.hal_fit_rules.specs.Happening.{AsksAll, IsEvent, IsProcess};
 ghost use Rattle.hal_fit_rules.specs.Passed.{ProcedureAgrees};
@@ -129,12 +130,13 @@ pub fn the_procedures_of_a_set_agree()
 /// channels, events can be changed so, what asks stands in no UPDATE block, arguments are what parameters take, and RETURN gives what its block gives.
 pub fn statements_whose_names_agree_fit()
     ensures { (image : ImageParts) (g : Ground) (u : Bool → Uses) (within : Bool) (site : Site) (m : ℕ) (ps before : List Phrase) (around : Around) (body : Statements) → IsSound type_rows ps → IsSound lock_rows ps
-        → within ≡ is_some around.update → AreFirst (gathered_statements before around body) ps → StatementsAgree image g u ps within site m before around body → StatementsFit image g u within site m body }
+        → AreLooked ps within around → AreFirst (gathered_statements before around body) ps → StatementsAgree image g u ps within site m before around body → StatementsFit image g u within site m body }
 {}
 
 /// So do statements of a unit where each phrase of the unit names what is known: its names, call forms and receivers agree where it stands, its channels are
 /// constants, its literals are in range, and its blocks are what they are for the checks. The names of a DO FOR group with a TEMPORARY variable are looked up in
-/// the block of its phrase, by its mark.
+/// the block of its phrase, by its mark. If nothing in the unit does what an UPDATE block may not do, its statements also fit where they are looked at as they would
+/// stand inside of one.
 pub fn statements_of_a_known_unit_fit()
     ensures agree { (image : ImageParts) (g : Ground) (u : Bool → Uses) (site : Site) (m : ℕ) (before : List Phrase) (around : Around) (body : Statements) → UnitKnown image g u site around.home
         → site.marks ≡ marks_of site.set.phrases around.home → length (marks_of before around.home) ≡ m → AreFirst (gathered_statements before around body) site.set.phrases
@@ -142,4 +144,8 @@ pub fn statements_of_a_known_unit_fit()
     ensures fit { (image : ImageParts) (g : Ground) (u : Bool → Uses) (site : Site) (m : ℕ) (before : List Phrase) (around : Around) (body : Statements) → IsSound type_rows site.set.phrases
         → IsSound lock_rows site.set.phrases → UnitKnown image g u site around.home → site.marks ≡ marks_of site.set.phrases around.home → length (marks_of before around.home) ≡ m
         → AreFirst (gathered_statements before around body) site.set.phrases → StatementsFit image g u (is_some around.update) (within_block around.block site) m body }
+    ensures inside { (image : ImageParts) (g : Ground) (v : Uses) (site : Site) (m : ℕ) (before : List Phrase) (around : Around) (body : Statements) → IsSound type_rows site.set.phrases
+        → IsSound lock_rows site.set.phrases → IsHarmless site.set.phrases around.home → UnitKnown image g (λ inside. v) site around.home → site.marks ≡ marks_of site.set.phrases around.home
+        → length (marks_of before around.home) ≡ m → AreFirst (gathered_statements before around body) site.set.phrases
+        → StatementsFit image g (λ inside. v) true (within_block around.block site) m body }
 {}
