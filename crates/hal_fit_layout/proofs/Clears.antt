@@ -18,7 +18,7 @@ use Rattle.hal_fit.specs.Ending.{ClearsFit}
 use Rattle.hal_link.specs.Linking.{own_row}
 use Rattle.hal_link.specs.Shapes.{Shapes}
 use Rattle.hal_link.specs.UnitCode.{clears_from}
-use Rattle.hal_fit_layout.specs.Each.{Each}
+use Rattle.hal_fit_calls.specs.Each.{Each}
 use Rattle.hal_fit_layout.proofs.Laid.{kind_of_row}
 use Rattle.hal_fit_layout.proofs.Placing.{HoldsIfAutomatic, process_each, at_holds}
 

@@ -24,7 +24,7 @@ use Rattle.hal_runs.proofs.Same.{cell_same, place_same}
 use Rattle.hal_link.specs.Linking.{Linked, own_row, processes_from, image_with}
 use Rattle.hal_link.specs.Outlines.{block_of, outlines_of}
 use Rattle.hal_link.specs.Shapes.{shapes_of}
-use Rattle.hal_fit_layout.specs.Each.{Each}
+use Rattle.hal_fit_calls.specs.Each.{Each}
 use Rattle.hal_fit_layout.specs.Ranked.{AreReentrant}
 use Rattle.hal_fit_layout.proofs.Ordered.{each_member}
 use Rattle.hal_fit_layout.proofs.Parameters.{places_are}

@@ -32,9 +32,9 @@ use Rattle.hal_runs.specs.Joined.{alone, joins, longer, with_some, with_run, wit
 use Rattle.hal_runs.specs.Same.{same_cell, same_place}
 use Rattle.hal_link.specs.Linking.{own_row}
 use Rattle.hal_link.specs.Shapes.{Shapes, reference_shape}
-use Rattle.hal_fit_layout.specs.Each.{Each}
+use Rattle.hal_fit_calls.specs.Each.{Each}
 use Rattle.hal_fit_layout.specs.Rows.{IsNumbered}
-use Rattle.hal_fit_layout.proofs.Each.{each_one, each_flat, each_if}
+use Rattle.hal_fit_calls.proofs.Each.{each_one, each_flat, each_if}
 use Rattle.hal_fit_layout.proofs.Ranges.{IsSize, size_is, IsRanged, Beside, kinds_ranged, nothing_is, first_beside, initial_is}
 use Rattle.hal_fit_layout.proofs.Placing.{process_each}
 

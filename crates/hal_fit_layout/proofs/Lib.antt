@@ -1,4 +1,3 @@
-pub mod Each
 pub mod Owned
 pub mod Memory
 pub mod Laid
@@ -6,7 +5,6 @@ pub mod Placing
 pub mod Clears
 pub mod Parameters
 pub mod Called
-pub mod Reached
 pub mod Ordered
 pub mod Outlining
 pub mod Ranges

@@ -10,7 +10,7 @@ use Rattle.hal_code.specs.Memory.{lies_from}
 use Rattle.hal_code.specs.Sorts.{same_kind}
 use Rattle.hal_meaning.specs.Places.{Place}
 use Rattle.hal_meaning.specs.ReportNames.{first_place}
-use Rattle.hal_fit_layout.specs.Each.{Each}
+use Rattle.hal_fit_calls.specs.Each.{Each}
 use Rattle.hal_fit_layout.specs.Owned.{IsOthers}
 
 pub same_number : (n : ℕ) → (n == n) ≡ true

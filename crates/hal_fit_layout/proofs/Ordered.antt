@@ -17,10 +17,10 @@ use Rattle.hal_reach.proofs.Within.{Has, HasAll}
 use Rattle.hal_gen_expr.specs.Numbering.{below, most, block_number}
 use Rattle.hal_link.specs.Outlines.{Rank, Outline, ranked, ranks_of, calls, called_if, called_at, called_from, numbering_of}
 use Rattle.hal_link.specs.Shapes.{Shapes}
-use Rattle.hal_fit_layout.specs.Each.{Each}
+use Rattle.hal_fit_calls.specs.Each.{Each}
 use Rattle.hal_fit_layout.specs.Ranked.{IsCalled, IsAcyclic}
 use Rattle.hal_fit_layout.proofs.Called.{From, from_member, mapped_member, from_called}
-use Rattle.hal_fit_layout.proofs.Reached.{Passes, passed, fewer_pass, as_many, of_one, compared, few_pass, reaches_on, reaches_itself, reaches_callee}
+use Rattle.hal_fit_calls.proofs.Reached.{Passes, passed, fewer_pass, as_many, of_one, compared, few_pass, reaches_on, reaches_itself, reaches_callee}
 
 -- members of a list
 pub each_member : (P : ℕ → Type 0) (xs : List ℕ) → ((x : ℕ) → Has xs x → P x) → Each P xs

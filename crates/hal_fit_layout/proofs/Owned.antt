@@ -15,9 +15,9 @@ use Rattle.hal_meaning.specs.Elements.{kinds_of, shape_of}
 use Rattle.hal_meaning.specs.InitialValues.{first_values}
 use Rattle.hal_meaning.specs.Places.{Place, Storing, InCells, InPlaces, ByReference, Unstored, storing, places_from, hidden, places_of_item, is_for_or_case, places_at, places_in, unit_numbers, are_several, is_sole, common_places, sole_places, places_of}
 use Rattle.hal_reach.specs.Places.{is_among}
-use Rattle.hal_fit_layout.specs.Each.{Each}
+use Rattle.hal_fit_calls.specs.Each.{Each}
 use Rattle.hal_fit_layout.specs.Owned.{IsOthers, LiesIn}
-use Rattle.hal_fit_layout.proofs.Each.{each_append, each_one, each_weaker, each_flat, each_if}
+use Rattle.hal_fit_calls.proofs.Each.{each_append, each_one, each_weaker, each_flat, each_if}
 
 -- the places of a phrase are its own
 abbrev pub IsOwned : ℕ → Place → Type 0

@@ -32,7 +32,7 @@ use Rattle.hal_fitting.specs.Fitting.{Ground}
 use Rattle.hal_fit_expr.specs.Serving.{HasPlaces, HavePlaces}
 use Rattle.hal_link.specs.Linking.{Linked, own_row, image_with}
 use Rattle.hal_link.specs.Shapes.{Shapes, shapes_of}
-use Rattle.hal_fit_layout.specs.Each.{Each}
+use Rattle.hal_fit_calls.specs.Each.{Each}
 use Rattle.hal_fit_layout.specs.Owned.{IsOthers, LiesIn, IsStored, AreStored, has_one}
 use Rattle.hal_fit_layout.proofs.Laid.{block_rows, memory_of_rows}
 use Rattle.hal_fit_layout.proofs.Memory.{known, lies_behind, first_behind, one_within}

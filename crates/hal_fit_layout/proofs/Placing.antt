@@ -13,8 +13,8 @@ use Rattle.hal_meaning.specs.InitialValues.{first_values}
 use Rattle.hal_meaning.specs.Places.{Place, Storing, InCells, InPlaces, ByReference, Unstored, storing, places_from, hidden, places_of_item, is_for_or_case, places_at, places_in, unit_numbers, are_several, is_sole, common_places, sole_places, places_of}
 use Rattle.hal_meaning.specs.Runs.{places_of_process}
 use Rattle.hal_meaning.specs.Sets.{Set}
-use Rattle.hal_fit_layout.specs.Each.{Each}
-use Rattle.hal_fit_layout.proofs.Each.{each_append, each_one, each_flat, each_if}
+use Rattle.hal_fit_calls.specs.Each.{Each}
+use Rattle.hal_fit_calls.proofs.Each.{each_append, each_one, each_flat, each_if}
 
 module _ (ps : List Phrase) (vs : Known) (P : Place → Type 0) (all : (p : Phrase) → Each P (places_at ps vs p p.node)) where
   unit_each : (q : ℕ) → Each P (places_in ps vs q)

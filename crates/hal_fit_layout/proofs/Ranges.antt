@@ -23,8 +23,8 @@ use Rattle.hal_values.specs.declared.value.Value.TheVariants as value
 use Rattle.hal_code.specs.Sorts.{is_kind, is_initial}
 use Rattle.hal_meaning.specs.Elements.{Component, Shape, Above, count, times, kinds_of_component, kinds_of, component, lower, path_to, components_from, components_at, components_named, shape_of_type, shape_of}
 use Rattle.hal_meaning.specs.InitialValues.{held, one_each, filled, given, all_values, first_values}
-use Rattle.hal_fit_layout.specs.Each.{Each}
-use Rattle.hal_fit_layout.proofs.Each.{each_append, each_flat}
+use Rattle.hal_fit_calls.specs.Each.{Each}
+use Rattle.hal_fit_calls.proofs.Each.{each_append, each_flat}
 
 -- a size within its limit
 abbrev pub IsSize : ℕ → Option ℕ → Type 0

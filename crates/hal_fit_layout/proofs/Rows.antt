@@ -21,7 +21,7 @@ use Rattle.hal_runs.specs.Same.{same_place}
 use Rattle.hal_link.specs.Linking.{Linked, known_start, own_row, processes_from, image_with}
 use Rattle.hal_link.specs.Outlines.{Outline, block_of, outlines_of}
 use Rattle.hal_link.specs.Shapes.{shapes_of}
-use Rattle.hal_fit_layout.specs.Each.{Each}
+use Rattle.hal_fit_calls.specs.Each.{Each}
 use Rattle.hal_fit_layout.specs.Rows.{IsNumbered, RowsLeft, has_block}
 use Rattle.hal_fit_layout.proofs.Filling.{cell_rows_right, place_rows_right}
 

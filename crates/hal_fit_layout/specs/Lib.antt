@@ -1,4 +1,3 @@
-pub mod Each
 pub mod Owned
 pub mod Ranked
 pub mod Known

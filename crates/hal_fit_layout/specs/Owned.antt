@@ -9,7 +9,7 @@ use Rattle.hal_values.specs.declared.value.Kind.{Kind}
 use Rattle.hal_meaning.specs.Elements.{kinds_of, shape_of}
 use Rattle.hal_meaning.specs.Places.{Place, Storing, storing}
 use Rattle.hal_meaning.specs.Sets.{Set}
-use Rattle.hal_fit_layout.specs.Each.{Each}
+use Rattle.hal_fit_calls.specs.Each.{Each}
 
 -- a place of another phrase
 abbrev pub IsOthers : ℕ → Place → Type 0

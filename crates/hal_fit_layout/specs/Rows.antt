@@ -7,7 +7,7 @@ use Rattle.hal_code.specs.declared.image.ImageParts.{ImageParts}
 use Rattle.hal_code.specs.Right.{shapes_right, views_right, names_right}
 use Rattle.hal_link.specs.Outlines.{block_of, outlines_of}
 use Rattle.hal_link.specs.Shapes.{Shapes, reference_shape}
-use Rattle.hal_fit_layout.specs.Each.{Each}
+use Rattle.hal_fit_calls.specs.Each.{Each}
 
 -- the block with this number is there, and the process has it
 abbrev pub has_block : ImageParts → ℕ → ℕ → Bool

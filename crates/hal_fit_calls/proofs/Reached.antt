@@ -9,8 +9,8 @@ use Rattle.hal_meaning.specs.Bodies.{is_unit, callees, reaches_within, unit_coun
 use Rattle.hal_meaning.specs.Places.{unit_numbers}
 use Rattle.hal_reach.proofs.Callees.{has_callees}
 use Rattle.hal_reach.proofs.Within.{Has, HasAll}
-use Rattle.hal_fit_layout.specs.Each.{Each}
-use Rattle.hal_fit_layout.proofs.Each.{each_one}
+use Rattle.hal_fit_calls.specs.Each.{Each}
+use Rattle.hal_fit_calls.proofs.Each.{each_one}
 
 -- how many pass a test
 abbrev pub passed : (ℕ → Bool) → List ℕ → ℕ
