@@ -11,6 +11,8 @@ mod Areas
 mod Forming
 pub mod Agreeing
 mod BegunStatements
+mod BegunDeclarations
+mod BegunUnits
 pub mod Stating
 pub mod Declaring
 pub mod Ranging
@@ -27,6 +29,7 @@ mod Procedures
 mod Marking
 mod Using
 mod UsingStatements
+mod UsingUnits
 mod Parameters
 pub mod Calling
 pub mod Constants

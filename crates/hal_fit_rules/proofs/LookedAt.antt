@@ -38,7 +38,7 @@ module _ (image : ImageParts) (g : Ground) (v : Uses) (ps : List Phrase) (one ot
     basic_any site m d a labels (DoFor p temporary variable span guard group) agree = (
       agree.0,
       group_any (group_site site temporary m) (suc m)
-      (gathered_any (gathered_guard (around_for d a temporary)) (gathered_span (begun_for d a labels temporary variable) (around_for d a temporary) span) guard) (around_for d a temporary) group agree.1,
+          (gathered_any (gathered_guard (around_for d a temporary)) (gathered_span (begun_for d a labels temporary variable) (around_for d a temporary) span) guard) (around_for d a temporary) group agree.1,
     )
     basic_any site m d a labels (OnErrorStatement p s handler) agree = statement_any site (suc m) (add d a (OfHandler p s)) (inside a) handler agree
     basic_any site m d a labels (Null p) agree = agree

@@ -1,15 +1,17 @@
 //! What holds of phrases that break no rule.
 
-ghost use Rattle.std.specs.Prelude.{◌≡◌, ℕ, Bool, true, List, [], Some, None, length};
+ghost use Rattle.std.specs.Prelude.{◌≡◌, ℕ, Bool, true, false, List, [], Some, None, length};
 ghost use Rattle.std.specs.Option.{is_some};
 ghost use Rattle.hal_grammar.specs.Leaves.{Naming};
 ghost use Rattle.hal_grammar.specs.Expressions.{Expression};
 ghost use Rattle.hal_grammar.specs.Statements.{Eventful, Statements};
+ghost use Rattle.hal_grammar.specs.Units.{File};
 ghost use Rattle.hal_phrases.specs.declared.around.Around.{Around};
 ghost use Rattle.hal_phrases.specs.declared.role.Role.{Role};
 ghost use Rattle.hal_phrases.specs.Phrases.{Phrase};
 ghost use Rattle.hal_phrases.specs.GatheredExpressions.{gathered};
 ghost use Rattle.hal_phrases.specs.GatheredStatements.{gathered_statements};
+ghost use Rattle.hal_phrases.specs.GatheredUnits.{phrases_of};
 ghost use Rattle.hal_names.specs.Laws.{IsCounted};
 ghost use Rattle.hal_names.specs.Means.{means};
 ghost use Rattle.hal_scope.specs.declared.builtin.Builtin.{Builtin};
@@ -20,10 +22,13 @@ ghost use Rattle.hal_operands.specs.Wants.{wanted};
 ghost use Rattle.hal_types.specs.Rules.{type_rows};
 ghost use Rattle.hal_locks.specs.Rules.{lock_rows};
 ghost use Rattle.hal_code.specs.declared.image.ImageParts.{ImageParts};
-ghost use Rattle.hal_meaning.specs.Bodies.{marks_of};
+ghost use Rattle.hal_meaning.specs.Bodies.{Body, bodies_of, marks_of};
+ghost use Rattle.hal_meaning.specs.Places.{Place};
+ghost use Rattle.hal_meaning.specs.Sets.{Set, body_at};
 ghost use Rattle.hal_meaning.specs.Statements.{kind_meant};
 ghost use Rattle.hal_meaning.specs.Variables.{name_meant};
 ghost use Rattle.hal_code.specs.Sorts.{is_kind};
+ghost use Rattle.hal_agreement.specs.PlacedBlocks.{unit_site};
 ghost use Rattle.hal_agreement.specs.Sites.{Site, here_at, within_block};
 ghost use Rattle.hal_fitting.specs.Fitting.{Ground};
 ghost use Rattle.hal_fit_expr.specs.Uses.{Uses};
@@ -149,4 +154,15 @@ pub fn statements_of_a_known_unit_fit()
         → IsSound lock_rows site.set.phrases → IsHarmless site.set.phrases around.home → UnitKnown image g (λ inside. v) site around.home → site.marks ≡ marks_of site.set.phrases around.home
         → length (marks_of before around.home) ≡ m → AreFirst (gathered_statements before around body) site.set.phrases
         → StatementsFit image g (λ inside. v) true (within_block around.block site) m body }
+{}
+
+/// So do, in a set of files, the statements of each unit of which this is known; units that stand inside of it are apart. If the unit does nothing that an UPDATE block
+/// may not do, they also fit as they would inside of one.
+pub fn the_statements_of_each_known_unit_fit()
+    ensures fit { (image : ImageParts) (g : Ground) (u : Bool → Uses) (s : Set) (files : List File) (places : List Place) (unit : ℕ) (b : Body) → s.phrases ≡ phrases_of files → s.bodies ≡ bodies_of files s.phrases
+        → IsSound type_rows s.phrases → IsSound lock_rows s.phrases → body_at s unit ≡ Some b → UnitKnown image g u (unit_site s places b) b.number
+        → StatementsFit image g u false (unit_site s places b) 0 b.statements }
+    ensures inside { (image : ImageParts) (g : Ground) (v : Uses) (s : Set) (files : List File) (places : List Place) (unit : ℕ) (b : Body) → s.phrases ≡ phrases_of files → s.bodies ≡ bodies_of files s.phrases
+        → IsSound type_rows s.phrases → IsSound lock_rows s.phrases → body_at s unit ≡ Some b → UnitKnown image g (λ inside. v) (unit_site s places b) b.number → IsHarmless s.phrases b.number
+        → StatementsFit image g (λ inside. v) true (unit_site s places b) 0 b.statements }
 {}

@@ -10,5 +10,5 @@ pub use laws::{
     statements_whose_names_agree_fit, the_call_forms_of_own_names_agree,
     the_events_of_an_image_agree, the_names_of_constants_agree, the_names_of_events_agree,
     the_names_of_functions_agree, the_names_of_own_data_agree, the_names_of_structures_agree,
-    the_procedures_of_a_set_agree,
+    the_procedures_of_a_set_agree, the_statements_of_each_known_unit_fit,
 };
