@@ -20,11 +20,11 @@ use Rattle.hal_fit.specs.Ending.{ClearsFit}
 use Rattle.hal_fit.specs.Stating.{StatementsFit}
 use Rattle.hal_fit_expr.specs.Serving.{HavePlaces}
 use Rattle.hal_fit.specs.Supporting.{at_inside}
+use Rattle.hal_link.specs.KnownBlocks.{HasOwnBlock, IsKnown, KnownProcess, KnownUnit, numbers}
 use Rattle.hal_link.specs.Linking.{Linked, Linking, linking, own_row, image_with, image_by, image_of}
 use Rattle.hal_link.specs.LinkedBlocks.{IsOfProcess, IsOfUnit}
 use Rattle.hal_link.specs.Outlines.{Outline, outlines_of}
 use Rattle.hal_link.specs.Shapes.{shapes_of}
-use Rattle.hal_fit_layout.specs.Known.{IsKnown, KnownProcess, KnownUnit, numbers}
 use Rattle.hal_fit_layout.specs.Ranked.{AreReentrant}
 use Rattle.hal_fit_layout.specs.Rows.{RowsLeft}
 use Rattle.hal_fit_layout.proofs.Clears.{clears_fit}
@@ -95,13 +95,15 @@ module _ (s : Set) (counted : IsCounted s.phrases) (views : List View) (image : 
     by (inr u) = record { linked = inr u.linked; fits = unit_fits number row u.linked.there known.outline known.there found u }
 
   -- all blocks
-  pub all_fit : AllFit s image
-  all_fit = record { few = few; blocks = λ number row found. known_fits number row found (left.known number row found) }
+  pub all_fit : ((number : ℕ) (row : Block) → slice_get image.blocks number ≡ Some row → IsKnown s views image number row) → AllFit s image
+  all_fit known = record { few = few; blocks = λ number row found. known_fits number row found (known number row found) }
 
 -- and rows
 pub rows_of_image : (s : Set) (views : List View) (image : ImageParts) → image_of s views ≡ Ok image → IsTables s.tables → s.tables.cells ≡ cells_of s.phrases s.constants
-    → length s.tables.processes ≡ length (processes_of s.phrases) → IsCounted s.phrases → AreReentrant s.phrases → cell_count s.phrases s.constants ≤ CELL_LIMIT → RowsLeft s image → rows_right image ≡ true
-rows_of_image s views image is tables cells long counted reentrant few left =
+    → length s.tables.processes ≡ length (processes_of s.phrases) → IsCounted s.phrases → AreReentrant s.phrases → cell_count s.phrases s.constants ≤ CELL_LIMIT
+    → ((p : ℕ) → p < length s.tables.processes → HasOwnBlock s image p) → RowsLeft s image → rows_right image ≡ true
+rows_of_image s views image is tables cells long counted reentrant few own left =
     let linked = image_is s views image (linking s views) is in
     let no_more = few_cells s views linked.0 counted reentrant cells long in
-    subst (λ one. rows_right one ≡ true) linked.1 (rows_by s views linked.0 tables cells (omega (arith, no_more, few)) (subst (RowsLeft s) (sym linked.1) left))
+    subst (λ one. rows_right one ≡ true) linked.1 (rows_by s views linked.0 tables cells (omega (arith, no_more, few))
+    (λ p low. subst (λ one. HasOwnBlock s one p) (sym linked.1) (own p low)) (subst (RowsLeft s) (sym linked.1) left))

@@ -14,8 +14,8 @@ use Rattle.hal_code.specs.Controlling as machine
 use Rattle.hal_agreement.specs.PlacedBlocks.{unit_site}
 use Rattle.hal_fit.specs.Stating.{StatementsFit}
 use Rattle.hal_fit.specs.Supporting.{ReferTo}
+use Rattle.hal_link.specs.KnownBlocks.{numbers}
 use Rattle.hal_link.specs.Outlines.{Outline, own_block, outlines_of}
-use Rattle.hal_fit_layout.specs.Known.{IsKnown, numbers}
 use Rattle.hal_fit_layout.specs.Owned.{AreStored}
 use Rattle.hal_fit_layout.specs.Ranked.{AreReentrant}
 use Rattle.hal_fit_layout.specs.Rows.{RowsLeft}
@@ -31,8 +31,6 @@ pub record AreLeft (s : Set) (views : List View) (image : ImageParts) : Type 0 w
   pub declared : (unit : ℕ) → AreStored s unit (inputs_at s unit) InPlaces
   -- each shape has a number alone: the own places of ASSIGN parameters refer to theirs
   pub references : (row : Block) (unit : ℕ) → ReferTo image row s (places_of_process s row.process) unit (outputs_at s unit)
-  -- linking numbers blocks by the outlines of processes, and clears the AUTOMATIC data of their units
-  pub known : (number : ℕ) (row : Block) → slice_get image.blocks number ≡ Some row → IsKnown s views image number row
   -- rules of types, locks and calls: the statements of processes fit
   pub processes : (number : ℕ) (row : Block) (o : Outline) (b : Body) → slice_get image.blocks number ≡ Some row → slice_get (outlines_of s) row.process ≡ Some o → number ≡ own_block o
       → body_at s o.unit ≡ Some b → UnitStatementsFit s views image o number row b

@@ -30,5 +30,6 @@ pub fn an_image_is_right_where_what_is_left_holds()
 {
     phrases_are_counted();
     a_set_is_a_load();
+    each_block_of_a_linked_image_is_of_a_process_or_a_unit();
     an_image_of_blocks_that_fit_is_right();
 }

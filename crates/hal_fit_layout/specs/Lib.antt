@@ -1,5 +1,4 @@
 pub mod Each
 pub mod Owned
 pub mod Ranked
-pub mod Known
 pub mod Rows
