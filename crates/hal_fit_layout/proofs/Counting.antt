@@ -30,7 +30,7 @@ use Rattle.hal_fit_layout.proofs.Ordered.{each_member}
 use Rattle.hal_fit_layout.proofs.Parameters.{places_are}
 
 -- rows are counted one by one
-rows_counted : {T : Type 0} (runs : List (Run T)) → row_count runs ≡ length (expanded runs)
+pub rows_counted : {T : Type 0} (runs : List (Run T)) → row_count runs ≡ length (expanded runs)
 rows_counted [] = refl
 rows_counted (run ∷ runs) =
     let rest = rows_counted runs in

@@ -86,7 +86,7 @@ or_single (Some k) is = is
 abbrev pub IsRanged : Kind → Type 0
 IsRanged k = is_kind k ≡ true
 
-abbrev HasKind : Component → Type 0
+abbrev pub HasKind : Component → Type 0
 HasKind c = is_kind c.kind ≡ true
 
 component_is : (ps : List Phrase) (vs : Known) (p : Phrase) (path : List (List ℕ)) (attributes : List Attribute) → HasKind (component ps vs p path attributes)
@@ -112,7 +112,7 @@ found_components : (ps : List Phrase) (vs : Known) (found : Option Phrase) → E
 found_components ps vs None = tt
 found_components ps vs (Some p) = at_phrase ps vs p p.node
 
-shape_is : (ps : List Phrase) (vs : Known) (p : Phrase) (attributes : List Attribute) (type : Option declarations.Kind) → Each HasKind (shape_of_type ps vs p attributes type).components
+pub shape_is : (ps : List Phrase) (vs : Known) (p : Phrase) (attributes : List Attribute) (type : Option declarations.Kind) → Each HasKind (shape_of_type ps vs p attributes type).components
 shape_is ps vs p attributes (Some (StructureKind place template copies)) = found_components ps vs (option_and_then (slice_get ps) (means ps p.around.block template))
 shape_is ps vs p attributes None = (component_is ps vs p [] attributes, tt)
 shape_is ps vs p attributes (Some (IntegerKind place)) = (component_is ps vs p [] attributes, tt)

@@ -1,0 +1,86 @@
+//! What holds of sets that break no rule, and of their images.
+
+ghost use Rattle.std.specs.Prelude.{◌≡◌, ◌≤◌, ℕ, true, List, Ok};
+ghost use Rattle.std.specs.List.{list_all};
+ghost use Rattle.hal_grammar.specs.Units.{File};
+ghost use Rattle.hal_phrases.specs.Phrases.{Phrase};
+ghost use Rattle.hal_phrases.specs.GatheredUnits.{phrases_of};
+ghost use Rattle.hal_names.specs.Laws.{IsCounted};
+ghost use Rattle.hal_scope.specs.Rules.{IsSound, rows};
+ghost use Rattle.hal_constants.specs.Known.{known};
+ghost use Rattle.hal_values.specs.Loads.{turn_limit};
+ghost use Rattle.hal_meaning.specs.Expressions.{inputs_at, outputs_at};
+ghost use Rattle.hal_meaning.specs.Places.{ByReference, InPlaces};
+ghost use Rattle.hal_meaning.specs.Runs.{places_of_process};
+ghost use Rattle.hal_meaning.specs.SetLoad.{IsSmall};
+ghost use Rattle.hal_meaning.specs.Sets.{Set, set_of};
+ghost use Rattle.hal_calls.specs.Programs.{has_program};
+ghost use Rattle.hal_calls.specs.Rules.{call_rows};
+ghost use Rattle.hal_limits.specs.Limits.{IsWithin};
+ghost use Rattle.hal_code.specs.declared.image.ImageParts.{ImageParts};
+ghost use Rattle.hal_code.specs.declared.row.View.{View};
+ghost use Rattle.hal_code.specs.Right.{form_right, shapes_right};
+ghost use Rattle.hal_verify.specs.Limits.{spread_kept};
+ghost use Rattle.hal_link.specs.CalledViews.{views_of};
+ghost use Rattle.hal_link.specs.Linking.{image_of};
+ghost use Rattle.hal_link.specs.Shapes.{shapes_of};
+ghost use Rattle.hal_fit_layout.specs.Each.{Each};
+ghost use Rattle.hal_fit_layout.specs.Owned.{AreStored};
+ghost use Rattle.hal_fit_layout.specs.Ranked.{AreReentrant, IsAcyclic};
+ghost use Rattle.hal_fit_layout.specs.Rows.{IsNumbered};
+ghost use Rattle.hal_fit_rows.specs.Parts.{HaveParts};
+ghost use Rattle.hal_fit_rows.specs.Purposes.{HasPurpose};
+
+use hal_names::{
+    a_key_is_found_at_its_first_declaration, phrases_are_counted, what_is_meant_declares_the_name,
+};
+
+/// Where no rule of calls is broken, no unit calls itself, by itself or through others, and several processes reach REENTRANT units alone (language document, Calls).
+pub fn a_set_that_breaks_no_rule_of_calls_has_no_cycles()
+    ensures acyclic { (ps : List Phrase) → IsCounted ps → IsSound call_rows ps → IsAcyclic ps }
+    ensures reentrant { (ps : List Phrase) → IsCounted ps → IsSound call_rows ps → AreReentrant ps }
+{}
+
+/// A set with a PROGRAM that is within the limits of cells, processes and events is small enough for a load (language document, Limits).
+pub fn a_set_within_its_limits_is_small()
+    ensures { (turns : ℕ) (files : List File) → IsWithin (phrases_of files) (known (phrases_of files)) → has_program (phrases_of files) ≡ true → turns ≤ turn_limit → IsSmall turns files }
+{}
+
+/// The shapes of a linked image have kinds in their ranges, and few cells where rule 951 isn't broken of the image (image document, When an image is right).
+pub fn the_shapes_of_an_image_are_right()
+    ensures { (s : Set) (views : List View) (image : ImageParts) → image_of s views ≡ Ok image → spread_kept image ≡ true → shapes_right image ≡ true }
+{}
+
+/// The parameters of a unit are declared in it as data that have elements, where no rule of names is broken and each STRUCTURE has a part: input parameters are stored in
+/// own places, and ASSIGN parameters as references (language document, Blocks).
+pub fn parameters_of_units_are_stored()
+    ensures inputs { (turns : ℕ) (files : List File) → IsSound rows (phrases_of files) → HaveParts (phrases_of files) → (unit : ℕ)
+        → AreStored (set_of turns files) unit (inputs_at (set_of turns files) unit) InPlaces }
+    ensures outputs { (turns : ℕ) (files : List File) → IsSound rows (phrases_of files) → HaveParts (phrases_of files) → (unit : ℕ)
+        → AreStored (set_of turns files) unit (outputs_at (set_of turns files) unit) ByReference }
+{
+    phrases_are_counted();
+    a_key_is_found_at_its_first_declaration();
+    what_is_meant_declares_the_name();
+}
+
+/// So the references among the own places of a process are to shapes that are there (image document, The image of a set).
+pub fn references_of_processes_are_to_shapes()
+    ensures { (turns : ℕ) (files : List File) → IsSound rows (phrases_of files) → HaveParts (phrases_of files) → (process : ℕ)
+        → Each (IsNumbered (set_of turns files) (shapes_of (set_of turns files))) (places_of_process (set_of turns files) process) }
+{
+    phrases_are_counted();
+    a_key_is_found_at_its_first_declaration();
+    what_is_meant_declares_the_name();
+}
+
+/// Each view of a set has a purpose: it gives cells that phrases of a unit name where they stand in a process which has or calls the unit (image document, The image of a
+/// set).
+pub fn each_view_of_a_set_has_a_purpose()
+    ensures { (s : Set) → Each (HasPurpose s) (views_of s) }
+{}
+
+/// So the views of a linked image have kinds in their ranges or shapes that are there, and dimensions with places (image document, When an image is right).
+pub fn views_of_an_image_are_formed()
+    ensures { (s : Set) (image : ImageParts) → image_of s (views_of s) ≡ Ok image → list_all (form_right image) image.views ≡ true }
+{}
