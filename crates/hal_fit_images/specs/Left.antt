@@ -8,7 +8,7 @@ use Rattle.hal_code.specs.declared.image.ImageParts.{ImageParts}
 use Rattle.hal_code.specs.declared.row.Block.{Block}
 use Rattle.hal_code.specs.declared.row.View.{View}
 use Rattle.hal_code.specs.Controlling as machine
-use Rattle.hal_code.specs.Right.{names_right, views_lie}
+use Rattle.hal_code.specs.Right.{views_lie}
 use Rattle.hal_agreement.specs.PlacedBlocks.{unit_site}
 use Rattle.hal_fit.specs.Stating.{StatementsFit}
 use Rattle.hal_link.specs.KnownBlocks.{numbers}
@@ -30,5 +30,3 @@ pub record AreLeft (s : Set) (views : List View) (image : ImageParts) : Type 0 w
       → UnitStatementsFit s views image o number row b
   -- views lie in memory
   pub lie : views_lie image 0 image.views ≡ true
-  -- the elements of the names of the report are there, and are few
-  pub names : names_right image ≡ true

@@ -16,7 +16,8 @@ ghost use Rattle.hal_fit_images.specs.Left.{AreLeft};
 use hal_fit_rows::{
     a_set_that_breaks_no_rule_of_calls_has_no_cycles, a_set_within_its_limits_is_small,
     parameters_of_units_are_stored, references_of_processes_are_to_shapes,
-    the_shapes_of_an_image_are_right, views_of_an_image_are_formed,
+    the_names_of_an_image_are_right, the_shapes_of_an_image_are_right,
+    views_of_an_image_are_formed,
 };
 use hal_link::each_block_of_a_linked_image_is_of_a_process_or_a_unit;
 use hal_meaning::a_set_is_a_load;
@@ -42,6 +43,7 @@ pub fn an_image_is_right_where_what_is_left_holds()
     a_set_within_its_limits_is_small();
     parameters_of_units_are_stored();
     references_of_processes_are_to_shapes();
+    the_names_of_an_image_are_right();
     the_shapes_of_an_image_are_right();
     views_of_an_image_are_formed();
     each_block_of_a_linked_image_is_of_a_process_or_a_unit();

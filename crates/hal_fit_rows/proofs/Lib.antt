@@ -23,3 +23,7 @@ pub mod Alone
 pub mod Referred
 pub mod Purposed
 pub mod Formed
+mod Lines
+mod Shown
+pub mod Reported
+pub mod Named

@@ -19,7 +19,7 @@ ghost use Rattle.hal_calls.specs.Rules.{call_rows};
 ghost use Rattle.hal_limits.specs.Limits.{IsWithin};
 ghost use Rattle.hal_code.specs.declared.image.ImageParts.{ImageParts};
 ghost use Rattle.hal_code.specs.declared.row.View.{View};
-ghost use Rattle.hal_code.specs.Right.{form_right, shapes_right};
+ghost use Rattle.hal_code.specs.Right.{form_right, names_right, shapes_right};
 ghost use Rattle.hal_verify.specs.Limits.{spread_kept};
 ghost use Rattle.hal_link.specs.CalledViews.{views_of};
 ghost use Rattle.hal_link.specs.Linking.{image_of};
@@ -84,3 +84,12 @@ pub fn each_view_of_a_set_has_a_purpose()
 pub fn views_of_an_image_are_formed()
     ensures { (s : Set) (image : ImageParts) → image_of s (views_of s) ≡ Ok image → list_all (form_right image) image.views ≡ true }
 {}
+
+/// The names of the report of a linked image of a set within its limits are right: the elements that they show are there, among the shared cells, the own places of the
+/// process that shows them, or the events, and they give no more lines than the set has cells and events (image document, When an image is right).
+pub fn the_names_of_an_image_are_right()
+    ensures { (turns : ℕ) (files : List File) (views : List View) (image : ImageParts) → image_of (set_of turns files) views ≡ Ok image
+        → IsWithin (phrases_of files) (known (phrases_of files)) → has_program (phrases_of files) ≡ true → names_right image ≡ true }
+{
+    phrases_are_counted();
+}

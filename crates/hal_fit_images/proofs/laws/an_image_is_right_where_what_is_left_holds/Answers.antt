@@ -43,5 +43,5 @@ returns c turns files image is accepted few_turns left =
       views = and_from (list_all (form_right image) image.views && nat_le (sum_by (spread_of image) image.views) spread_limit) (views_lie image 0 image.views)
           (and_from (list_all (form_right image) image.views) (nat_le (sum_by (spread_of image) image.views) spread_limit) (c.views_of_an_image_are_formed.ensures s image is)
           (and_parts (nat_le (sum_by (λ (runs : List (Run Kind)). row_count runs) image.shapes) spread_limit) (nat_le (sum_by (spread_of image) image.views) spread_limit) accepted.few).1) left.lie;
-      names = left.names;
+      names = c.the_names_of_an_image_are_right.ensures turns files views image is accepted.within accepted.program;
     }))
