@@ -24,7 +24,7 @@ kind_alike (kind.Text n) = same_number n
 
 -- one more number before memory
 -- what is found in memory is of this kind, and what comes behind it is so too
-abbrev found_so : Kind → Bool → Option (Option Kind) → Bool
+abbrev pub found_so : Kind → Bool → Option (Option Kind) → Bool
 found_so k later there = elim there [ None ↦ false | Some one ↦ elim one [ None ↦ false | Some found ↦ same_kind found k && later ] ]
 
 further : (x : Option Kind) (memory : List (Option Kind)) (n : ℕ) (ks : List Kind) → lies_from (x ∷ memory) (suc n) ks ≡ lies_from memory n ks

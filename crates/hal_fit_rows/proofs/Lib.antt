@@ -27,3 +27,4 @@ mod Lines
 mod Shown
 pub mod Reported
 pub mod Named
+pub mod Lying

@@ -40,6 +40,10 @@ use Rattle.hal_fit_layout.specs.Each.{Each}
 use Rattle.hal_fit_layout.proofs.Each.{each_append}
 use Rattle.hal_fit_rows.specs.Purposes.{CallsUnit, StandsIn, IsSite, IsCellFor, IsAreaFor, HasPurpose}
 
+no_copies : (o : Option ℕ) → is_some o ≡ false → o ≡ None
+no_copies None is = refl
+no_copies (Some n) is = absurd (cc)
+
 module _ (s : Set) where
   abbrev AllPurposed : List View → Type 0
   AllPurposed views = Each (HasPurpose s) views
@@ -66,18 +70,18 @@ module _ (s : Set) where
           (inr (record { site = site; is_site = at; rows = rows; shape = number; from = from; is = refl; purpose = purpose from number refl refl }), tt)
 
     -- names
-    element_added : (name : List ℕ) (path : List Naming) (k : ℕ) (way : Storing) (shape : Shape) (views : List View) (o : Option Element) → referent site name ≡ DataOf k way shape → element_in path shape.components ≡ o
+    element_added : (name : List ℕ) (path : List Naming) (k : ℕ) (way : Storing) (shape : Shape) (views : List View) (o : Option Element) → referent site name ≡ DataOf k way shape → shape.copies ≡ None → element_in path shape.components ≡ o
         → AllPurposed views → AllPurposed (with_element site k way views o)
-    element_added name path k way shape views None refers leads all = all
-    element_added name path k way shape views (Some one) refers leads all =
+    element_added name path k way shape views None refers single leads all = all
+    element_added name path k way shape views (Some one) refers single leads all =
         cell_added [] one.kind views (base_of site k one.before way)
-        (λ from begins. inl (inl (record { name = name; path = path; declared = k; way = way; shape = shape; refers = refers; one = one; leads = leads; plain = refl; kind = refl; begins = begins }))) all
+        (λ from begins. inl (inl (record { name = name; path = path; declared = k; way = way; shape = shape; refers = refers; one = one; single = single; leads = leads; plain = refl; kind = refl; begins = begins }))) all
 
     referent_added : (name : List ℕ) (path : List Naming) (views : List View) (r : Referent) → referent site name ≡ r → AllPurposed views → AllPurposed (with_referent site views path r)
-    referent_added name path views (DataOf k way shape) refers all = by (is_some shape.copies) where
-      by : (b : Bool) → AllPurposed (if b then views else with_element site k way views (element_in path shape.components))
-      by true = all
-      by false = element_added name path k way shape views (element_in path shape.components) refers refl all
+    referent_added name path views (DataOf k way shape) refers all = by (is_some shape.copies) refl where
+      by : (b : Bool) → is_some shape.copies ≡ b → AllPurposed (if b then views else with_element site k way views (element_in path shape.components))
+      by true is = all
+      by false is = element_added name path k way shape views (element_in path shape.components) refers (no_copies shape.copies is) refl all
     referent_added name path views (ConstantOf v) refers all = all
     referent_added name path views (EventOf e) refers all = all
     referent_added name path views (BlockOf unit) refers all = all

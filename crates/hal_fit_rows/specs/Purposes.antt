@@ -1,5 +1,5 @@
 -- What the views of a set are for: the cells that phrases of a unit name where they stand in a process.
-use Rattle.std.specs.Prelude.{◌≡◌, ◌⊎◌, ℕ, List, [], map, Some, slice_get}
+use Rattle.std.specs.Prelude.{◌≡◌, ◌⊎◌, ℕ, List, [], map, Some, None, slice_get}
 use Rattle.hal_grammar.specs.Leaves.{Naming}
 use Rattle.hal_grammar.specs.Expressions.{Subscript}
 use Rattle.hal_values.specs.declared.value.Kind.{Kind}
@@ -57,6 +57,7 @@ pub record ForElement (site : Site) (rows : List Dimension) (k : Kind) (from : B
   pub shape : Shape
   pub refers : referent site name ≡ DataOf declared way shape
   pub one : Element
+  pub single : shape.copies ≡ None
   pub leads : element_in path shape.components ≡ Some one
   pub plain : rows ≡ []
   pub kind : k ≡ one.kind

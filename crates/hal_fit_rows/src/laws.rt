@@ -1,16 +1,21 @@
 //! What holds of sets that break no rule, and of their images.
 
-ghost use Rattle.std.specs.Prelude.{◌≡◌, ◌≤◌, ℕ, true, List, Ok};
+ghost use Rattle.std.specs.Prelude.{◌≡◌, ◌≤◌, ℕ, ◌+◌, true, List, [], ◌∷◌, map, None, Some, slice_get, Ok};
 ghost use Rattle.std.specs.List.{list_all};
+ghost use Rattle.hal_grammar.specs.Leaves.{Naming};
+ghost use Rattle.hal_grammar.specs.Declarations.{Attribute, Declared};
 ghost use Rattle.hal_grammar.specs.Units.{File};
-ghost use Rattle.hal_phrases.specs.Phrases.{Phrase};
+ghost use Rattle.hal_phrases.specs.Phrases.{OfItem, Phrase};
 ghost use Rattle.hal_phrases.specs.GatheredUnits.{phrases_of};
 ghost use Rattle.hal_names.specs.Laws.{IsCounted};
 ghost use Rattle.hal_scope.specs.Rules.{IsSound, rows};
 ghost use Rattle.hal_constants.specs.Known.{known};
 ghost use Rattle.hal_values.specs.Loads.{turn_limit};
+ghost use Rattle.hal_meaning.specs.Bodies.{processes_reaching};
+ghost use Rattle.hal_meaning.specs.Elements.{copy_size, shape_of};
 ghost use Rattle.hal_meaning.specs.Expressions.{inputs_at, outputs_at};
-ghost use Rattle.hal_meaning.specs.Places.{ByReference, InPlaces};
+ghost use Rattle.hal_meaning.specs.Places.{ByReference, InPlaces, places_of, storing, unit_numbers};
+ghost use Rattle.hal_meaning.specs.ReportNames.{first_place};
 ghost use Rattle.hal_meaning.specs.Runs.{places_of_process};
 ghost use Rattle.hal_meaning.specs.SetLoad.{IsSmall};
 ghost use Rattle.hal_meaning.specs.Sets.{Set, set_of};
@@ -19,11 +24,15 @@ ghost use Rattle.hal_calls.specs.Rules.{call_rows};
 ghost use Rattle.hal_limits.specs.Limits.{IsWithin};
 ghost use Rattle.hal_code.specs.declared.image.ImageParts.{ImageParts};
 ghost use Rattle.hal_code.specs.declared.row.View.{View};
+ghost use Rattle.hal_code.specs.Memory.{lies_from, own_memory};
 ghost use Rattle.hal_code.specs.Right.{form_right, names_right, shapes_right};
 ghost use Rattle.hal_verify.specs.Limits.{spread_kept};
 ghost use Rattle.hal_link.specs.CalledViews.{views_of};
-ghost use Rattle.hal_link.specs.Linking.{image_of};
-ghost use Rattle.hal_link.specs.Shapes.{shapes_of};
+ghost use Rattle.hal_gen_expr.specs.declared.elements.Element.{Element};
+ghost use Rattle.hal_gen_expr.specs.Elements.{counted, element_in};
+ghost use Rattle.hal_reach.specs.Places.{is_among};
+ghost use Rattle.hal_link.specs.Linking.{image_of, own_row};
+ghost use Rattle.hal_link.specs.Shapes.{Shapes, shapes_of};
 ghost use Rattle.hal_fit_layout.specs.Each.{Each};
 ghost use Rattle.hal_fit_layout.specs.Owned.{AreStored};
 ghost use Rattle.hal_fit_layout.specs.Ranked.{AreReentrant, IsAcyclic};
@@ -93,3 +102,13 @@ pub fn the_names_of_an_image_are_right()
 {
     phrases_are_counted();
 }
+
+/// An element of an item to which names lead lies, with its kind, among the own places of a process that reaches the item's unit: so many places behind the first one of the
+/// item as elements lie before it (language document, Storage).
+pub fn elements_of_items_lie_in_own_places()
+    ensures { (s : Set) (shapes : Shapes) → IsCounted s.phrases → (process m : ℕ) (p : Phrase) (k : ℕ) → slice_get s.phrases k ≡ Some p → (common : List Attribute) (item : Declared)
+        → p.node ≡ OfItem common item → storing s.phrases s.constants p (OfItem common item) ≡ InPlaces → slice_get (unit_numbers s.phrases) m ≡ Some p.around.home
+        → is_among (processes_reaching s.phrases p.around.home) process ≡ true → (path : List Naming) (one : Element) → (shape_of s.phrases s.constants p common item).copies ≡ None
+        → copy_size (shape_of s.phrases s.constants p common item).components ≤ counted → element_in path (shape_of s.phrases s.constants p common item).components ≡ Some one
+        → lies_from (own_memory (map (own_row s shapes) (places_of s.phrases s.constants process))) (first_place (places_of s.phrases s.constants process) k + one.before) (one.kind ∷ []) ≡ true }
+{}

@@ -6,7 +6,8 @@ mod laws;
 
 pub use laws::{
     a_set_that_breaks_no_rule_of_calls_has_no_cycles, a_set_within_its_limits_is_small,
-    each_view_of_a_set_has_a_purpose, parameters_of_units_are_stored,
-    references_of_processes_are_to_shapes, the_names_of_an_image_are_right,
-    the_shapes_of_an_image_are_right, views_of_an_image_are_formed,
+    each_view_of_a_set_has_a_purpose, elements_of_items_lie_in_own_places,
+    parameters_of_units_are_stored, references_of_processes_are_to_shapes,
+    the_names_of_an_image_are_right, the_shapes_of_an_image_are_right,
+    views_of_an_image_are_formed,
 };
