@@ -28,3 +28,8 @@ mod Shown
 pub mod Reported
 pub mod Named
 pub mod Lying
+mod Homing
+mod HomingExpressions
+mod HomingDeclarations
+mod HomingStatements
+pub mod HomingFiles

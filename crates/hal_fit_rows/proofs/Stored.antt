@@ -44,7 +44,7 @@ unfolding type_among
 types_joined [] ys = refl
 types_joined (x ∷ xs) ys = ap (option_or (type_in x)) (types_joined xs ys) ∙ sym (or_or (type_in x) (type_among xs) (type_among ys))
 
-each_at : {X : Type 0} (P : X → Type 0) (xs : List X) (k : ℕ) (x : X) → Each P xs → slice_get xs k ≡ Some x → P x
+pub each_at : {X : Type 0} (P : X → Type 0) (xs : List X) (k : ℕ) (x : X) → Each P xs → slice_get xs k ≡ Some x → P x
 each_at P [] k x each is = absurd (cc)
 each_at P (y ∷ xs) zero x each is = subst P (let same : y ≡ x = cc in same) each.0
 each_at P (y ∷ xs) (suc k) x each is = each_at P xs k x each.1 is

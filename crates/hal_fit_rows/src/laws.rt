@@ -37,6 +37,7 @@ ghost use Rattle.hal_fit_layout.specs.Each.{Each};
 ghost use Rattle.hal_fit_layout.specs.Owned.{AreStored};
 ghost use Rattle.hal_fit_layout.specs.Ranked.{AreReentrant, IsAcyclic};
 ghost use Rattle.hal_fit_layout.specs.Rows.{IsNumbered};
+ghost use Rattle.hal_fit_rows.specs.Homes.{StandsHome};
 ghost use Rattle.hal_fit_rows.specs.Parts.{HaveParts};
 ghost use Rattle.hal_fit_rows.specs.Purposes.{HasPurpose};
 
@@ -111,4 +112,9 @@ pub fn elements_of_items_lie_in_own_places()
         → is_among (processes_reaching s.phrases p.around.home) process ≡ true → (path : List Naming) (one : Element) → (shape_of s.phrases s.constants p common item).copies ≡ None
         → copy_size (shape_of s.phrases s.constants p common item).components ≤ counted → element_in path (shape_of s.phrases s.constants p common item).components ≡ Some one
         → lies_from (own_memory (map (own_row s shapes) (places_of s.phrases s.constants process))) (first_place (places_of s.phrases s.constants process) k + one.before) (one.kind ∷ []) ≡ true }
+{}
+
+/// The block around each phrase of a set is its unit, or a group with a TEMPORARY variable in it that stands in such a block (language document, Blocks).
+pub fn phrases_stand_in_blocks_of_their_units()
+    ensures { (files : List File) → Each (StandsHome (phrases_of files)) (phrases_of files) }
 {}
