@@ -33,3 +33,4 @@ mod HomingExpressions
 mod HomingDeclarations
 mod HomingStatements
 pub mod HomingFiles
+pub mod Visible

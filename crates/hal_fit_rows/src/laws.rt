@@ -1,6 +1,6 @@
 //! What holds of sets that break no rule, and of their images.
 
-ghost use Rattle.std.specs.Prelude.{◌≡◌, ◌≤◌, ℕ, ◌+◌, true, List, [], ◌∷◌, map, None, Some, slice_get, Ok};
+ghost use Rattle.std.specs.Prelude.{◌≡◌, ◌≤◌, ◌⊎◌, ℕ, ◌+◌, true, List, [], ◌∷◌, map, None, Some, slice_get, Ok};
 ghost use Rattle.std.specs.List.{list_all};
 ghost use Rattle.hal_grammar.specs.Leaves.{Naming};
 ghost use Rattle.hal_grammar.specs.Declarations.{Attribute, Declared};
@@ -11,7 +11,7 @@ ghost use Rattle.hal_names.specs.Laws.{IsCounted};
 ghost use Rattle.hal_scope.specs.Rules.{IsSound, rows};
 ghost use Rattle.hal_constants.specs.Known.{known};
 ghost use Rattle.hal_values.specs.Loads.{turn_limit};
-ghost use Rattle.hal_meaning.specs.Bodies.{processes_reaching};
+ghost use Rattle.hal_meaning.specs.Bodies.{processes_reaching, reaches_within};
 ghost use Rattle.hal_meaning.specs.Elements.{copy_size, shape_of};
 ghost use Rattle.hal_meaning.specs.Expressions.{inputs_at, outputs_at};
 ghost use Rattle.hal_meaning.specs.Places.{ByReference, InPlaces, places_of, storing, unit_numbers};
@@ -37,7 +37,7 @@ ghost use Rattle.hal_fit_layout.specs.Each.{Each};
 ghost use Rattle.hal_fit_layout.specs.Owned.{AreStored};
 ghost use Rattle.hal_fit_layout.specs.Ranked.{AreReentrant, IsAcyclic};
 ghost use Rattle.hal_fit_layout.specs.Rows.{IsNumbered};
-ghost use Rattle.hal_fit_rows.specs.Homes.{StandsHome};
+ghost use Rattle.hal_fit_rows.specs.Homes.{Encloses, IsOpenUnit, ItemsStandForData, StandsHome};
 ghost use Rattle.hal_fit_rows.specs.Parts.{HaveParts};
 ghost use Rattle.hal_fit_rows.specs.Purposes.{HasPurpose};
 
@@ -118,3 +118,15 @@ pub fn elements_of_items_lie_in_own_places()
 pub fn phrases_stand_in_blocks_of_their_units()
     ensures { (files : List File) → Each (StandsHome (phrases_of files)) (phrases_of files) }
 {}
+
+/// A unit that reaches another one by so many calls reaches what stands around that one too, where this is a unit and no COMPOOL, or stands in it itself: the name of a unit
+/// is known inside of what stands around it alone, where no item of a template stands for a block (language document, Names).
+pub fn units_reach_what_stands_around_those_that_they_reach()
+    ensures { (files : List File) → ItemsStandForData (phrases_of files) → (calls from to unit : ℕ) → IsOpenUnit (phrases_of files) unit
+        → reaches_within calls (phrases_of files) from to ≡ true → Encloses (phrases_of files) unit to
+        → (reaches_within calls (phrases_of files) from unit ≡ true) ⊎ Encloses (phrases_of files) unit from }
+{
+    phrases_are_counted();
+    a_key_is_found_at_its_first_declaration();
+    what_is_meant_declares_the_name();
+}
