@@ -15,8 +15,8 @@ use Rattle.hal_code.specs.Blocks.{block_places}
 use Rattle.hal_code.specs.Images.{row_count}
 use Rattle.hal_code.specs.Memory.{spread_limit, spread_of}
 use Rattle.hal_code.specs.Right.{rows_right}
-use Rattle.hal_meaning.specs.Bodies.{Body, processes_of}
-use Rattle.hal_meaning.specs.Calls.{is_function, zero_of}
+use Rattle.hal_meaning.specs.Bodies.{processes_of}
+use Rattle.hal_meaning.specs.Calls.{is_function}
 use Rattle.hal_meaning.specs.Expressions.{inputs_at, outputs_at}
 use Rattle.hal_meaning.specs.Places.{ByReference, InPlaces, cell_count, places_of}
 use Rattle.hal_meaning.specs.Runs.{places_of_process}
@@ -28,8 +28,7 @@ use Rattle.hal_fit.specs.Stating.{StatementsFit}
 use Rattle.hal_fit_expr.specs.Serving.{HavePlaces}
 use Rattle.hal_fit.specs.Supporting.{ReferTo, at_inside}
 use Rattle.hal_link.specs.KnownBlocks.{HasOwnBlock, IsKnown, KnownProcess, KnownUnit, numbers}
-use Rattle.hal_link.specs.Linking.{Linked, own_row, image_with, image_of}
-use Rattle.hal_link.specs.LinkedBlocks.{IsOfProcess, IsOfUnit}
+use Rattle.hal_link.specs.Linking.{own_row, image_of}
 use Rattle.hal_link.specs.Outlines.{Outline, outlines_of}
 use Rattle.hal_link.specs.Shapes.{Shapes, shapes_of}
 use Rattle.hal_fit_layout.specs.Each.{Each}
@@ -45,7 +44,7 @@ use Rattle.hal_fit_layout.proofs.Rows.{rows_by}
 use Rattle.hal_fit_rows.proofs.Alone.{AreKept, shapes_kept}
 use Rattle.hal_fit_rows.proofs.Made.{image_is}
 use Rattle.hal_fit_rows.proofs.Referred.{HasShape, have_outputs, refer_all}
-use Rattle.hal_fit_images.specs.Blocks.{AllFit, BlockFits, IsFit, ParametersFit, ProcessFits, UnitFits, ground_of, may_use, uses_of}
+use Rattle.hal_fit_images.specs.Blocks.{AllFit, IsFit, ParametersFit, ProcessFits, UnitFits, ground_of, may_use, uses_of}
 use Rattle.hal_fit_images.specs.Left.{AreLeft}
 use Rattle.hal_fit_images.proofs.Supporting.{gives}
 

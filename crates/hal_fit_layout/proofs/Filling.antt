@@ -17,11 +17,10 @@ use Rattle.hal_values.specs.declared.tables.Cell.{Cell}
 use Rattle.hal_values.specs.declared.value.Kind.{Kind}
 use Rattle.hal_values.specs.declared.value.Kind.TheVariants as kind
 use Rattle.hal_values.specs.declared.value.Value.{Value}
-use Rattle.hal_code.specs.declared.image.ImageParts.{ImageParts}
 use Rattle.hal_code.specs.declared.row.Run.{Run}
 use Rattle.hal_code.specs.declared.row.OwnPlace.{OwnPlace}
 use Rattle.hal_code.specs.declared.row.OwnPlace.TheVariants as place
-use Rattle.hal_code.specs.Right.{cell_right, place_right}
+use Rattle.hal_code.specs.Right.{cell_right}
 use Rattle.hal_code.specs.Sorts.{is_initial}
 use Rattle.hal_meaning.specs.Elements.{kinds_of, shape_of}
 use Rattle.hal_meaning.specs.InitialValues.{first_values}

@@ -21,7 +21,6 @@ use Rattle.hal_kinds.specs.Data.{is_event_type}
 use Rattle.hal_constants.specs.Known.{Known}
 use Rattle.hal_constants.specs.Naming.{is_value_item}
 use Rattle.hal_values.specs.declared.value.Kind.{Kind}
-use Rattle.hal_values.specs.declared.value.Kind.TheVariants as kind
 use Rattle.hal_code.specs.declared.image.ImageParts.{ImageParts}
 use Rattle.hal_code.specs.declared.row.Base.{Base}
 use Rattle.hal_code.specs.declared.row.Dimension.{Dimension}

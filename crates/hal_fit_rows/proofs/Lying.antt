@@ -10,7 +10,6 @@ use Rattle.hal_phrases.specs.Phrases.{Node, Phrase, OfItem}
 use Rattle.hal_names.specs.Laws.{IsCounted}
 use Rattle.hal_kinds.specs.Attributes.{has_mark}
 use Rattle.hal_values.specs.declared.value.Kind.{Kind}
-use Rattle.hal_values.specs.declared.value.Kind.TheVariants as kind
 use Rattle.hal_values.specs.declared.value.Value.{Value}
 use Rattle.hal_code.specs.Memory.{lies_from, own_memory}
 use Rattle.hal_code.specs.Sorts.{same_kind}

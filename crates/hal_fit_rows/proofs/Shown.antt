@@ -6,7 +6,6 @@ use Rattle.std.proofs.lemmas.Bool.{and_from}
 use Rattle.std.proofs.lemmas.Nat.{mul-le}
 use Rattle.std.proofs.Math.Nat.{suc-mul}
 use Rattle.hal_values.specs.declared.tables.ReportBase.{ReportBase}
-use Rattle.hal_values.specs.declared.tables.ReportBase.TheVariants as base
 use Rattle.hal_values.specs.declared.tables.ReportName.{ReportName}
 use Rattle.hal_values.specs.ReportElements.{size_of}
 use Rattle.hal_code.specs.declared.image.ImageParts.{ImageParts}
