@@ -1,5 +1,5 @@
 -- The elements to which names lead lie among the own places of a process that reaches the unit of their data.
-use Rattle.std.specs.Prelude.{◌≡◌, ◌<◌, ◌≤◌, ℕ, zero, suc, ◌+◌, min, Bool, true, false, List, [], ◌∷◌, ◌++◌, cond, flat_map, length, map, replicate, Option, Some, None, slice_get, if◌then◌else◌}
+use Rattle.std.specs.Prelude.{◌≡◌, ◌<◌, ◌≤◌, ℕ, zero, suc, ◌+◌, min, Bool, true, false, List, [], ◌∷◌, ◌++◌, cond, flat_map, length, map, replicate, Option, Some, None, slice_get, unwrap_or, if◌then◌else◌}
 use Rattle.std.proofs.Common.{refl, sym, ap, subst, ◌∙◌, arith, append_assoc, append-nil}
 use Rattle.std.proofs.lemmas.Bool.{and_from, and_parts}
 use Rattle.std.proofs.lemmas.List.{length-map, length-replicate, map-append}
@@ -8,13 +8,15 @@ use Rattle.hal_grammar.specs.Leaves.{Naming}
 use Rattle.hal_grammar.specs.Declarations.{Automatic, Attribute, Declared}
 use Rattle.hal_phrases.specs.Phrases.{Node, Phrase, OfItem}
 use Rattle.hal_names.specs.Laws.{IsCounted}
+use Rattle.hal_scope.specs.Sorts.{type_among}
 use Rattle.hal_kinds.specs.Attributes.{has_mark}
 use Rattle.hal_values.specs.declared.value.Kind.{Kind}
 use Rattle.hal_values.specs.declared.value.Value.{Value}
 use Rattle.hal_code.specs.Memory.{lies_from, own_memory}
 use Rattle.hal_code.specs.Sorts.{same_kind}
 use Rattle.hal_meaning.specs.Bodies.{processes_reaching}
-use Rattle.hal_meaning.specs.Elements.{Component, Shape, product, count, copy_size, kinds_of_component, kinds_of, shape_of, leads, before, chosen, offset}
+use Rattle.hal_meaning.specs.Calls.{Parameter, parameter_named}
+use Rattle.hal_meaning.specs.Elements.{Component, times, Shape, product, count, copy_size, kinds_of_component, kinds_of, shape_of, leads, before, chosen, offset}
 use Rattle.hal_meaning.specs.InitialValues.{first_values}
 use Rattle.hal_meaning.specs.Places.{Place, Storing, InPlaces, storing, places_from, places_of_item, places_at, places_of, unit_numbers}
 use Rattle.hal_meaning.specs.ReportNames.{first_place}
@@ -27,11 +29,13 @@ use Rattle.hal_reach.specs.Places.{is_among}
 use Rattle.hal_link.specs.Linking.{own_row}
 use Rattle.hal_link.specs.Shapes.{Shapes}
 use Rattle.hal_fit_layout.specs.Each.{Each}
-use Rattle.hal_fit_layout.specs.Owned.{IsOthers, LiesIn}
+use Rattle.hal_fit_layout.specs.Owned.{IsOthers, LiesIn, has_one, IsStored}
 use Rattle.hal_fit_layout.proofs.Laid.{memory_of_rows}
 use Rattle.hal_fit_layout.proofs.Memory.{found_so, known, lies_behind, first_behind}
 use Rattle.hal_fit_layout.proofs.Owned.{lies_in_process}
-use Rattle.hal_fit_layout.proofs.Parameters.{first_long, kinds_in}
+use Rattle.hal_fit_layout.proofs.Parameters.{first_long, kinds_in, parameter_is}
+use Rattle.hal_fit_rows.proofs.Filled.{product_some}
+use Rattle.hal_fit_rows.proofs.Formed.{HasSizes, type_sizes}
 
 -- what stands behind a list
 get_behind : {X : Type 0} (xs ys : List X) (m : ℕ) → slice_get (xs ++ ys) (length xs + m) ≡ slice_get ys m
@@ -166,28 +170,68 @@ item_opens number automatic (k ∷ ks) (v ∷ vs) long some =
       kinds_all (l ∷ ls) [] same = absurd (omega (arith, same))
       kinds_all (l ∷ ls) (w ∷ ws) same = ap (λ rest. Some l ∷ rest) (kinds_all ls ws (omega (arith, same)))
 
--- an element of an item in own places lies there
-pub item_element : (s : Set) (shapes : Shapes) (counted_so : IsCounted s.phrases) (process m : ℕ) (p : Phrase) (k : ℕ) → slice_get s.phrases k ≡ Some p → (common : List Attribute) (item : Declared) → p.node ≡ OfItem common item
+-- the kinds of an item in own places lie there
+item_lies : (s : Set) (shapes : Shapes) → IsCounted s.phrases → (process m : ℕ) (p : Phrase) (k : ℕ) → slice_get s.phrases k ≡ Some p → (common : List Attribute) (item : Declared) → p.node ≡ OfItem common item
     → storing s.phrases s.constants p (OfItem common item) ≡ InPlaces → slice_get (unit_numbers s.phrases) m ≡ Some p.around.home → is_among (processes_reaching s.phrases p.around.home) process ≡ true
-    → (path : List Naming) (one : Element) → (shape_of s.phrases s.constants p common item).copies ≡ None → copy_size (shape_of s.phrases s.constants p common item).components ≤ counted
-    → element_in path (shape_of s.phrases s.constants p common item).components ≡ Some one
-    → lies_from (own_memory (map (own_row s shapes) (places_of s.phrases s.constants process))) (first_place (places_of s.phrases s.constants process) k + one.before) (one.kind ∷ []) ≡ true
-item_element s shapes counted_so process m p k there common item node stored named reaches path one single few leads_so =
+    → 0 < length (kinds_of (shape_of s.phrases s.constants p common item))
+    → lies_from (own_memory (map (own_row s shapes) (places_of s.phrases s.constants process))) (first_place (places_of s.phrases s.constants process) k) (kinds_of (shape_of s.phrases s.constants p common item)) ≡ true
+item_lies s shapes counted_so process m p k there common item node stored named reaches some =
     let attributes = item.attributes ++ common in
-    let shape = shape_of s.phrases s.constants p common item in
-    let ks = kinds_of shape in
+    let ks = kinds_of (shape_of s.phrases s.constants p common item) in
     let values = first_values s.phrases s.constants p attributes ks in
-    let found = element_there path shape one single few leads_so in
     let lies = lies_in_process s.phrases s.constants counted_so p.around.home k p there refl process m named reaches in
     let number = counted_so k p there in
     let own : LiesIn (places_of s.phrases s.constants process) k (places_from k (has_mark Automatic attributes) ks values) =
     subst (λ n. LiesIn (places_of s.phrases s.constants process) k (places_from n (has_mark Automatic attributes) ks values)) number
     (subst (λ (way : Storing). LiesIn (places_of s.phrases s.constants process) k (places_of_item s.phrases s.constants p common item way)) stored
     (subst (λ (n : Node). LiesIn (places_of s.phrases s.constants process) k (places_at s.phrases s.constants p n)) node lies)) in
-    lies_one (own_memory (map (own_row s shapes) (places_of s.phrases s.constants process))) (first_place (places_of s.phrases s.constants process) k) ks one.before one.kind
-    (own_lies s shapes (places_of s.phrases s.constants process) k (places_from k (has_mark Automatic attributes) ks values) ks own
-    (item_opens k (has_mark Automatic attributes) ks values (first_long s.phrases s.constants p attributes ks) (some_kind ks one.before one.kind found))) found
-  where
-    some_kind : (ks : List Kind) (i : ℕ) (k : Kind) → slice_get ks i ≡ Some k → 0 < length ks
-    some_kind [] i k is = absurd (cc)
-    some_kind (x ∷ ks) i k is = omega arith
+    own_lies s shapes (places_of s.phrases s.constants process) k (places_from k (has_mark Automatic attributes) ks values) ks own
+    (item_opens k (has_mark Automatic attributes) ks values (first_long s.phrases s.constants p attributes ks) some)
+
+some_kind : (ks : List Kind) (i : ℕ) (k : Kind) → slice_get ks i ≡ Some k → 0 < length ks
+some_kind [] i k is = absurd (cc)
+some_kind (x ∷ ks) i k is = omega arith
+
+-- so does an element to which a name leads
+pub item_element : (s : Set) (shapes : Shapes) (counted_so : IsCounted s.phrases) (process m : ℕ) (p : Phrase) (k : ℕ) → slice_get s.phrases k ≡ Some p → (common : List Attribute) (item : Declared) → p.node ≡ OfItem common item
+    → storing s.phrases s.constants p (OfItem common item) ≡ InPlaces → slice_get (unit_numbers s.phrases) m ≡ Some p.around.home → is_among (processes_reaching s.phrases p.around.home) process ≡ true
+    → (path : List Naming) (one : Element) → (shape_of s.phrases s.constants p common item).copies ≡ None → copy_size (shape_of s.phrases s.constants p common item).components ≤ counted
+    → element_in path (shape_of s.phrases s.constants p common item).components ≡ Some one
+    → lies_from (own_memory (map (own_row s shapes) (places_of s.phrases s.constants process))) (first_place (places_of s.phrases s.constants process) k + one.before) (one.kind ∷ []) ≡ true
+item_element s shapes counted_so process m p k there common item node stored named reaches path one single few leads_so =
+    let shape = shape_of s.phrases s.constants p common item in
+    let found = element_there path shape one single few leads_so in
+    lies_one (own_memory (map (own_row s shapes) (places_of s.phrases s.constants process))) (first_place (places_of s.phrases s.constants process) k) (kinds_of shape) one.before one.kind
+    (item_lies s shapes counted_so process m p k there common item node stored named reaches (some_kind (kinds_of shape) one.before one.kind found)) found
+
+-- and the first element of an input parameter
+first_kind_there : (copies : ℕ) (cs : List Component) → Each HasSizes cs → has_one (times copies (flat_map kinds_of_component cs)) ≡ true → slice_get (times copies (flat_map kinds_of_component cs)) 0 ≡ Some (kind_of_first cs)
+first_kind_there zero cs sizes one = absurd (cc)
+first_kind_there (suc n) [] sizes one = let none = none_there (suc n) in absurd (cc) where
+  none_there : (m : ℕ) → has_one (times m []) ≡ false
+  none_there zero = refl
+  none_there (suc m) = none_there m
+first_kind_there (suc n) (c ∷ cs) sizes one = by (count c) (product_some c.sizes sizes.0) where
+  by : (m : ℕ) → 0 < m → slice_get ((replicate m c.kind ++ flat_map kinds_of_component cs) ++ times n (flat_map kinds_of_component (c ∷ cs))) 0 ≡ Some c.kind
+  by zero some = absurd (omega (arith, some))
+  by (suc m) some = refl
+
+pub parameter_lies : (s : Set) (shapes : Shapes) → IsCounted s.phrases → (process m unit : ℕ) (name : Naming) (one : IsStored s unit name InPlaces) → slice_get (unit_numbers s.phrases) m ≡ Some unit
+    → is_among (processes_reaching s.phrases unit) process ≡ true
+    → lies_from (own_memory (map (own_row s shapes) (places_of s.phrases s.constants process))) (first_place (places_of s.phrases s.constants process) (parameter_named s unit name).number)
+    (kind_of_first (parameter_named s unit name).shape.components ∷ []) ≡ true
+parameter_lies s shapes counted_so process m unit name one named reaches =
+    let ps = s.phrases in
+    let vs = s.constants in
+    let attributes = one.item.attributes ++ one.common in
+    let form = shape_of ps vs one.phrase one.common one.item in
+    let memory = own_memory (map (own_row s shapes) (places_of ps vs process)) in
+    let first = first_place (places_of ps vs process) one.number in
+    let at = first_kind_there (unwrap_or form.copies 1) form.components (type_sizes ps vs one.phrase attributes (type_among attributes)) one.some in
+    let lies = item_lies s shapes counted_so process m one.phrase one.number one.there one.common one.item one.node one.stored_so (named ∙ ap Some (sym one.home))
+    (subst (λ u. is_among (processes_reaching ps u) process ≡ true) (sym one.home) reaches) (some_kind (kinds_of form) 0 (kind_of_first form.components) at) in
+    let kind_lies = lies_one memory first (kinds_of form) 0 (kind_of_first form.components) lies at in
+    let same : first + 0 ≡ first = omega arith in
+    let number = counted_so one.number one.phrase one.there in
+    ap (λ (p : Parameter). lies_from memory (first_place (places_of ps vs process) p.number) (kind_of_first p.shape.components ∷ [])) (parameter_is s unit name InPlaces one)
+    ∙ (ap (λ n. lies_from memory (first_place (places_of ps vs process) n) (kind_of_first form.components ∷ [])) number ∙ (ap (λ n. lies_from memory n (kind_of_first form.components ∷ [])) (sym same) ∙ kind_lies))

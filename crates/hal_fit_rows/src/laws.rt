@@ -12,6 +12,7 @@ ghost use Rattle.hal_scope.specs.Rules.{IsSound, rows};
 ghost use Rattle.hal_constants.specs.Known.{known};
 ghost use Rattle.hal_values.specs.Loads.{turn_limit};
 ghost use Rattle.hal_meaning.specs.Bodies.{processes_reaching, reaches_within};
+ghost use Rattle.hal_meaning.specs.Calls.{parameter_named};
 ghost use Rattle.hal_meaning.specs.Elements.{copy_size, shape_of};
 ghost use Rattle.hal_meaning.specs.Expressions.{inputs_at, outputs_at};
 ghost use Rattle.hal_meaning.specs.Places.{ByReference, InPlaces, places_of, storing, unit_numbers};
@@ -19,6 +20,7 @@ ghost use Rattle.hal_meaning.specs.ReportNames.{first_place};
 ghost use Rattle.hal_meaning.specs.Runs.{places_of_process};
 ghost use Rattle.hal_meaning.specs.SetLoad.{IsSmall};
 ghost use Rattle.hal_meaning.specs.Sets.{Set, set_of};
+ghost use Rattle.hal_meaning.specs.Variables.{kind_of_first};
 ghost use Rattle.hal_calls.specs.Programs.{has_program};
 ghost use Rattle.hal_calls.specs.Rules.{call_rows};
 ghost use Rattle.hal_limits.specs.Limits.{IsWithin};
@@ -34,7 +36,7 @@ ghost use Rattle.hal_reach.specs.Places.{is_among};
 ghost use Rattle.hal_link.specs.Linking.{image_of, own_row};
 ghost use Rattle.hal_link.specs.Shapes.{Shapes, shapes_of};
 ghost use Rattle.hal_fit_layout.specs.Each.{Each};
-ghost use Rattle.hal_fit_layout.specs.Owned.{AreStored};
+ghost use Rattle.hal_fit_layout.specs.Owned.{AreStored, IsStored};
 ghost use Rattle.hal_fit_layout.specs.Ranked.{AreReentrant, IsAcyclic};
 ghost use Rattle.hal_fit_layout.specs.Rows.{IsNumbered};
 ghost use Rattle.hal_fit_rows.specs.Homes.{Encloses, IsOpenUnit, ItemsStandForData, StandsHome};
@@ -112,6 +114,13 @@ pub fn elements_of_items_lie_in_own_places()
         → is_among (processes_reaching s.phrases p.around.home) process ≡ true → (path : List Naming) (one : Element) → (shape_of s.phrases s.constants p common item).copies ≡ None
         → copy_size (shape_of s.phrases s.constants p common item).components ≤ counted → element_in path (shape_of s.phrases s.constants p common item).components ≡ Some one
         → lies_from (own_memory (map (own_row s shapes) (places_of s.phrases s.constants process))) (first_place (places_of s.phrases s.constants process) k + one.before) (one.kind ∷ []) ≡ true }
+{}
+
+/// So does the first element of an input parameter of a unit that the process reaches, in which a call stores its argument (language document, Calls).
+pub fn input_parameters_lie_in_own_places()
+    ensures { (s : Set) (shapes : Shapes) → IsCounted s.phrases → (process m unit : ℕ) (name : Naming) → IsStored s unit name InPlaces → slice_get (unit_numbers s.phrases) m ≡ Some unit
+        → is_among (processes_reaching s.phrases unit) process ≡ true
+        → lies_from (own_memory (map (own_row s shapes) (places_of s.phrases s.constants process))) (first_place (places_of s.phrases s.constants process) (parameter_named s unit name).number) (kind_of_first (parameter_named s unit name).shape.components ∷ []) ≡ true }
 {}
 
 /// The block around each phrase of a set is its unit, or a group with a TEMPORARY variable in it that stands in such a block (language document, Blocks).
