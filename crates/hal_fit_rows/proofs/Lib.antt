@@ -34,3 +34,4 @@ mod HomingDeclarations
 mod HomingStatements
 pub mod HomingFiles
 pub mod Visible
+pub mod Sharing

@@ -122,7 +122,7 @@ later_found k later None is = absurd (cc)
 later_found k later (Some None) is = absurd (cc)
 later_found k later (Some (Some found)) is = (and_parts (same_kind found k) later is).1
 
-lies_one : (memory : List (Option Kind)) (at : ℕ) (ks : List Kind) (i : ℕ) (k : Kind) → lies_from memory at ks ≡ true → slice_get ks i ≡ Some k → lies_from memory (at + i) (k ∷ []) ≡ true
+pub lies_one : (memory : List (Option Kind)) (at : ℕ) (ks : List Kind) (i : ℕ) (k : Kind) → lies_from memory at ks ≡ true → slice_get ks i ≡ Some k → lies_from memory (at + i) (k ∷ []) ≡ true
 lies_one memory at [] i k lies is = absurd (cc)
 lies_one memory at (x ∷ ks) zero k lies is =
     let same : x ≡ k = cc in

@@ -15,18 +15,19 @@ ghost use Rattle.hal_meaning.specs.Bodies.{processes_reaching, reaches_within};
 ghost use Rattle.hal_meaning.specs.Calls.{parameter_named};
 ghost use Rattle.hal_meaning.specs.Elements.{copy_size, shape_of};
 ghost use Rattle.hal_meaning.specs.Expressions.{inputs_at, outputs_at};
-ghost use Rattle.hal_meaning.specs.Places.{ByReference, InPlaces, places_of, storing, unit_numbers};
-ghost use Rattle.hal_meaning.specs.ReportNames.{first_place};
+ghost use Rattle.hal_meaning.specs.Places.{ByReference, InCells, InPlaces, places_of, storing, unit_numbers};
+ghost use Rattle.hal_meaning.specs.ReportNames.{first_cell, first_place};
 ghost use Rattle.hal_meaning.specs.Runs.{places_of_process};
 ghost use Rattle.hal_meaning.specs.SetLoad.{IsSmall};
-ghost use Rattle.hal_meaning.specs.Sets.{Set, set_of};
+ghost use Rattle.hal_meaning.specs.Sets.{Set, cells_of, set_of};
 ghost use Rattle.hal_meaning.specs.Variables.{kind_of_first};
 ghost use Rattle.hal_calls.specs.Programs.{has_program};
 ghost use Rattle.hal_calls.specs.Rules.{call_rows};
 ghost use Rattle.hal_limits.specs.Limits.{IsWithin};
 ghost use Rattle.hal_code.specs.declared.image.ImageParts.{ImageParts};
 ghost use Rattle.hal_code.specs.declared.row.View.{View};
-ghost use Rattle.hal_code.specs.Memory.{lies_from, own_memory};
+ghost use Rattle.hal_code.specs.Images.{expanded};
+ghost use Rattle.hal_code.specs.Memory.{lies_from, own_memory, shared_memory};
 ghost use Rattle.hal_code.specs.Right.{form_right, names_right, shapes_right};
 ghost use Rattle.hal_verify.specs.Limits.{spread_kept};
 ghost use Rattle.hal_link.specs.CalledViews.{views_of};
@@ -121,6 +122,15 @@ pub fn input_parameters_lie_in_own_places()
     ensures { (s : Set) (shapes : Shapes) → IsCounted s.phrases → (process m unit : ℕ) (name : Naming) → IsStored s unit name InPlaces → slice_get (unit_numbers s.phrases) m ≡ Some unit
         → is_among (processes_reaching s.phrases unit) process ≡ true
         → lies_from (own_memory (map (own_row s shapes) (places_of s.phrases s.constants process))) (first_place (places_of s.phrases s.constants process) (parameter_named s unit name).number) (kind_of_first (parameter_named s unit name).shape.components ∷ []) ≡ true }
+{}
+
+/// An element of an item in shared cells lies there: so many cells behind the first one of the item as elements lie before it (language document, Storage).
+pub fn elements_of_items_lie_in_shared_cells()
+    ensures { (s : Set) (image : ImageParts) → expanded image.cells ≡ cells_of s.phrases s.constants → (p : Phrase) (k : ℕ) → slice_get s.phrases k ≡ Some p → (common : List Attribute) (item : Declared)
+        → p.node ≡ OfItem common item → (group : ℕ) → storing s.phrases s.constants p (OfItem common item) ≡ InCells group → (path : List Naming) (one : Element)
+        → (shape_of s.phrases s.constants p common item).copies ≡ None → copy_size (shape_of s.phrases s.constants p common item).components ≤ counted
+        → element_in path (shape_of s.phrases s.constants p common item).components ≡ Some one
+        → lies_from (shared_memory image) (first_cell s.phrases s.constants k + one.before) (one.kind ∷ []) ≡ true }
 {}
 
 /// The block around each phrase of a set is its unit, or a group with a TEMPORARY variable in it that stands in such a block (language document, Blocks).
