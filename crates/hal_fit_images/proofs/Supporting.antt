@@ -1,5 +1,5 @@
 -- An image of a set has what the statements of its blocks use.
-use Rattle.std.specs.Prelude.{◌≡◌, ◌<◌, ◌≤◌, ◌⊎◌, ℕ, zero, suc, ◌==◌, nat_lt, Bool, true, false, not, ◌&&◌, ◌||◌, List, [], ◌∷◌, Option, Some, None, length, slice_get, unwrap_or, if◌then◌else◌}
+use Rattle.std.specs.Prelude.{◌≡◌, ◌<◌, ◌≤◌, ◌⊎◌, ℕ, zero, suc, ◌==◌, nat_lt, Bool, true, false, not, ◌||◌, List, [], ◌∷◌, Option, Some, None, length, slice_get, unwrap_or, if◌then◌else◌}
 use Rattle.std.specs.List.{list_all}
 use Rattle.std.proofs.Common.{refl, sym, subst, inl, inr, arith}
 use Rattle.std.proofs.lemmas.Bool.{and_from, and_parts, ne_eqb}
@@ -16,7 +16,7 @@ use Rattle.hal_code.specs.declared.row.Block.{Block}
 use Rattle.hal_code.specs.Blocks.{is_common, outward}
 use Rattle.hal_code.specs.Controlling as machine
 use Rattle.hal_code.specs.Images as images
-use Rattle.hal_code.specs.Operands.{holds_of, is_known, may_call}
+use Rattle.hal_code.specs.Operands.{holds_of, is_known}
 use Rattle.hal_code.specs.Right.{block_right, blocks_right, follow, stands_right}
 use Rattle.hal_agreement.specs.Codes.{Code}
 use Rattle.hal_agreement.specs.PlacedBlocks.{EndAt}

@@ -1,24 +1,18 @@
--- What is left to be known of a set that keeps the limits and of its image, so that the image is right.
-use Rattle.std.specs.Prelude.{◌≡◌, ◌≤◌, ℕ, ◌+◌, true, false, List, Some, slice_get}
-use Rattle.hal_base.specs.declared.limits.TheConstants.{CELL_LIMIT}
+-- What is left to be known of a set that is accepted and of its image, so that the image is right.
+use Rattle.std.specs.Prelude.{◌≡◌, ℕ, ◌+◌, true, false, List, Some, slice_get}
 use Rattle.hal_meaning.specs.Bodies.{Body}
 use Rattle.hal_meaning.specs.Calls.{is_function, zero_of}
-use Rattle.hal_meaning.specs.Expressions.{inputs_at, outputs_at}
-use Rattle.hal_meaning.specs.Places.{InPlaces, cell_count}
 use Rattle.hal_meaning.specs.Runs.{places_of_process}
 use Rattle.hal_meaning.specs.Sets.{Set, body_at}
 use Rattle.hal_code.specs.declared.image.ImageParts.{ImageParts}
 use Rattle.hal_code.specs.declared.row.Block.{Block}
 use Rattle.hal_code.specs.declared.row.View.{View}
 use Rattle.hal_code.specs.Controlling as machine
+use Rattle.hal_code.specs.Right.{views_lie}
 use Rattle.hal_agreement.specs.PlacedBlocks.{unit_site}
 use Rattle.hal_fit.specs.Stating.{StatementsFit}
-use Rattle.hal_fit.specs.Supporting.{ReferTo}
+use Rattle.hal_link.specs.KnownBlocks.{numbers}
 use Rattle.hal_link.specs.Outlines.{Outline, own_block, outlines_of}
-use Rattle.hal_fit_layout.specs.Known.{IsKnown, numbers}
-use Rattle.hal_fit_layout.specs.Owned.{AreStored}
-use Rattle.hal_fit_layout.specs.Ranked.{AreReentrant}
-use Rattle.hal_fit_layout.specs.Rows.{RowsLeft}
 use Rattle.hal_fit_images.specs.Blocks.{ground_of, uses_of}
 
 -- the statements of a unit fit in the block with this number and row, of a process with this outline
@@ -27,12 +21,6 @@ UnitStatementsFit s views image o number row b =
     StatementsFit image (ground_of image number row) (uses_of image (numbers s views o) number) false (unit_site s (places_of_process s row.process) b) 0 b.statements
 
 pub record AreLeft (s : Set) (views : List View) (image : ImageParts) : Type 0 where
-  -- rule 606, and rules of sizes and templates: input parameters are declared as data that have elements, and stored in own places
-  pub declared : (unit : ℕ) → AreStored s unit (inputs_at s unit) InPlaces
-  -- each shape has a number alone: the own places of ASSIGN parameters refer to theirs
-  pub references : (row : Block) (unit : ℕ) → ReferTo image row s (places_of_process s row.process) unit (outputs_at s unit)
-  -- linking numbers blocks by the outlines of processes, and clears the AUTOMATIC data of their units
-  pub known : (number : ℕ) (row : Block) → slice_get image.blocks number ≡ Some row → IsKnown s views image number row
   -- rules of types, locks and calls: the statements of processes fit
   pub processes : (number : ℕ) (row : Block) (o : Outline) (b : Body) → slice_get image.blocks number ≡ Some row → slice_get (outlines_of s) row.process ≡ Some o → number ≡ own_block o
       → body_at s o.unit ≡ Some b → UnitStatementsFit s views image o number row b
@@ -40,9 +28,5 @@ pub record AreLeft (s : Set) (views : List View) (image : ImageParts) : Type 0 w
   pub units : (number : ℕ) (row : Block) (o : Outline) (b : Body) (place unit : ℕ) → slice_get image.blocks number ≡ Some row → slice_get (outlines_of s) row.process ≡ Some o
       → slice_get o.called place ≡ Some unit → number ≡ o.first + place → body_at s unit ≡ Some b → (is_function b.head ≡ true → machine.zero_of row.result ≡ Some (zero_of b.head))
       → UnitStatementsFit s views image o number row b
-  -- rule 951: there are few cells
-  pub few_cells : cell_count s.phrases s.constants ≤ CELL_LIMIT
-  -- rule 902: several processes reach REENTRANT units alone
-  pub reentrant : AreReentrant s.phrases
-  -- rows of tables
-  pub rows : RowsLeft s image
+  -- views lie in memory
+  pub lie : views_lie image 0 image.views ≡ true

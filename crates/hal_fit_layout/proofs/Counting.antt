@@ -1,7 +1,7 @@
 -- The cells of a linked image are no more than those of its set.
-use Rattle.std.specs.Prelude.{◌≡◌, ◌≤◌, ◌<◌, ◌⊎◌, ℕ, zero, suc, ◌+◌, ◌*◌, ◌==◌, Bool, true, false, List, [], ◌∷◌, ◌++◌, length, map, replicate, flat_map, filter_map, sum_by, Option, Some, None, slice_get, if◌then◌else◌}
+use Rattle.std.specs.Prelude.{◌≡◌, ◌≤◌, ◌<◌, ℕ, suc, ◌+◌, ◌*◌, ◌==◌, Bool, true, false, List, [], ◌∷◌, length, map, replicate, flat_map, sum_by, Some, None, slice_get, if◌then◌else◌}
 use Rattle.std.specs.List.{cons_option}
-use Rattle.std.proofs.Common.{refl, sym, ap, subst, ◌∙◌, arith}
+use Rattle.std.proofs.Common.{refl, ap, subst, ◌∙◌, arith}
 use Rattle.std.proofs.lemmas.Bool.{eqb-true, ne_eqb}
 use Rattle.std.proofs.lemmas.List.{length-append, length-map, length-replicate}
 use Rattle.std.proofs.lemmas.List.Sums.{sum_by-cons}
@@ -30,7 +30,7 @@ use Rattle.hal_fit_layout.proofs.Ordered.{each_member}
 use Rattle.hal_fit_layout.proofs.Parameters.{places_are}
 
 -- rows are counted one by one
-rows_counted : {T : Type 0} (runs : List (Run T)) → row_count runs ≡ length (expanded runs)
+pub rows_counted : {T : Type 0} (runs : List (Run T)) → row_count runs ≡ length (expanded runs)
 rows_counted [] = refl
 rows_counted (run ∷ runs) =
     let rest = rows_counted runs in

@@ -17,11 +17,10 @@ use Rattle.hal_values.specs.declared.tables.Cell.{Cell}
 use Rattle.hal_values.specs.declared.value.Kind.{Kind}
 use Rattle.hal_values.specs.declared.value.Kind.TheVariants as kind
 use Rattle.hal_values.specs.declared.value.Value.{Value}
-use Rattle.hal_code.specs.declared.image.ImageParts.{ImageParts}
 use Rattle.hal_code.specs.declared.row.Run.{Run}
 use Rattle.hal_code.specs.declared.row.OwnPlace.{OwnPlace}
 use Rattle.hal_code.specs.declared.row.OwnPlace.TheVariants as place
-use Rattle.hal_code.specs.Right.{cell_right, place_right}
+use Rattle.hal_code.specs.Right.{cell_right}
 use Rattle.hal_code.specs.Sorts.{is_initial}
 use Rattle.hal_meaning.specs.Elements.{kinds_of, shape_of}
 use Rattle.hal_meaning.specs.InitialValues.{first_values}
@@ -40,10 +39,10 @@ use Rattle.hal_fit_layout.proofs.Placing.{process_each}
 
 -- where rows are joined that pass a test, each run does
 module _ {T : Type 0} (same : T → T → Bool) (test : T → Bool) where
-  abbrev passes : Run T → Bool
+  abbrev pub passes : Run T → Bool
   passes run = test run.row
 
-  some_pass : (runs : List (Run T)) (run : Run T) → list_all passes runs ≡ true → test run.row ≡ true → list_all passes (with_some same runs run) ≡ true
+  pub some_pass : (runs : List (Run T)) (run : Run T) → list_all passes runs ≡ true → test run.row ≡ true → list_all passes (with_some same runs run) ≡ true
   unfolding with_some
   some_pass [] run all is = and_from (test run.row) true is refl
   some_pass (one ∷ []) run all is = by (joins same one run) where

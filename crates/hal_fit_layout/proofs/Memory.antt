@@ -1,5 +1,5 @@
 -- The kinds of own places, where the places of a declaration lie among them.
-use Rattle.std.specs.Prelude.{◌≡◌, ◌<◌, ℕ, zero, suc, ◌+◌, ◌==◌, not, nat_lt, Bool, true, false, ◌&&◌, List, [], ◌∷◌, ◌++◌, length, map, cond, Option, Some, None, slice_get, unwrap_or, if◌then◌else◌}
+use Rattle.std.specs.Prelude.{◌≡◌, ℕ, suc, ◌+◌, ◌==◌, not, nat_lt, Bool, true, false, ◌&&◌, List, [], ◌∷◌, ◌++◌, length, map, cond, Option, Some, None, slice_get, unwrap_or}
 use Rattle.std.specs.List.{position_or_len}
 use Rattle.std.proofs.Common.{refl, ap, ◌∙◌, arith}
 use Rattle.std.proofs.lemmas.Bool.{ne_eqb, eq-eqb, lt-ltb}
@@ -24,7 +24,7 @@ kind_alike (kind.Text n) = same_number n
 
 -- one more number before memory
 -- what is found in memory is of this kind, and what comes behind it is so too
-abbrev found_so : Kind → Bool → Option (Option Kind) → Bool
+abbrev pub found_so : Kind → Bool → Option (Option Kind) → Bool
 found_so k later there = elim there [ None ↦ false | Some one ↦ elim one [ None ↦ false | Some found ↦ same_kind found k && later ] ]
 
 further : (x : Option Kind) (memory : List (Option Kind)) (n : ℕ) (ks : List Kind) → lies_from (x ∷ memory) (suc n) ks ≡ lies_from memory n ks

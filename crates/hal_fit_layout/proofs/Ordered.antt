@@ -1,14 +1,14 @@
 -- The units that a process calls stand in order: each before those that call it.
-use Rattle.std.specs.Prelude.{◌≡◌, ◌≤◌, ◌<◌, ◌⊎◌, ℕ, zero, suc, ◌+◌, ◌==◌, nat_lt, Bool, true, false, not, ◌&&◌, ◌||◌, List, [], ◌∷◌, ◌++◌, length, map, filter_map, cond, Option, Some, None, slice_get, if◌then◌else◌}
-use Rattle.std.specs.List.{list_any, cons_option, position, position_or_len}
+use Rattle.std.specs.Prelude.{◌≡◌, ◌≤◌, ◌<◌, ◌⊎◌, ℕ, zero, suc, ◌+◌, ◌==◌, nat_lt, Bool, true, false, not, ◌&&◌, ◌||◌, List, [], ◌∷◌, ◌++◌, length, filter_map, cond, Option, Some, None, slice_get, if◌then◌else◌}
+use Rattle.std.specs.List.{list_any, cons_option, position_or_len}
 use Rattle.std.specs.Option.{option_and_then}
 use Rattle.std.proofs.Common.{refl, sym, ap, subst, ◌∙◌, inl, inr, arith}
 use Rattle.std.proofs.lemmas.Bool.{and_parts, eqb-true, eq-eqb, ltb-true, or_left, or_right}
-use Rattle.std.proofs.lemmas.List.{length-append, length-map}
+use Rattle.std.proofs.lemmas.List.{length-map}
 use Rattle.std.proofs.lemmas.Option.{slice_get_within}
 use Rattle.hal_phrases.specs.Phrases.{Phrase}
 use Rattle.hal_code.specs.declared.row.View.{View}
-use Rattle.hal_meaning.specs.Bodies.{callees, reaches, reaches_within, unit_count}
+use Rattle.hal_meaning.specs.Bodies.{callees, reaches}
 use Rattle.hal_meaning.specs.Places.{unit_numbers}
 use Rattle.hal_meaning.specs.Sets.{Set}
 use Rattle.hal_reach.specs.Calls.{reaches_any, reaching, calls_itself}
@@ -19,8 +19,8 @@ use Rattle.hal_link.specs.Outlines.{Rank, Outline, ranked, ranks_of, calls, call
 use Rattle.hal_link.specs.Shapes.{Shapes}
 use Rattle.hal_fit_calls.specs.Each.{Each}
 use Rattle.hal_fit_layout.specs.Ranked.{IsCalled, IsAcyclic}
-use Rattle.hal_fit_layout.proofs.Called.{From, from_member, mapped_member, from_called}
-use Rattle.hal_fit_calls.proofs.Reached.{Passes, passed, fewer_pass, as_many, of_one, compared, few_pass, reaches_on, reaches_itself, reaches_callee}
+use Rattle.hal_fit_layout.proofs.Called.{from_member, mapped_member, from_called}
+use Rattle.hal_fit_calls.proofs.Reached.{Passes, passed, as_many, of_one, compared, few_pass, reaches_on, reaches_itself, reaches_callee}
 
 -- members of a list
 pub each_member : (P : ℕ → Type 0) (xs : List ℕ) → ((x : ℕ) → Has xs x → P x) → Each P xs

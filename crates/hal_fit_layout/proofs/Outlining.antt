@@ -4,12 +4,12 @@ use Rattle.std.proofs.Common.{refl, subst}
 use Rattle.hal_code.specs.declared.row.View.{View}
 use Rattle.hal_meaning.specs.Bodies.{processes_of}
 use Rattle.hal_meaning.specs.Sets.{Set}
+use Rattle.hal_link.specs.KnownBlocks.{numbers}
 use Rattle.hal_link.specs.Outlines.{Rank, Outline, own_block, outlined, ranks_of, called_from, outlines_from, outlines_of}
 use Rattle.hal_link.proofs.Outlined.{outlined_at}
-use Rattle.hal_fit_layout.specs.Known.{numbers}
 use Rattle.hal_fit_layout.proofs.Called.{Reaches, from_called, called_reaches}
 use Rattle.hal_link.specs.Shapes.{shapes_of}
-use Rattle.hal_fit_layout.proofs.Ordered.{Numbered, numbered}
+use Rattle.hal_fit_layout.proofs.Ordered.{numbered}
 
 -- its unit is that of the process
 pub unit_is : (s : Set) (process : ℕ) (o : Outline) → slice_get (outlines_of s) process ≡ Some o → slice_get (processes_of s.phrases) process ≡ Some o.unit

@@ -1,5 +1,5 @@
 -- Where the own places of a declaration lie among those of a process that reaches its unit.
-use Rattle.std.specs.Prelude.{◌≡◌, ◌<◌, ◌⊎◌, ℕ, zero, suc, ◌+◌, ◌==◌, Bool, true, false, ◌||◌, List, [], ◌∷◌, ◌++◌, length, take, drop, replicate, flat_map, Option, Some, None, slice_get, if◌then◌else◌}
+use Rattle.std.specs.Prelude.{◌≡◌, ◌<◌, ◌⊎◌, ℕ, zero, suc, ◌==◌, Bool, true, false, ◌||◌, List, [], ◌∷◌, ◌++◌, flat_map, Some, slice_get, if◌then◌else◌}
 use Rattle.std.proofs.Common.{refl, sym, ap, subst, ◌∙◌, inl, inr, arith, append_assoc}
 use Rattle.std.proofs.lemmas.Bool.{eqb-true}
 use Rattle.std.proofs.lemmas.Bool.Decides.{eqb_tells}
@@ -115,6 +115,12 @@ sole_one [] process (one ∷ []) sole among = same_or one process among
 sole_one (first ∷ others) process (one ∷ []) sole among = same_or one process among
 sole_one all process (one ∷ other ∷ more) sole among = absurd (cc)
 
+-- and a block with a sole process isn't one of several
+not_several : (all : List ℕ) (process : ℕ) (ns : List ℕ) → is_sole all process ns ≡ true → are_several ns ≡ false
+not_several all process [] sole = refl
+not_several all process (one ∷ []) sole = refl
+not_several all process (one ∷ other ∷ more) sole = absurd (cc)
+
 unequal : (a b : ℕ) → (a == b) ≡ false → a ≡ b → ⊥
 unequal a b not same = by (eqb_tells a b) where
   by : (((a == b) ≡ true) × (a ≡ b)) ⊎ (((a == b) ≡ false) × (a ≡ b → ⊥)) → ⊥
@@ -228,16 +234,25 @@ module _ (ps : List Phrase) (vs : Known) where
           apart = units_others test first.before (each_weaker (λ q. q ≡ u → ⊥) (λ q. test q ≡ true → q ≡ u → ⊥) first.before first.others (λ q other so same. other same));
         }
 
+    -- in the process that alone has the unit's places
+    module _ (process m : ℕ) (named : slice_get (unit_numbers ps) m ≡ Some u) (sole : is_sole (processes_of ps) process (processes_reaching ps u) ≡ true) where
+      among_sole : LiesIn (places_of ps vs process) k (places_in ps vs u)
+      among_sole =
+          before_more (common_places ps vs) (sole_places ps vs process) k (places_in ps vs u)
+          (units_others (λ q. are_several (processes_reaching ps q)) (unit_numbers ps)
+          (each_one (λ q. are_several (processes_reaching ps q) ≡ true → q ≡ u → ⊥) (unit_numbers ps)
+          (λ q several same. let other = subst (λ x. are_several (processes_reaching ps x) ≡ true) same several in not_both (are_several (processes_reaching ps u)) other (not_several (processes_of ps) process (processes_reaching ps u) sole))))
+          (lies_among (λ q. is_sole (processes_of ps) process (processes_reaching ps q)) (unit_numbers ps) m named sole)
+
+      pub lies_where_sole : LiesIn (places_of ps vs process) k (places_at ps vs p p.node)
+      lies_where_sole = lies_within (places_of ps vs process) (places_in ps vs u) k (places_at ps vs p p.node) among_sole lies_in_unit
+
     -- in a process that reaches it
     module _ (process m : ℕ) (named : slice_get (unit_numbers ps) m ≡ Some u) (reaches : is_among (processes_reaching ps u) process ≡ true) where
       in_process : (several : Bool) → are_several (processes_reaching ps u) ≡ several → LiesIn (places_of ps vs process) k (places_in ps vs u)
       in_process true several =
           behind_more (common_places ps vs) (sole_places ps vs process) k (places_in ps vs u) (lies_among (λ q. are_several (processes_reaching ps q)) (unit_numbers ps) m named several)
-      in_process false sole =
-          before_more (common_places ps vs) (sole_places ps vs process) k (places_in ps vs u)
-          (units_others (λ q. are_several (processes_reaching ps q)) (unit_numbers ps)
-          (each_one (λ q. are_several (processes_reaching ps q) ≡ true → q ≡ u → ⊥) (unit_numbers ps) (λ q several same. let other = subst (λ x. are_several (processes_reaching ps x) ≡ true) same several in not_both (are_several (processes_reaching ps u)) other sole)))
-          (lies_among (λ q. is_sole (processes_of ps) process (processes_reaching ps q)) (unit_numbers ps) m named (sole_one (processes_of ps) process (processes_reaching ps u) sole reaches))
+      in_process false sole = among_sole process m named (sole_one (processes_of ps) process (processes_reaching ps u) sole reaches)
 
       pub lies_in_process : LiesIn (places_of ps vs process) k (places_at ps vs p p.node)
       lies_in_process =

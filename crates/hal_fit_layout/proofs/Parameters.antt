@@ -1,14 +1,12 @@
 -- The own places of whole parameters are there, with the kinds of their elements.
-use Rattle.std.specs.Prelude.{◌≡◌, ◌<◌, ◌≤◌, ℕ, zero, suc, nat_lt, Bool, true, false, List, [], ◌∷◌, ◌++◌, length, map, replicate, Option, Some, None, slice_get}
+use Rattle.std.specs.Prelude.{◌≡◌, ◌<◌, ◌≤◌, ℕ, suc, nat_lt, Bool, true, List, [], ◌∷◌, ◌++◌, length, map, Option, Some, None, slice_get}
 use Rattle.std.specs.Option.{option_and_then}
 use Rattle.std.proofs.Common.{refl, sym, ap, subst, ◌∙◌, arith}
 use Rattle.std.proofs.lemmas.List.{length-map, map-append}
 use Rattle.hal_base.specs.declared.limits.TheConstants.{PROCESS_LIMIT}
 use Rattle.hal_grammar.specs.Leaves.{Naming}
-use Rattle.hal_grammar.specs.Declarations.{Automatic, Attribute, Declared, Initials}
-use Rattle.hal_phrases.specs.Phrases.{Node, Phrase, OfItem}
-use Rattle.hal_names.specs.declared.key.Space.TheVariants as space
-use Rattle.hal_names.specs.Keys.{key, own}
+use Rattle.hal_grammar.specs.Declarations.{Automatic, Attribute, Initials}
+use Rattle.hal_phrases.specs.Phrases.{Node, Phrase}
 use Rattle.hal_names.specs.Laws.{IsCounted}
 use Rattle.hal_kinds.specs.Attributes.{has_mark}
 use Rattle.hal_constants.specs.Known.{Known}
@@ -23,7 +21,7 @@ use Rattle.hal_meaning.specs.Bodies.{processes_of, processes_reaching}
 use Rattle.hal_meaning.specs.Calls.{Parameter, parameter_shape, parameter_named}
 use Rattle.hal_meaning.specs.Elements.{Shape, kinds_of, shape_of}
 use Rattle.hal_meaning.specs.InitialValues.{held, one_each, filled, given, all_values, first_values}
-use Rattle.hal_meaning.specs.Places.{Place, Storing, InPlaces, ByReference, storing, places_from, places_of_item, places_at, places_of, unit_numbers}
+use Rattle.hal_meaning.specs.Places.{Place, Storing, InPlaces, places_from, places_of_item, places_at, places_of, unit_numbers}
 use Rattle.hal_meaning.specs.ReportNames.{first_place}
 use Rattle.hal_meaning.specs.Runs.{places_of_process}
 use Rattle.hal_meaning.specs.Sets.{Set}

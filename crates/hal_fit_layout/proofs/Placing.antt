@@ -1,5 +1,5 @@
 -- What holds of each own place of a process.
-use Rattle.std.specs.Prelude.{◌≡◌, ℕ, zero, suc, ◌==◌, Bool, true, false, List, [], ◌∷◌, ◌++◌, flat_map, Option, Some, None, slice_get, if◌then◌else◌}
+use Rattle.std.specs.Prelude.{◌≡◌, ℕ, zero, suc, ◌==◌, Bool, true, List, [], ◌∷◌, ◌++◌, flat_map, Option, Some, None, slice_get, if◌then◌else◌}
 use Rattle.std.proofs.Common.{refl}
 use Rattle.hal_grammar.specs.Declarations.{Automatic, Attribute, Declared}
 use Rattle.hal_phrases.specs.Phrases.{Node, Phrase, OfItem, OfGroup, OfTemporaryGroup}

@@ -1,7 +1,7 @@
 -- The kinds of data are in their ranges, and what data hold at first is of them.
-use Rattle.std.specs.Prelude.{◌≡◌, ◌<◌, ℕ, zero, suc, ◌^◌, ◌==◌, nat_le, nat_lt, length, map, replicate, flat_map, pos, negsuc, Bool, true, false, ◌&&◌, List, [], ◌∷◌, ◌++◌, Option, Some, None, slice_get, unwrap_or, if◌then◌else◌}
+use Rattle.std.specs.Prelude.{◌≡◌, ℕ, zero, suc, ◌^◌, ◌==◌, nat_le, nat_lt, map, replicate, flat_map, pos, negsuc, Bool, true, false, ◌&&◌, List, [], ◌∷◌, ◌++◌, Option, Some, None, slice_get, unwrap_or, if◌then◌else◌}
 use Rattle.std.specs.Option.{option_and_then}
-use Rattle.std.proofs.Common.{refl, ap, ◌∙◌, arith}
+use Rattle.std.proofs.Common.{refl, arith}
 use Rattle.std.proofs.lemmas.Bool.{and_from, eq-eqb, lt-ltb, le-leb}
 use Rattle.std.proofs.lemmas.Nat.{pow_pos}
 use Rattle.hal_grammar.specs.Declarations as declarations
@@ -15,13 +15,13 @@ use Rattle.hal_constants.specs.declared.constant.Constant.TheVariants as constan
 use Rattle.hal_constants.specs.Constants.{constant_of}
 use Rattle.hal_constants.specs.Known.{Known, size_of_integer, size_of_value, size_of, bits_kind, text_kind, kind_of, kind_of_type}
 use Rattle.hal_scope.specs.Sorts.{type_among}
-use Rattle.hal_states.specs.OfKinds.{nothing, is_of, of_kind}
+use Rattle.hal_states.specs.OfKinds.{nothing, is_of}
 use Rattle.hal_values.specs.declared.value.Kind.{Kind}
 use Rattle.hal_values.specs.declared.value.Kind.TheVariants as kind
 use Rattle.hal_values.specs.declared.value.Value.{Value}
 use Rattle.hal_values.specs.declared.value.Value.TheVariants as value
 use Rattle.hal_code.specs.Sorts.{is_kind, is_initial}
-use Rattle.hal_meaning.specs.Elements.{Component, Shape, Above, count, times, kinds_of_component, kinds_of, component, lower, path_to, components_from, components_at, components_named, shape_of_type, shape_of}
+use Rattle.hal_meaning.specs.Elements.{Component, Above, count, times, kinds_of_component, kinds_of, component, lower, path_to, components_from, components_at, shape_of_type, shape_of}
 use Rattle.hal_meaning.specs.InitialValues.{held, one_each, filled, given, all_values, first_values}
 use Rattle.hal_fit_calls.specs.Each.{Each}
 use Rattle.hal_fit_calls.proofs.Each.{each_append, each_flat}
@@ -86,7 +86,7 @@ or_single (Some k) is = is
 abbrev pub IsRanged : Kind → Type 0
 IsRanged k = is_kind k ≡ true
 
-abbrev HasKind : Component → Type 0
+abbrev pub HasKind : Component → Type 0
 HasKind c = is_kind c.kind ≡ true
 
 component_is : (ps : List Phrase) (vs : Known) (p : Phrase) (path : List (List ℕ)) (attributes : List Attribute) → HasKind (component ps vs p path attributes)
@@ -112,7 +112,7 @@ found_components : (ps : List Phrase) (vs : Known) (found : Option Phrase) → E
 found_components ps vs None = tt
 found_components ps vs (Some p) = at_phrase ps vs p p.node
 
-shape_is : (ps : List Phrase) (vs : Known) (p : Phrase) (attributes : List Attribute) (type : Option declarations.Kind) → Each HasKind (shape_of_type ps vs p attributes type).components
+pub shape_is : (ps : List Phrase) (vs : Known) (p : Phrase) (attributes : List Attribute) (type : Option declarations.Kind) → Each HasKind (shape_of_type ps vs p attributes type).components
 shape_is ps vs p attributes (Some (StructureKind place template copies)) = found_components ps vs (option_and_then (slice_get ps) (means ps p.around.block template))
 shape_is ps vs p attributes None = (component_is ps vs p [] attributes, tt)
 shape_is ps vs p attributes (Some (IntegerKind place)) = (component_is ps vs p [] attributes, tt)

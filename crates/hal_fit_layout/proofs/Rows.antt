@@ -1,7 +1,7 @@
 -- Rows of a linked image that are right because the tables of its set are.
-use Rattle.std.specs.Prelude.{◌≡◌, ◌≤◌, ◌<◌, ℕ, zero, suc, ◌+◌, ◌-◌, ◌==◌, nat_le, nat_lt, Bool, true, false, ◌&&◌, List, [], ◌∷◌, length, map, All}
-use Rattle.std.specs.List.{list_all, slice_index_or}
-use Rattle.std.proofs.Common.{refl, sym, ap, subst, ◌∙◌, arith}
+use Rattle.std.specs.Prelude.{◌≡◌, ◌≤◌, ◌<◌, ℕ, zero, suc, ◌+◌, ◌-◌, ◌==◌, nat_le, nat_lt, Bool, true, false, ◌&&◌, List, [], ◌∷◌, length, map, All, Option, Some, None, slice_get}
+use Rattle.std.specs.List.{list_all}
+use Rattle.std.proofs.Common.{refl, ap, subst, ◌∙◌, arith}
 use Rattle.std.proofs.lemmas.Bool.{and_from, eq-eqb, le-leb, lt-ltb}
 use Rattle.std.proofs.lemmas.List.{length-map}
 use Rattle.hal_base.specs.declared.limits.TheConstants.{CELL_LIMIT, EVENT_LIMIT, PROCESS_LIMIT}
@@ -11,6 +11,7 @@ use Rattle.hal_values.specs.declared.tables.Item.TheVariants as item
 use Rattle.hal_values.specs.Tables.{IsPostfix, IsExpression, IsTables, event_count}
 use Rattle.hal_code.specs.declared.choice.Choice.{Choice}
 use Rattle.hal_code.specs.declared.image.ImageParts.{ImageParts}
+use Rattle.hal_code.specs.declared.row.Block.{Block}
 use Rattle.hal_code.specs.declared.row.View.{View}
 use Rattle.hal_code.specs.Operands.{is_known, events_of}
 use Rattle.hal_code.specs.Right.{cell_count, cell_right, place_right, processes_right, shapes_right, views_right, names_right, limits_right, postfix_right, rows_right}
@@ -18,11 +19,12 @@ use Rattle.hal_meaning.specs.Runs.{places_of_process}
 use Rattle.hal_meaning.specs.Sets.{Set, cells_of}
 use Rattle.hal_runs.specs.Joined.{rows_joined}
 use Rattle.hal_runs.specs.Same.{same_place}
+use Rattle.hal_link.specs.KnownBlocks.{HasOwnBlock}
 use Rattle.hal_link.specs.Linking.{Linked, known_start, own_row, processes_from, image_with}
 use Rattle.hal_link.specs.Outlines.{Outline, block_of, outlines_of}
 use Rattle.hal_link.specs.Shapes.{shapes_of}
 use Rattle.hal_fit_calls.specs.Each.{Each}
-use Rattle.hal_fit_layout.specs.Rows.{IsNumbered, RowsLeft, has_block}
+use Rattle.hal_fit_layout.specs.Rows.{IsNumbered, RowsLeft}
 use Rattle.hal_fit_layout.proofs.Filling.{cell_rows_right, place_rows_right}
 
 -- declared events begin as is known
@@ -49,6 +51,14 @@ all_postfix events [] all = refl
 all_postfix events (items ∷ lists) all =
     and_from (postfix_right events 0 items) (list_all (postfix_right events 0) lists) (postfix_told events 0 items (all_first (IsExpression events) items lists all))
     (all_postfix events lists (all_later (IsExpression events) items lists all))
+
+-- the block with this number is there, and the process has it
+abbrev has_block : ImageParts → ℕ → ℕ → Bool
+has_block image number process = elim (slice_get image.blocks number) [ None ↦ false | Some block ↦ block.process == process ]
+
+own_told : (s : Set) (image : ImageParts) (process : ℕ) → HasOwnBlock s image process → has_block image (block_of (outlines_of s) process) process ≡ true
+own_told s image process own =
+    ap (λ (o : Option Block). elim o [ None ↦ false | Some block ↦ block.process == process ]) own.there ∙ eq-eqb own.row.process process own.its
 
 -- as many processes as the set has
 pub rows_long : (s : Set) (os : List Outline) (p : ℕ) (names : List (List ℕ)) → length (processes_from s os p names) ≡ length names
@@ -82,18 +92,18 @@ module _ (s : Set) (views : List View) (one : Linked) (tables : IsTables s.table
       all_postfix (events_of image) s.tables.expressions (subst (λ n. All (IsExpression n) s.tables.expressions) same tables.expressions)
 
   -- processes have their own blocks, and right places
-  processes_by : (p : ℕ) (names : List (List ℕ)) (total : ℕ) → p + length names ≡ total → ((q : ℕ) → q < total → has_block image (block_of (outlines_of s) q) q ≡ true)
+  processes_by : (p : ℕ) (names : List (List ℕ)) (total : ℕ) → p + length names ≡ total → ((q : ℕ) → q < total → HasOwnBlock s image q)
       → ((q : ℕ) → Each (IsNumbered s (shapes_of s)) (places_of_process s q)) → processes_right image p (processes_from s (outlines_of s) p names) ≡ true
   processes_by p [] total long blocks references = refl
   processes_by p (name ∷ names) total long blocks references =
       let places = rows_joined same_place (map (own_row s (shapes_of s)) (places_of_process s p)) in
       and_from (has_block image (block_of (outlines_of s) p) p && list_all (place_right image) places) (processes_right image (suc p) (processes_from s (outlines_of s) (suc p) names))
-      (and_from (has_block image (block_of (outlines_of s) p) p) (list_all (place_right image) places) (blocks p (omega (arith, long))) (place_rows_right s (shapes_of s) p (references p)))
+      (and_from (has_block image (block_of (outlines_of s) p) p) (list_all (place_right image) places) (own_told s image p (blocks p (omega (arith, long)))) (place_rows_right s (shapes_of s) p (references p)))
       (processes_by (suc p) names total (omega (arith, long)) blocks references)
 
   -- all rows, by what is left
-  pub rows_by : cell_count image ≤ CELL_LIMIT → RowsLeft s image → rows_right image ≡ true
-  rows_by few left =
+  pub rows_by : cell_count image ≤ CELL_LIMIT → ((p : ℕ) → p < length s.tables.processes → HasOwnBlock s image p) → RowsLeft s image → rows_right image ≡ true
+  rows_by few blocks left =
       and_from
       ((limits_right image && list_all cell_right image.cells) && (list_all (λ (x : Choice EventStart). is_known x) image.events && list_all (place_right image) image.common))
       ((processes_right image 0 image.processes && shapes_right image) && (views_right image && (list_all (postfix_right (events_of image) 0) image.expressions && names_right image)))
@@ -101,6 +111,6 @@ module _ (s : Set) (views : List View) (one : Linked) (tables : IsTables s.table
       (and_from (limits_right image) (list_all cell_right image.cells) (limits_kept few) (cell_rows_right s cells))
       (and_from (list_all (λ (x : Choice EventStart). is_known x) image.events) true (starts_known s.tables.events) refl))
       (and_from (processes_right image 0 image.processes && shapes_right image) (views_right image && (list_all (postfix_right (events_of image) 0) image.expressions && names_right image))
-      (and_from (processes_right image 0 image.processes) (shapes_right image) (processes_by 0 s.tables.processes (length s.tables.processes) (omega arith) left.blocks left.references) left.shapes)
+      (and_from (processes_right image 0 image.processes) (shapes_right image) (processes_by 0 s.tables.processes (length s.tables.processes) (omega arith) blocks left.references) left.shapes)
       (and_from (views_right image) (list_all (postfix_right (events_of image) 0) image.expressions && names_right image) left.views
       (and_from (list_all (postfix_right (events_of image) 0) image.expressions) (names_right image) expressions_told left.names)))

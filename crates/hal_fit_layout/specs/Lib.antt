@@ -1,4 +1,3 @@
 pub mod Owned
 pub mod Ranked
-pub mod Known
 pub mod Rows

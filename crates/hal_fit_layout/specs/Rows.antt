@@ -1,25 +1,18 @@
 -- What is left to be known of the rows of a linked image, behind what its set and the tables of the set say.
-use Rattle.std.specs.Prelude.{◌≡◌, ◌<◌, ℕ, ◌==◌, nat_lt, length, Bool, true, false, Option, Some, None, slice_get}
+use Rattle.std.specs.Prelude.{◌≡◌, ℕ, nat_lt, length, true, None}
 use Rattle.hal_meaning.specs.Places.{Place}
 use Rattle.hal_meaning.specs.Runs.{places_of_process}
 use Rattle.hal_meaning.specs.Sets.{Set}
 use Rattle.hal_code.specs.declared.image.ImageParts.{ImageParts}
 use Rattle.hal_code.specs.Right.{shapes_right, views_right, names_right}
-use Rattle.hal_link.specs.Outlines.{block_of, outlines_of}
 use Rattle.hal_link.specs.Shapes.{Shapes, reference_shape}
 use Rattle.hal_fit_calls.specs.Each.{Each}
-
--- the block with this number is there, and the process has it
-abbrev pub has_block : ImageParts → ℕ → ℕ → Bool
-has_block image number process = elim (slice_get image.blocks number) [ None ↦ false | Some block ↦ block.process == process ]
 
 -- a reference is to a shape that is there
 abbrev pub IsNumbered : Set → Shapes → Place → Type 0
 IsNumbered s shapes one = one.kind ≡ None → nat_lt (reference_shape s shapes one.owner) (length shapes) ≡ true
 
 pub record RowsLeft (s : Set) (image : ImageParts) : Type 0 where
-  -- linking numbers blocks by the outlines of processes
-  pub blocks : (p : ℕ) → p < length s.tables.processes → has_block image (block_of (outlines_of s) p) p ≡ true
   -- linking gives the shape of each ASSIGN parameter a number, where it has elements
   pub references : (p : ℕ) → Each (IsNumbered s image.shapes) (places_of_process s p)
   -- shapes have kinds in their ranges; rule 951 of an image: they have few cells

@@ -16,11 +16,11 @@ ghost use Rattle.hal_code.specs.Right as right;
 ghost use Rattle.hal_fitting.specs.Fitting.{Ground};
 ghost use Rattle.hal_fit_expr.specs.Serving.{HavePlaces};
 ghost use Rattle.hal_fit.specs.Ending.{ClearsFit};
+ghost use Rattle.hal_link.specs.KnownBlocks.{numbers};
 ghost use Rattle.hal_link.specs.Linking.{Linked, image_with};
 ghost use Rattle.hal_link.specs.Outlines.{Outline, outlines_of};
 ghost use Rattle.hal_link.specs.UnitCode.{clears_from};
 ghost use Rattle.hal_code.specs.declared.row.Block.{Block};
-ghost use Rattle.hal_fit_layout.specs.Known.{numbers};
 ghost use Rattle.hal_fit_layout.specs.Owned.{AreStored, LiesIn};
 ghost use Rattle.hal_fit_layout.specs.Ranked.{AreReentrant, IsAcyclic};
 

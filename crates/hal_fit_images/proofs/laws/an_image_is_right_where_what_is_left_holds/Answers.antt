@@ -1,15 +1,47 @@
-use Rattle.std.proofs.Common.{refl}
+use Rattle.std.specs.Prelude.{◌≡◌, nat_le, ◌&&◌, List}
+use Rattle.std.specs.List.{list_all, sum_by}
+use Rattle.std.proofs.Common.{refl, ap, subst}
+use Rattle.std.proofs.lemmas.Bool.{and_from, and_parts}
 use Rattle.std.proofs.lemmas.List.{length-map}
 use Rattle.hal_phrases.specs.GatheredUnits.{phrases_of}
+use Rattle.hal_values.specs.declared.value.Kind.{Kind}
+use Rattle.hal_code.specs.declared.image.ImageParts.{ImageParts}
+use Rattle.hal_code.specs.declared.row.Run.{Run}
+use Rattle.hal_code.specs.declared.row.View.{View}
+use Rattle.hal_code.specs.Images.{row_count}
+use Rattle.hal_code.specs.Memory.{spread_limit, spread_of}
+use Rattle.hal_code.specs.Right.{form_right, views_lie}
 use Rattle.hal_meaning.specs.Bodies.{processes_of}
 use Rattle.hal_meaning.specs.ReportNames.{path_of}
-use Rattle.hal_meaning.specs.Sets.{set_of}
+use Rattle.hal_meaning.specs.Runs.{places_of_process}
+use Rattle.hal_meaning.specs.Sets.{Set, set_of}
+use Rattle.hal_link.specs.CalledViews.{views_of}
+use Rattle.hal_link.specs.Shapes.{Shapes, shapes_of}
+use Rattle.hal_fit_calls.specs.Each.{Each}
+use Rattle.hal_fit_layout.specs.Rows.{IsNumbered}
+use Rattle.hal_fit_rows.proofs.Made.{image_is}
 use Rattle.hal_fit_images.proofs.Knowing.{all_fit, rows_of_image}
 use Rattle.hal_fit_images.proofs.laws.an_image_is_right_where_what_is_left_holds.Goals as goal
 
 pub returns : goal.returns
-returns c turns files views image is small left =
-    let tables = (c.a_set_is_a_load.ensures turns files small).right in
+returns c turns files image is accepted few_turns left =
+    let s : Set = set_of turns files in
+    let views : List View = views_of s in
+    let counted = c.phrases_are_counted.ensures files in
+    let tables = (c.a_set_is_a_load.ensures turns files (c.a_set_within_its_limits_is_small.ensures turns files accepted.within accepted.program few_turns)).right in
+    let blocks = c.each_block_of_a_linked_image_is_of_a_process_or_a_unit.ensures in
+    let stored = c.parameters_of_units_are_stored.ensures in
+    let shapes : shapes_of s ≡ image.shapes = ap (λ (x : ImageParts). x.shapes) (image_is s views image is).1 in
     c.an_image_of_blocks_that_fit_is_right.ensures turns files views image is
-    (all_fit (set_of turns files) (c.phrases_are_counted.ensures files) views image is tables.few_processes left)
-    (rows_of_image (set_of turns files) views image is tables refl (length-map (processes_of (phrases_of files)) (path_of (phrases_of files))) (c.phrases_are_counted.ensures files) left.reentrant left.few_cells left.rows)
+    (all_fit s counted views image is tables.few_processes (stored.inputs turns files accepted.named accepted.parts) (stored.outputs turns files accepted.named accepted.parts) accepted.few left
+    (blocks.known turns files views image is))
+    (rows_of_image s views image is tables refl (length-map (processes_of (phrases_of files)) (path_of (phrases_of files))) counted
+    (c.a_set_that_breaks_no_rule_of_calls_has_no_cycles.ensures.reentrant (phrases_of files) counted accepted.called) accepted.within.cells (blocks.own turns files views image is)
+    (record {
+      references = λ process. subst (λ (x : Shapes). Each (IsNumbered s x) (places_of_process s process)) shapes (c.references_of_processes_are_to_shapes.ensures turns files accepted.named accepted.parts process);
+      shapes = c.the_shapes_of_an_image_are_right.ensures s views image is accepted.few;
+      views = and_from (list_all (form_right image) image.views && nat_le (sum_by (spread_of image) image.views) spread_limit) (views_lie image 0 image.views)
+          (and_from (list_all (form_right image) image.views) (nat_le (sum_by (spread_of image) image.views) spread_limit) (c.views_of_an_image_are_formed.ensures s image is)
+          (and_parts (nat_le (sum_by (λ (runs : List (Run Kind)). row_count runs) image.shapes) spread_limit) (nat_le (sum_by (spread_of image) image.views) spread_limit) accepted.few).1) left.lie;
+      names = c.the_names_of_an_image_are_right.ensures turns files views image is accepted.within accepted.program;
+    }))

@@ -1,0 +1,37 @@
+mod Rules
+pub mod Made
+mod LookingUp
+pub mod Calling
+pub mod Small
+pub mod Shaped
+mod Plain
+mod PlainExpressions
+mod PlainDeclarations
+mod PlainStatements
+mod Told
+mod ToldDeclarations
+mod ToldUnits
+mod Bodied
+mod Filled
+mod Templates
+pub mod Stored
+mod Referring
+mod Strict
+pub mod Numbered
+mod Adding
+pub mod Alone
+pub mod Referred
+pub mod Purposed
+pub mod Formed
+mod Lines
+mod Shown
+pub mod Reported
+pub mod Named
+pub mod Lying
+mod Homing
+mod HomingExpressions
+mod HomingDeclarations
+mod HomingStatements
+pub mod HomingFiles
+pub mod Visible
+pub mod Sharing

@@ -1,0 +1,127 @@
+-- What the views of a set are for: the cells that phrases of a unit name where they stand in a process.
+use Rattle.std.specs.Prelude.{◌≡◌, ◌⊎◌, ℕ, List, [], map, Some, None, slice_get}
+use Rattle.hal_grammar.specs.Leaves.{Naming}
+use Rattle.hal_grammar.specs.Expressions.{Subscript}
+use Rattle.hal_values.specs.declared.value.Kind.{Kind}
+use Rattle.hal_values.specs.declared.value.Kind.TheVariants as kind
+use Rattle.hal_code.specs.declared.row.Base.{Base}
+use Rattle.hal_code.specs.declared.row.Dimension.{Dimension}
+use Rattle.hal_code.specs.declared.row.Run.{Run}
+use Rattle.hal_code.specs.declared.row.View.{View}
+use Rattle.hal_meaning.specs.Bodies.{Body, processes_of}
+use Rattle.hal_meaning.specs.Calls.{parameter_named}
+use Rattle.hal_meaning.specs.Elements.{Shape}
+use Rattle.hal_meaning.specs.Places.{Storing, InPlaces}
+use Rattle.hal_meaning.specs.Sets.{Set, body_at}
+use Rattle.hal_meaning.specs.Variables.{kind_of_first}
+use Rattle.hal_agreement.specs.Sites.{Site, within_block}
+use Rattle.hal_storage.specs.referents.Referents.{DataOf}
+use Rattle.hal_gen_expr.specs.declared.elements.Element.{Element}
+use Rattle.hal_gen_expr.specs.Elements.{element_in}
+use Rattle.hal_gen_expr.specs.Led.{Led, led_by, rows_left, first_chosen}
+use Rattle.hal_gen_expr.specs.Numbering.{base_of, row_of, cell_view, area_view, shape_in}
+use Rattle.hal_gen_expr.specs.Referents.{referent}
+use Rattle.hal_link.specs.Linking.{process_site}
+use Rattle.hal_link.specs.Outlines.{Outline, outlines_of}
+use Rattle.hal_link.specs.Shapes.{Shapes, shapes_of}
+
+-- a process calls this unit, by itself or through others
+pub record CallsUnit (s : Set) (process unit : ℕ) : Type 0 where
+  pub number : ℕ
+  pub outline : Outline
+  pub there : slice_get (outlines_of s) number ≡ Some outline
+  pub its : outline.process ≡ process
+  pub place : ℕ
+  pub called : slice_get outline.called place ≡ Some unit
+
+-- its own unit is this one, or it calls it
+abbrev pub StandsIn : Set → ℕ → ℕ → Type 0
+StandsIn s process unit = (slice_get (processes_of s.phrases) process ≡ Some unit) ⊎ CallsUnit s process unit
+
+-- phrases of a unit stand there, in a process
+pub record IsSite (s : Set) (site : Site) : Type 0 where
+  pub process : ℕ
+  pub unit : ℕ
+  pub body : Body
+  pub found : body_at s unit ≡ Some body
+  pub stands : StandsIn s process unit
+  pub block : ℕ
+  pub is : site ≡ within_block block (process_site s process body)
+
+-- the one element to which a name leads
+pub record ForElement (site : Site) (rows : List Dimension) (k : Kind) (from : Base) : Type 0 where
+  pub name : List ℕ
+  pub path : List Naming
+  pub declared : ℕ
+  pub way : Storing
+  pub shape : Shape
+  pub refers : referent site name ≡ DataOf declared way shape
+  pub one : Element
+  pub single : shape.copies ≡ None
+  pub leads : element_in path shape.components ≡ Some one
+  pub plain : rows ≡ []
+  pub kind : k ≡ one.kind
+  pub begins : base_of site declared one.before way ≡ Some from
+
+-- the elements among which a subscript chooses
+pub record ForChosen (site : Site) (rows : List Dimension) (k : Kind) (from : Base) : Type 0 where
+  pub name : List ℕ
+  pub path : List Naming
+  pub subscript : Subscript
+  pub led : Led
+  pub leads : led_by path (referent site name) ≡ Some led
+  pub dimensions : rows ≡ map row_of (rows_left subscript led)
+  pub kind : k ≡ (first_chosen site subscript led).kind
+  pub begins : base_of site led.declared (first_chosen site subscript led).before led.stored ≡ Some from
+
+-- an own place of a group
+pub record ForPlace (site : Site) (rows : List Dimension) (k : Kind) (from : Base) : Type 0 where
+  pub group : ℕ
+  pub before : ℕ
+  pub plain : rows ≡ []
+  pub kind : k ≡ kind.Double
+  pub begins : base_of site group before InPlaces ≡ Some from
+
+-- an input parameter of the unit
+pub record ForParameter (site : Site) (rows : List Dimension) (k : Kind) (from : Base) : Type 0 where
+  pub name : Naming
+  pub plain : rows ≡ []
+  pub kind : k ≡ kind_of_first (parameter_named site.set site.unit name).shape.components
+  pub begins : base_of site (parameter_named site.set site.unit name).number 0 InPlaces ≡ Some from
+
+abbrev pub IsCellFor : Site → List Dimension → Kind → Base → Type 0
+IsCellFor site rows k from = (ForElement site rows k from ⊎ ForChosen site rows k from) ⊎ (ForPlace site rows k from ⊎ ForParameter site rows k from)
+
+-- the cells of a whole argument or of an ASSIGN argument, which have the shape with this number
+pub record IsAreaFor (shapes : Shapes) (site : Site) (rows : List Dimension) (shape : ℕ) (from : Base) : Type 0 where
+  pub name : List ℕ
+  pub path : List Naming
+  pub subscript : Subscript
+  pub led : Led
+  pub leads : led_by path (referent site name) ≡ Some led
+  pub dimensions : rows ≡ map row_of (rows_left subscript led)
+  pub runs : List (Run Kind)
+  pub numbered : shape_in shapes runs ≡ Some shape
+  pub begins : base_of site led.declared (first_chosen site subscript led).before led.stored ≡ Some from
+
+-- a view of cells, and one of the cells of a shape
+pub record ForCell (s : Set) (view : View) : Type 0 where
+  pub site : Site
+  pub is_site : IsSite s site
+  pub rows : List Dimension
+  pub k : Kind
+  pub from : Base
+  pub is : view ≡ cell_view from rows k
+  pub purpose : IsCellFor site rows k from
+
+pub record ForArea (s : Set) (view : View) : Type 0 where
+  pub site : Site
+  pub is_site : IsSite s site
+  pub rows : List Dimension
+  pub shape : ℕ
+  pub from : Base
+  pub is : view ≡ area_view from rows shape
+  pub purpose : IsAreaFor (shapes_of s) site rows shape from
+
+abbrev pub HasPurpose : Set → View → Type 0
+HasPurpose s view = ForCell s view ⊎ ForArea s view
