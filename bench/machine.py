@@ -30,7 +30,8 @@ import image_bytes
 ROOT = pathlib.Path(__file__).resolve().parent.parent
 PROGRAM = ROOT / 'crates/hal_cli/out/hal_cli'
 BAR = 40e6
-TURNS = 1_000
+# How long a run is to last beside one of no turn, and how many turns it has at most: so many events are asked for.
+LEAST_SECONDS, MOST_TURNS = 0.5, 60_000
 # Words of a unit's statements, and turns of an UPDATE block.
 WORDS, BLOCK_TURNS = 60_000, 65_535
 WRITE_SECONDS = 1.0
@@ -116,16 +117,32 @@ def other(room, command, text):
     return seconds([command, path])
 
 
-def python_rate(room, what, count, turns):
+def rate(run, count, turns):
+    """The statements a second of runs with so many statements a turn. A run has as many turns as it takes to last long enough beside one of no turn."""
+    none = run(0)
+    while True:
+        took = run(turns) - none
+        if took >= LEAST_SECONDS or turns * 10 > MOST_TURNS:
+            return count * turns / took
+        turns *= 10
+
+
+def hal_rate(room, what, count):
+    """The statements a second of the machine: a block is computed twice."""
+    times = 2 if what.turns else 1
+    return times * rate(lambda turns: hal(room, unit_of(what, count, turns)), count, 60 if what.turns else 600)
+
+
+def python_rate(room, what, count):
     """The statements a second of CPython."""
     text = f'def run(turns):\n  {what.python_first}\n  for _ in range(turns):\n' + f'    {what.python}\n' * count + 'run(%d)\n'
-    return count * turns / (other(room, sys.executable, text % turns) - other(room, sys.executable, text % 0))
+    return rate(lambda turns: other(room, sys.executable, text % turns), count, 60)
 
 
-def lua_rate(room, what, count, turns):
+def lua_rate(room, what, count):
     """The statements a second of Lua."""
     text = f'local function run(turns)\n  {what.lua_first}\n  for k = 1, turns do\n' + f'    {what.lua}\n' * count + '  end\nend\nrun(%d)\n'
-    return count * turns / (other(room, 'lua5.4', text % turns) - other(room, 'lua5.4', text % 0))
+    return rate(lambda turns: other(room, 'lua5.4', text % turns), count, 60)
 
 
 def straight(room):
@@ -137,12 +154,10 @@ def straight(room):
     print(f'{"kind":12}{"instructions":>14}{"M instr./s":>12}{"M stmt./s":>12}{"CPython":>10}{"Lua":>10}')
     for name, what in KINDS.items():
         count, instructions = count_of(what), instructions_of(room, what)
-        turns, times = (TURNS // 10, 2) if what.turns else (TURNS, 1)
-        rate = times * count * turns / (hal(room, unit_of(what, count, turns)) - hal(room, unit_of(what, count, 0)))
-        python = python_rate(room, what, count, TURNS // 10)
-        lua = f'{lua_rate(room, what, count, TURNS // 10) / 1e6:.1f}' if has_lua else '-'
-        print(f'{name:12}{instructions:14}{rate * instructions / 1e6:12.1f}{rate / 1e6:12.2f}{python / 1e6:10.2f}{lua:>10}', flush=True)
-        met = met and rate >= python and (name != 'integers' or rate * instructions >= BAR)
+        own, python = hal_rate(room, what, count), python_rate(room, what, count)
+        lua = f'{lua_rate(room, what, count) / 1e6:.1f}' if has_lua else '-'
+        print(f'{name:12}{instructions:14}{own * instructions / 1e6:12.1f}{own / 1e6:12.2f}{python / 1e6:10.2f}{lua:>10}', flush=True)
+        met = met and own >= python and (name != 'integers' or own * instructions >= BAR)
     return met
 
 
