@@ -17,7 +17,7 @@ use Rattle.hal_constants.specs.declared.constant.Constant.{Constant}
 use Rattle.hal_constants.specs.declared.constant.Constant.TheVariants as constant
 use Rattle.hal_constants.specs.declared.operation.Operation.{Operation}
 use Rattle.hal_constants.specs.declared.operation.Operation.TheVariants as operation
-use Rattle.hal_constants.specs.Results.{apply_one, apply_two, whole, picked_one, picked_to, picked_from, picked_all}
+use Rattle.hal_constants.specs.Results.{worse, apply_one, apply_two, whole, picked_one, picked_to, picked_from, picked_all}
 use Rattle.hal_constants.specs.Naming.{constant_at, constant_named, literal_constant, operation_named}
 
 -- the operation of a sign between two terms
@@ -102,10 +102,10 @@ unfoldable mutual
   computed_second ps vs p op c NoExpressions = constant.Unfit
   computed_second ps vs p op c (MoreExpressions y others) = if no_more others then apply_two op c (constant_of ps vs p y) else constant.Unfit
 
-  -- the product of a constant and a parenthesis
+  -- the product of a constant and a parenthesis; with another list it is none of a constant, and no constant of anything else, as of a FUNCTION
   pub multiplied : List Phrase → List (Option Value) → Phrase → Constant → Expressions → Constant
-  multiplied ps vs p c NoExpressions = constant.Unfit
-  multiplied ps vs p c (MoreExpressions x others) = if no_more others then apply_two op2.Product c (constant_of ps vs p x) else constant.Unfit
+  multiplied ps vs p c NoExpressions = worse c constant.Unfit
+  multiplied ps vs p c (MoreExpressions x others) = if no_more others then apply_two op2.Product c (constant_of ps vs p x) else worse c constant.Unfit
 
   -- a reference
   pub referred : List Phrase → List (Option Value) → Phrase → Reference → Constant

@@ -17,7 +17,7 @@ use Rattle.hal_operations.specs.Stores.{stored}
 use Rattle.hal_constants.specs.declared.constant.Constant.{Constant}
 use Rattle.hal_constants.specs.declared.constant.Constant.TheVariants as constant
 use Rattle.hal_constants.specs.Operands.{is_storable}
-use Rattle.hal_constants.specs.Naming.{constant_named, is_value_item, literal_constant}
+use Rattle.hal_constants.specs.Naming.{is_compool_at, constant_named, is_value_item, literal_constant}
 use Rattle.hal_constants.specs.Constants.{constant_of, signed}
 
 -- the values that are known: of each phrase its value, if it has one
@@ -135,10 +135,19 @@ unfoldable pub is_file : Node → Bool
 is_file (OfFile prefaces name) = true
 is_file other = false
 
--- as many times as there are files among these phrases: a COMPOOL may stand behind the units that include its template
+-- whether a node of a COMPOOL or of another unit is a constant of a COMPOOL that is its value
+unfoldable pub is_pooled : Bool → Node → Bool
+is_pooled of_compool (OfItem common item) = is_value_item common item && of_compool
+is_pooled of_compool other = false
+
+-- a file; and a constant of a COMPOOL, which may stand behind those that name it in units that include its template
+abbrev pub starts_round : List Phrase → Phrase → Bool
+starts_round ps p = is_file p.node || is_pooled (is_compool_at ps p.around.home) p.node
+
+-- as many times as there are such phrases: no constant needs others that stand behind it more often than that
 unfoldable pub rounds : List Phrase → Known → List Phrase → Known
 rounds ps vs [] = vs
-rounds ps vs (p ∷ rest) = if is_file p.node then rounds ps (round ps vs ps) rest else rounds ps vs rest
+rounds ps vs (p ∷ rest) = if starts_round ps p then rounds ps (round ps vs ps) rest else rounds ps vs rest
 
 -- no value is known
 abbrev pub nothing_known : List Phrase → Known

@@ -15,7 +15,9 @@ use crate::constant::Constant;
 use crate::known::Known;
 use crate::naming::{constant_at, constant_named, literal_constant, operation_named};
 use crate::operation::Operation;
-use crate::results::{apply_one, apply_two, picked_all, picked_from, picked_one, picked_to, whole};
+use crate::results::{
+    apply_one, apply_two, picked_all, picked_from, picked_one, picked_to, whole, worse,
+};
 use hal_names::Names;
 use hal_operations::{Op1, Op2, place_count};
 use hal_phrases::{Node, Phrase};
@@ -289,7 +291,7 @@ fn computed(
     }
 }
 
-/// The product of a constant and a parenthesis.
+/// The product of a constant and a parenthesis; with another list it is no constant where what stands before it is none, as a FUNCTION.
 #[cycle(constants)]
 #[tactic(auto, using(hal_kinds::proofs::Lists::none_left), unfolding(crate::specs::Constants::multiplied, hal_tree::specs::Rows::expressions))]
 fn multiplied(
@@ -302,7 +304,7 @@ fn multiplied(
     ensures { result ≡ constants.multiplied (seen_names names.now) (seen_known known.now) (seen_phrase phrase.now) factor (expressions (map seen_expression arguments.now)) }
 {
     let Some((tree, others)) = arguments.split_first() else {
-        return Constant::Unfit;
+        return worse(&factor, &Constant::Unfit);
     };
     if others.is_empty() {
         apply_two(
@@ -311,7 +313,7 @@ fn multiplied(
             &constant_of(tree, names, known, phrase),
         )
     } else {
-        Constant::Unfit
+        worse(&factor, &Constant::Unfit)
     }
 }
 

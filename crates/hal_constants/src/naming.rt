@@ -32,7 +32,7 @@ pub fn is_value_item(common: &[Attribute], item: &Declared) -> bool
 }
 
 /// Whether the phrase with this number is a COMPOOL's unit.
-fn is_compool_at(names: &Names<'_>, number: usize) -> bool
+pub(crate) fn is_compool_at(names: &Names<'_>, number: usize) -> bool
     ensures { result ≡ naming.is_compool_at (seen_names names.now) number }
 {
     match names.phrase(number) {

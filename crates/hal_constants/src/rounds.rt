@@ -1,6 +1,6 @@
 //! How the values of constants become known.
 
-ghost use Rattle.std.specs.Prelude.{◌≡◌, IfOk, None, OnOk, map, replicate, slice_set};
+ghost use Rattle.std.specs.Prelude.{◌≡◌, IfOk, IsFalse, IsTrue, None, OnOk, Some, map, replicate, slice_get, slice_set};
 ghost use Rattle.hal_phrases.specs.SeenPhrases.{seen_node, seen_phrase};
 ghost use Rattle.hal_names.specs.SeenNames.{seen_names};
 ghost use Rattle.hal_constants.specs.Naming as naming;
@@ -9,6 +9,7 @@ ghost use Rattle.hal_constants.specs.SeenKnown.{seen_known, seen_value};
 
 use crate::constant::Constant;
 use crate::known::Known;
+use crate::naming::{is_compool_at, is_value_item};
 use crate::valued::declared_value;
 use hal_names::Names;
 use hal_phrases::{Node, Phrase};
@@ -22,10 +23,11 @@ impl Known {
         ensures { IfOk result (λ k. seen_known k ≡ facts.known (seen_names names.now)) }
     {
         let mut known = Known::nothing(alloc, names)?;
+        let mut changes = true;
         let phrases = names.phrases();
         for phrase in phrases {
-            if is_file(phrase.node) {
-                known.round(alloc, names)?;
+            if changes && starts_round(names, phrase) {
+                changes = known.round(alloc, names)?;
             }
         }
         Ok(known)
@@ -52,27 +54,52 @@ impl Known {
         Ok(Known { values })
     }
 
-    /// The values where those of all phrases are known, one after another.
+    /// The values where those of all phrases are known, one after another. False where none has changed.
     #[tactic(auto, unfolding(crate::specs::Known::round))]
-    fn round(&mut self, alloc: Global, names: &Names<'_>) -> Result<(), AllocError>
-        ensures { OnOk result (seen_known self.new ≡ facts.round (seen_names names.now) (seen_known self.old) (seen_names names.now)) }
+    fn round(&mut self, alloc: Global, names: &Names<'_>) -> Result<bool, AllocError>
+        ensures known { OnOk result (seen_known self.new ≡ facts.round (seen_names names.now) (seen_known self.old) (seen_names names.now)) }
+        ensures same { IfOk result (λ changes. IsFalse changes → seen_known self.new ≡ seen_known self.old) }
     {
+        let mut changes = false;
         let phrases = names.phrases();
         for phrase in phrases {
             let value = declared_value(names, self, phrase);
-            self.note(alloc, phrase.number, value)?;
+            if self.note(alloc, phrase.number, value)? {
+                changes = true;
+            }
         }
-        Ok(())
+        Ok(changes)
     }
 
-    /// Notes the value of the phrase with this number.
-    #[tactic(auto, using(crate::proofs::Slots::map_set))]
-    fn note(&mut self, alloc: Global, number: usize, value: Option<Value>) -> Result<(), AllocError>
-        ensures { OnOk result (seen_known self.new ≡ slice_set (seen_known self.old) number value) }
+    /// Notes the value of the phrase with this number. False where it was noted before.
+    #[tactic(auto, using(crate::proofs::Slots::set_same, crate::proofs::Slots::map_set))]
+    fn note(
+        &mut self,
+        alloc: Global,
+        number: usize,
+        value: Option<Value>,
+    ) -> Result<bool, AllocError>
+        ensures known { OnOk result (seen_known self.new ≡ slice_set (seen_known self.old) number value) }
+        ensures same { IfOk result (λ changes. IsFalse changes → seen_known self.new ≡ seen_known self.old) }
     {
+        if self.has(number, &value) {
+            return Ok(false);
+        }
         let slot = boxed(alloc, value)?;
         self.put(number, slot);
-        Ok(())
+        Ok(true)
+    }
+
+    /// Whether this value is noted of the phrase with this number, or none where there is none.
+    #[tactic(auto, using(crate::proofs::Slots::get_mapped))]
+    fn has(&self, number: usize, value: &Option<Value>) -> bool
+        ensures { IsTrue result → slice_get (seen_known self.now) number ≡ Some value.now }
+    {
+        match (self.values.get(number), value) {
+            (Some(None), None) => true,
+            (Some(Some(noted)), Some(value)) => is_same(noted, value),
+            _ => false,
+        }
     }
 
     /// Replaces what stands at this place, if there is such a place.
@@ -110,6 +137,24 @@ impl Known {
     }
 }
 
+/// Whether two values are the same.
+fn is_same(one: &Value, other: &Value) -> bool
+    ensures { IsTrue result → one.now ≡ other.now }
+{
+    match (one, other) {
+        (Value::Int(one), Value::Int(other)) => one == other,
+        (
+            Value::Bits { len: one, word },
+            Value::Bits {
+                len: other,
+                word: bits,
+            },
+        ) => { one == other && word == bits }
+        (Value::Text(one), Value::Text(other)) => one.bytes() == other.bytes(),
+        _ => false,
+    }
+}
+
 /// A value on the heap, where there is one.
 fn boxed(alloc: Global, value: Option<Value>) -> Result<Option<Box<Value>>, AllocError>
     ensures { IfOk result (λ slot. seen_value slot ≡ value) }
@@ -118,6 +163,24 @@ fn boxed(alloc: Global, value: Option<Value>) -> Result<Option<Box<Value>>, Allo
         None => Ok(None),
         Some(value) => Ok(Some(Box::new(alloc, value)?)),
     }
+}
+
+/// Whether a phrase is a constant that is its value, in a COMPOOL.
+#[tactic(auto, unfolding(crate::specs::Known::is_pooled))]
+fn is_pooled(of_compool: bool, node: Node<'_>) -> bool
+    ensures { result ≡ facts.is_pooled of_compool (seen_node node.entry) }
+{
+    match node {
+        Node::Item { common, item } => is_value_item(common, item) && of_compool,
+        _ => false,
+    }
+}
+
+/// Whether a round begins with a phrase: with a file, and with a constant of a COMPOOL.
+fn starts_round(names: &Names<'_>, phrase: &Phrase<'_>) -> bool
+    ensures { result ≡ facts.starts_round (seen_names names.now) (seen_phrase phrase.now) }
+{
+    is_file(phrase.node) || is_pooled(is_compool_at(names, phrase.around.home), phrase.node)
 }
 
 /// Whether a phrase is a file.
