@@ -25,7 +25,7 @@ use Rattle.hal_operations.specs.Strings.{bits_of}
 use Rattle.hal_sound_values.proofs.RightStrings.{fitted_is_bits}
 use Rattle.hal_constants.specs.declared.constant.Constant.{Constant}
 use Rattle.hal_constants.specs.declared.constant.Constant.TheVariants as constant
-use Rattle.hal_constants.specs.Known.{Known, kind_of_item, kind_of_type, kept, fitted, only_in, declared_value, noted, round, rounds, is_file, nothing_known, known}
+use Rattle.hal_constants.specs.Known.{Known, kind_of_item, kind_of_type, kept, fitted, only_in, declared_value, noted, round, rounds, starts_round, nothing_known, known}
 use Rattle.hal_constants.specs.Naming.{is_value_item, value_at}
 use Rattle.hal_constants.specs.Operands.{is_storable, is_string}
 use Rattle.hal_meaning.specs.Variables.{MeantConstant, meant_by}
@@ -141,7 +141,7 @@ rounds_noted : (ps : List Phrase) (vs : Known) (rest : List Phrase) → AllNoted
 unfolding rounds
 rounds_noted ps vs [] all = all
 rounds_noted ps vs (p ∷ rest) all =
-    rounds_by ps (is_file p.node) (rounds ps (round ps vs ps) rest) (rounds ps vs rest) (rounds_noted ps (round ps vs ps) rest (round_noted ps vs ps (λ q within. within) all)) (rounds_noted ps vs rest all)
+    rounds_by ps (starts_round ps p) (rounds ps (round ps vs ps) rest) (rounds ps vs rest) (rounds_noted ps (round ps vs ps) rest (round_noted ps vs ps (λ q within. within) all)) (rounds_noted ps vs rest all)
 
 nothing_noted : (n k : ℕ) (v : Value) → value_at (replicate n None) k ≡ Some v → ⊥
 nothing_noted zero k v is = absurd (cc)
