@@ -36,7 +36,7 @@ mutual
   initials_first d a NoInitials = no_step d
   initials_first d a (MoreInitials first others) = then_ (initial_first d a first) (initials_first _ a others)
 
-attribute_first : (a : Around) (d : List Phrase) (x : Attribute) → AreFirst d (gathered_attribute a d x)
+pub attribute_first : (a : Around) (d : List Phrase) (x : Attribute) → AreFirst d (gathered_attribute a d x)
 unfolding gathered_attribute
 attribute_first a d (Dimensions p sizes) = expressions_first d a _ sizes
 attribute_first a d (Typed kind) = kind_first d a kind
@@ -57,7 +57,7 @@ part_first : (a : Around) (bottom : Bool) (d : List Phrase) (part : Part) → Ar
 unfolding gathered_part
 part_first a bottom d part = then_ (one d a _) (attributes_first (below d a) _ part.attributes)
 
-parts_first : (a : Around) (unclosed : List OpenPart) (d : List Phrase) (parts : List Part) → AreFirst d (gathered_parts a unclosed d parts)
+pub parts_first : (a : Around) (unclosed : List OpenPart) (d : List Phrase) (parts : List Part) → AreFirst d (gathered_parts a unclosed d parts)
 unfolding gathered_parts
 parts_first a unclosed d [] = no_step d
 parts_first a unclosed d (x ∷ xs) =

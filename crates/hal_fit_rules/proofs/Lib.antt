@@ -1,6 +1,6 @@
-mod Beginning
-mod BegunExpressions
-mod Unbroken
+pub mod Beginning
+pub mod BegunExpressions
+pub mod Unbroken
 mod Classes
 mod Limiting
 pub mod Kinding
@@ -10,8 +10,8 @@ mod Passing
 mod Areas
 mod Forming
 pub mod Agreeing
-mod BegunStatements
-mod BegunDeclarations
+pub mod BegunStatements
+pub mod BegunDeclarations
 mod BegunUnits
 pub mod Stating
 pub mod Declaring

@@ -1,0 +1,16 @@
+mod Loose
+mod RightKnown
+mod Holding
+mod Valuing
+mod Folding
+mod Suiting
+mod Keeping
+mod Plain
+mod PlainExpressions
+mod PlainStatements
+mod PlainDeclarations
+mod Placing
+mod Sizing
+mod Declaring
+mod Owning
+mod MeantNames

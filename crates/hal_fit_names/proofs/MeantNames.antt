@@ -1,0 +1,183 @@
+-- Names of values agree in a set that breaks no rule, where what is left is known.
+use Rattle.std.proofs.Common.{◌≡◌, ℕ, Bool, true, false, not, ◌&&◌, ◌||◌, List, [], ◌++◌, Option, Some, None, slice_get, refl, sym, ap, ◌∙◌, inl, inr}
+use Rattle.std.specs.Prelude.{if◌then◌else◌}
+use Rattle.std.specs.Option.{option_and_then, is_some}
+use Rattle.hal_base.specs.declared.refusal.Place.{Place}
+use Rattle.hal_grammar.specs.Expressions.{Expressions, Refers, Subscript}
+use Rattle.hal_phrases.specs.declared.role.Role.{Role}
+use Rattle.hal_grammar.specs.Declarations.{Kind, StructureKind, Attribute, Declared}
+use Rattle.hal_grammar.specs.Units.{Program, Compool, Task, Procedure, Function}
+use Rattle.hal_phrases.specs.Phrases.{Node, Phrase, OfFile, OfTemplate, OfUnit, OfParameter, OfItem, OfStructure, OfPart, OfLabel, OfTemporaryGroup, OfReference}
+use Rattle.hal_names.specs.declared.key.Key.{Key}
+use Rattle.hal_names.specs.declared.key.Space.{Space}
+use Rattle.hal_names.specs.declared.key.Space.TheVariants as space
+use Rattle.hal_names.specs.Keys.{key, declared_at, declared_by}
+use Rattle.hal_names.specs.Laws.{IsCounted}
+use Rattle.hal_names.specs.Means.{means}
+use Rattle.hal_scope.specs.declared.builtin.Builtin.{Builtin}
+use Rattle.hal_scope.specs.declared.builtin.Form.{Form}
+use Rattle.hal_scope.specs.declared.builtin.Form.TheVariants as form
+use Rattle.hal_scope.specs.declared.sort.Sort.{Sort}
+use Rattle.hal_scope.specs.declared.usage.Usage.{Usage}
+use Rattle.hal_scope.specs.declared.usage.Usage.TheVariants as usage
+use Rattle.hal_scope.specs.declared.used.Use.{Use}
+use Rattle.hal_scope.specs.Builtins.{builtin_named, form_of}
+use Rattle.hal_scope.specs.Rules.{Row, IsAmong, IsSound, rows, ruled}
+use Rattle.hal_scope.specs.Sorts.{type_of, sort_of, sort_of_head, usage_of, use_of_reference, used, is_known, fits_builtin}
+use Rattle.hal_scope.specs.Uses.{is_nil, unless, sort_at, is_known_builtin, is_known_use, unknown, fits_declared, fits_named, fits_use, misused}
+use Rattle.hal_kinds.specs.declared.class.Class.TheVariants as class
+use Rattle.hal_kinds.specs.Attributes.{sizes_of}
+use Rattle.hal_kinds.specs.Data.{class_of_type, has_copies, dimensions_of, data_with, data_of, data_at, is_event_type, is_structure_type, is_parameter}
+use Rattle.hal_attributes.specs.Typed.{untyped, is_no_variable, misplaced_event}
+use Rattle.hal_types.specs.Rules.{attribute_rows, operand_rows, use_rows, size_rows, type_rows}
+use Rattle.hal_constants.specs.Naming.{is_value_item}
+use Rattle.hal_meaning.specs.Places.{is_in_unit}
+use Rattle.hal_agreement.specs.Sites.{Site}
+use Rattle.hal_fit_expr.specs.Uses.{Uses}
+use Rattle.hal_fit_rules.specs.Agreeing.{NameAgrees}
+use Rattle.hal_fit_rules.specs.Happening.{AsksAll}
+use Rattle.hal_fit_rules.specs.Owned.{IsOwn}
+use Rattle.hal_fit_rules.specs.Valued.{HasConstants}
+use Rattle.hal_fit_rules.proofs.Constants.{constant_agrees}
+use Rattle.hal_fit_rules.proofs.Declaring.{plain_data_agree, temporary_agrees, builtin_agrees, function_agrees}
+use Rattle.hal_fit_rules.proofs.Happening.{event_agrees, process_agrees}
+use Rattle.hal_fit_rules.proofs.Structuring.{structure_agrees}
+use Rattle.hal_fit_rules.proofs.Unbroken.{among_first, unbroken, ruled_none}
+use Rattle.hal_fit_names.specs.Named.{AreLeft}
+use Rattle.hal_fit_names.specs.Suited.{HasFitLiterals, AreDeclared, is_templated}
+use Rattle.hal_fit_names.proofs.Declaring.{plain_data}
+use Rattle.hal_fit_names.proofs.Owning.{own_number}
+use Rattle.hal_fit_names.proofs.Placing.{NodePlaced, at_among}
+use Rattle.hal_fit_names.proofs.Suiting.{unless_true}
+
+-- a built-in function whose name is a value has no list
+alone_form : (f : Form) → is_known usage.Value f ≡ true → (not (is_known usage.Value f) || fits_builtin usage.Value f) ≡ true → f ≡ form.Alone
+alone_form form.Alone is fits = refl
+alone_form form.Listed is fits = absurd (cc)
+alone_form form.Arrayed is fits = absurd (cc)
+
+-- the space of a key
+abbrev space_of : Option Key → Option Space
+space_of None = None
+space_of (Some k) = Some k.space
+
+of_attributes : (row : Row) → IsAmong row attribute_rows → IsAmong row type_rows
+unfolding type_rows
+of_attributes row listed = among_first row attribute_rows (operand_rows ++ (use_rows ++ size_rows)) listed
+
+no_sizes : (o : Option Expressions) (parameter : Bool) → not (true && (is_some o || parameter)) ≡ true → o ≡ None
+no_sizes None parameter is = refl
+no_sizes (Some sizes) parameter is = absurd (cc)
+
+structure_class : (t : Kind) → is_structure_type (Some t) ≡ true → class_of_type t ≡ class.Structure
+unfolding is_structure_type class_of_type
+structure_class (StructureKind place template copies) is = refl
+structure_class other is = absurd (cc)
+
+in_unit : (b : Bool) → not b ≡ false → b ≡ true
+in_unit true is = refl
+in_unit false is = absurd (cc)
+
+module _ (u : Uses) (site : Site) (named : IsSound rows site.set.phrases) (sound : IsSound type_rows site.set.phrases) (counted : IsCounted site.set.phrases) (declared : AreDeclared site.set.phrases) (literals : HasFitLiterals site.set.phrases)
+    (has : HasConstants site) (asks : AsksAll u site) (left : AreLeft u site) (placed : (p : Phrase) → IsAmong p site.set.phrases → NodePlaced site.set.phrases p p.node) where
+  item_typed : (p : Phrase) (common : List Attribute) (item : Declared) → IsAmong p site.set.phrases → p.node ≡ OfItem common item → is_some (type_of common item) ≡ true
+  unfolding attribute_rows untyped
+  item_typed p common item within is =
+      unless_true (is_some (type_of common item)) item.name.place
+      (ruled_none 323 (untyped (OfItem common item)) (ap (λ n. ruled 323 (untyped n)) (sym is) ∙ unbroken type_rows site.set.phrases sound p within (λ qs q. ruled 323 (untyped q.node)) (of_attributes (λ qs q. ruled 323 (untyped q.node)) (inl refl))))
+
+  event_single : (p : Phrase) (common : List Attribute) (item : Declared) → IsAmong p site.set.phrases → p.node ≡ OfItem common item → is_event_type (type_of common item) ≡ true → sizes_of common item ≡ None
+  unfolding attribute_rows misplaced_event
+  event_single p common item within is eventful =
+      let none = ruled_none 327 (misplaced_event site.set.phrases p (OfItem common item))
+      (ap (λ n. ruled 327 (misplaced_event site.set.phrases p n)) (sym is) ∙ unbroken type_rows site.set.phrases sound p within (λ qs q. ruled 327 (misplaced_event qs q q.node)) (of_attributes (λ qs q. ruled 327 (misplaced_event qs q q.node)) (inr (inr (inr (inl refl)))))) in
+      no_sizes (sizes_of common item) (is_parameter site.set.phrases p item.name.name)
+      (ap (λ b. not (b && (is_some (sizes_of common item) || is_parameter site.set.phrases p item.name.name))) (sym eventful)
+      ∙ unless_true (not (is_event_type (type_of common item) && is_no_variable site.set.phrases p common item)) item.name.place none)
+
+  -- a constant, or other data that are no event and no structure
+  stored_agrees : (name : List ℕ) (own : IsOwn site name) (common : List Attribute) (item : Declared) (t : Kind) (valued : Bool) → own.phrase.node ≡ OfItem common item → IsAmong own.phrase site.set.phrases → type_of common item ≡ Some t
+      → is_event_type (Some t) ≡ false → is_structure_type (Some t) ≡ false → is_value_item common item ≡ valued → NameAgrees u site site.set.phrases site.block name []
+  stored_agrees name own common item t true is within typed eventless plain valued =
+      let worth = left.valued own.number own.phrase common item own.there is valued in
+      constant_agrees u site counted has name own
+      (record { common = common; item = item; declares = is; kind = t; typed = typed; eventless = eventless; valued = valued; value = worth.0; worth = worth.1 })
+  stored_agrees name own common item t false is within typed eventless plain valued =
+      plain_data_agree u site name own (plain_data site.set.phrases named sound counted declared literals site refl has own.phrase (placed own.phrase within) common item t is typed valued eventless plain)
+
+  structured_agrees : (name : List ℕ) (own : IsOwn site name) (common : List Attribute) (item : Declared) (t : Kind) (structured : Bool) → own.phrase.node ≡ OfItem common item → IsAmong own.phrase site.set.phrases → type_of common item ≡ Some t
+      → is_event_type (Some t) ≡ false → is_structure_type (Some t) ≡ structured → NameAgrees u site site.set.phrases site.block name []
+  unfolding data_at is_nil data_of
+  structured_agrees name own common item t true is within typed eventless structured =
+      structure_agrees u site name [] own
+      (record { common = common; item = item; declares = is; kind = t; typed = typed; structured = structured; declared = data_with (class_of_type t) (dimensions_of (sizes_of common item)) (has_copies t); known = ap (λ o. data_of o (sizes_of common item)) typed; whole = structure_class t structured })
+  structured_agrees name own common item t false is within typed eventless structured = stored_agrees name own common item t (is_value_item common item) is within typed eventless structured refl
+
+  typed_agrees : (name : List ℕ) (own : IsOwn site name) (common : List Attribute) (item : Declared) (t : Kind) (eventful : Bool) → own.phrase.node ≡ OfItem common item → IsAmong own.phrase site.set.phrases → type_of common item ≡ Some t
+      → is_in_unit site.set.phrases own.phrase.around.home ≡ true → is_event_type (Some t) ≡ eventful → NameAgrees u site site.set.phrases site.block name []
+  typed_agrees name own common item t true is within typed home eventful =
+      let eventful_type : is_event_type (type_of common item) ≡ true = ap is_event_type typed ∙ eventful in
+      event_agrees u site asks counted name own (record { common = common; item = item; declares = is; eventful = eventful_type; sized = event_single own.phrase common item within is eventful_type; within = home })
+  typed_agrees name own common item t false is within typed home eventful = structured_agrees name own common item t (is_structure_type (Some t)) is within typed eventful refl
+
+  item_agrees : (name : List ℕ) (own : IsOwn site name) (common : List Attribute) (item : Declared) (o : Option Kind) → own.phrase.node ≡ OfItem common item → IsAmong own.phrase site.set.phrases → type_of common item ≡ o
+      → is_in_unit site.set.phrases own.phrase.around.home ≡ true → NameAgrees u site site.set.phrases site.block name []
+  item_agrees name own common item None is within typed home = let other : false ≡ true = ap (λ (o : Option Kind). is_some o) (sym typed) ∙ item_typed own.phrase common item within is in absurd (cc)
+  item_agrees name own common item (Some t) is within typed home = typed_agrees name own common item t (is_event_type (Some t)) is within typed home refl
+
+  -- what a phrase declares, by what it is
+  node_agrees : (name : List ℕ) (own : IsOwn site name) (owner : ℕ) (q : Phrase) (n : Node) → own.phrase.node ≡ n → IsAmong own.phrase site.set.phrases → declared_at own.phrase.number own.phrase.around n ≡ Some (key space.Declared owner name)
+      → is_templated site.set.phrases own.phrase n ≡ false → fits_declared site.set.phrases q usage.Value (sort_of n) ≡ true → NameAgrees u site site.set.phrases site.block name []
+  unfolding sort_of sort_of_head declared_at
+  node_agrees name own owner q (OfTemplate unit head declarations) is within declares plain fits = absurd (cc)
+  node_agrees name own owner q (OfUnit unit (Program place) declarations) is within declares plain fits =
+      process_agrees u site asks counted name own (record { name = unit; head = Program place; declarations = declarations; declares = is; process = refl })
+  node_agrees name own owner q (OfUnit unit (Task place) declarations) is within declares plain fits =
+      process_agrees u site asks counted name own (record { name = unit; head = Task place; declarations = declarations; declares = is; process = refl })
+  node_agrees name own owner q (OfUnit unit (Compool place) declarations) is within declares plain fits = absurd (cc)
+  node_agrees name own owner q (OfUnit unit (Procedure place inputs outputs mode) declarations) is within declares plain fits = absurd (cc)
+  node_agrees name own owner q (OfUnit unit (Function place inputs returns mode) declarations) is within declares plain fits =
+      function_agrees u site name own (left.called own.number own.phrase unit place inputs returns mode declarations own.there is)
+  node_agrees name own owner q (OfItem common item) is within declares plain fits = item_agrees name own common item (type_of common item) is within refl (in_unit (is_in_unit site.set.phrases own.phrase.around.home) plain)
+  node_agrees name own owner q (OfTemporaryGroup labels variable) is within declares plain fits = temporary_agrees u site name own (record { labels = labels; variable = variable; declares = is })
+  node_agrees name own owner q (OfStructure structure parts) is within declares plain fits = absurd (cc)
+  node_agrees name own owner q (OfLabel label) is within declares plain fits = absurd (cc)
+  node_agrees name own owner q (OfFile prefaces unit) is within declares plain fits = let other : Some space.Unit ≡ Some space.Declared = ap space_of declares in absurd (cc)
+  node_agrees name own owner q (OfParameter parameter output) is within declares plain fits = let other : Some space.Parameter ≡ Some space.Declared = ap space_of declares in absurd (cc)
+  node_agrees name own owner q (OfPart bottom part) is within declares plain fits = let other : Some space.Part ≡ Some space.Declared = ap space_of declares in absurd (cc)
+  node_agrees name own owner q other is within declares plain fits = absurd (cc)
+
+  builtin_by : (name : List ℕ) (o : Option Builtin) → means site.set.phrases site.block name ≡ None → builtin_named name ≡ o → elim o [ None ↦ false | Some b ↦ is_known usage.Value (form_of b) ] ≡ true
+      → elim o [ None ↦ true | Some b ↦ not (is_known usage.Value (form_of b)) || fits_builtin usage.Value (form_of b) ] ≡ true → NameAgrees u site site.set.phrases site.block name []
+  builtin_by name None undeclared is known_ fits = absurd (cc)
+  builtin_by name (Some b) undeclared is known_ fits = builtin_agrees u site name (record { undeclared = undeclared; function = b; named = is; alone = alone_form (form_of b) known_ fits; asked = λ asking. asks.asks })
+
+  meant_by_name : (name : List ℕ) (q : Phrase) (o : Option ℕ) → means site.set.phrases site.block name ≡ o → (is_some o || is_known_builtin name usage.Value) ≡ true
+      → elim o [ None ↦ fits_named name usage.Value | Some k ↦ fits_declared site.set.phrases q usage.Value (sort_at site.set.phrases k) ] ≡ true → NameAgrees u site site.set.phrases site.block name []
+  meant_by_name name q None meant known_ fits = builtin_by name (builtin_named name) meant refl known_ fits
+  meant_by_name name q (Some k) meant known_ fits =
+      let is_declared = declared site.block name k meant in
+      let first = is_declared.1 in
+      let p : Phrase = first.declaring in
+      let plain = left.untemplated name k p meant first.there in
+      node_agrees name (record { number = k; meant = meant; phrase = p; there = first.there; own = own_number site.set.phrases k p first.there plain }) is_declared.0 q p.node refl (at_among site.set.phrases k p first.there) first.declares plain
+      (ap (λ o. fits_declared site.set.phrases q usage.Value (option_and_then (λ (x : Phrase). sort_of x.node) o)) (sym first.there) ∙ fits)
+
+  -- the name of a reference that is a value
+  pub value_agrees : (q : Phrase) (role : Role) (place : Place) (name : List ℕ) (x : Subscript) → IsAmong q site.set.phrases → q.node ≡ OfReference role (Refers place name [] x) → usage_of role ≡ usage.Value → q.around.block ≡ site.block
+      → NameAgrees u site site.set.phrases site.block name []
+  unfolding unknown misused used use_of_reference
+  value_agrees q role place name x within is wanted here =
+      let ps : List Phrase = site.set.phrases in
+      let block : ℕ = q.around.block in
+      let w : Usage = usage_of role in
+      let no_unknown = ruled_none 601 (unknown ps q) (unbroken rows ps named q within (λ qs o. ruled 601 (unknown qs o)) (inl refl)) in
+      let no_misuse = ruled_none 603 (misused ps q) (unbroken rows ps named q within (λ qs o. ruled 603 (misused qs o)) (inr (inr (inl refl)))) in
+      let known_ : (is_some (means ps block name) || is_known_builtin name w) ≡ true = unless_true (is_some (means ps block name) || is_known_builtin name w) place
+      (ap (λ n. option_and_then (λ (v : Use). unless (is_known_use ps block v) v.place) (used n)) (sym is) ∙ no_unknown) in
+      let fits : elim (means ps block name) [ None ↦ fits_named name w | Some k ↦ fits_declared ps q w (sort_at ps k) ] ≡ true = unless_true (elim (means ps block name) [ None ↦ fits_named name w | Some k ↦ fits_declared ps q w (sort_at ps k) ]) place
+      (ap (λ n. option_and_then (λ (v : Use). unless (fits_use ps q v) v.place) (used n)) (sym is) ∙ no_misuse) in
+      meant_by_name name q (means ps site.block name) refl
+      (ap (λ b. is_some (means ps b name) || is_known_builtin name usage.Value) (sym here) ∙ (ap (λ v. is_some (means ps block name) || is_known_builtin name v) (sym wanted) ∙ known_))
+      (ap (λ b. elim (means ps b name) [ None ↦ fits_named name usage.Value | Some k ↦ fits_declared ps q usage.Value (sort_at ps k) ]) (sym here)
+      ∙ (ap (λ v. elim (means ps block name) [ None ↦ fits_named name v | Some k ↦ fits_declared ps q v (sort_at ps k) ]) (sym wanted) ∙ fits))

@@ -1,0 +1,36 @@
+-- What a unit declares stands for itself.
+use Rattle.std.proofs.Common.{◌≡◌, ℕ, Bool, true, false, not, List, Option, Some, None, slice_get, refl, sym, ap, ◌∙◌}
+use Rattle.std.specs.Option.{option_and_then}
+use Rattle.hal_phrases.specs.Phrases.{Node, Phrase, OfFile, OfTemplate, OfUnit, OfItem}
+use Rattle.hal_names.specs.Means.{means}
+use Rattle.hal_meaning.specs.Bodies.{is_unit, pooled_at, meant_at, standing_for}
+use Rattle.hal_meaning.specs.Places.{is_in_unit}
+use Rattle.hal_agreement.specs.Sites.{Site}
+use Rattle.hal_fit_rules.specs.Owned.{IsOwn}
+use Rattle.hal_fit_names.specs.Suited.{is_templated}
+
+unit_pools : (ps : List Phrase) (name : List ℕ) (n : Node) → is_unit n ≡ true → pooled_at ps name n ≡ None
+unit_pools ps name (OfUnit of head declarations) is = refl
+unit_pools ps name (OfFile prefaces unit) is = absurd (cc)
+unit_pools ps name other is = absurd (cc)
+
+home_pools : (ps : List Phrase) (name : List ℕ) (o : Option Phrase) → elim o [ None ↦ false | Some h ↦ is_unit h.node ] ≡ true → option_and_then (λ (h : Phrase). pooled_at ps name h.node) o ≡ None
+home_pools ps name None is = absurd (cc)
+home_pools ps name (Some h) is = unit_pools ps name h.node is
+
+-- a phrase that is no template's stands for nothing else
+itself : (ps : List Phrase) (p : Phrase) (n : Node) → is_templated ps p n ≡ false → meant_at ps p n ≡ None
+itself ps p (OfTemplate name head declarations) plain = absurd (cc)
+itself ps p (OfItem common item) plain = by (is_in_unit ps p.around.home) refl plain where
+  by : (b : Bool) → is_in_unit ps p.around.home ≡ b → not b ≡ false → meant_at ps p (OfItem common item) ≡ None
+  by true is none = home_pools ps item.name.name (slice_get ps p.around.home) is
+  by false is none = absurd (cc)
+itself ps p other plain = refl
+
+pub own_number : (ps : List Phrase) (k : ℕ) (p : Phrase) → slice_get ps k ≡ Some p → is_templated ps p p.node ≡ false → standing_for ps k ≡ k
+own_number ps k p there plain =
+    ap (λ (o : Option ℕ). elim o [ None ↦ k | Some other ↦ other ]) (ap (option_and_then (λ (q : Phrase). meant_at ps q q.node)) there ∙ itself ps p p.node plain)
+
+-- so a name that means it is own
+pub own_name : (site : Site) (name : List ℕ) (k : ℕ) (p : Phrase) → means site.set.phrases site.block name ≡ Some k → slice_get site.set.phrases k ≡ Some p → is_templated site.set.phrases p p.node ≡ false → IsOwn site name
+own_name site name k p meant there plain = record { number = k; meant = meant; phrase = p; there = there; own = own_number site.set.phrases k p there plain }

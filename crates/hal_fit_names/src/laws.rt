@@ -1,0 +1,107 @@
+//! What holds of a set of files that breaks no rule of names or types.
+
+ghost use Rattle.std.specs.Prelude.{◌≡◌, ℕ, false, true, Bool, List, [], Some, slice_get};
+ghost use Rattle.hal_grammar.specs.Declarations.{Attribute, Declared, Kind};
+ghost use Rattle.hal_base.specs.declared.refusal.Place.{Place};
+ghost use Rattle.hal_grammar.specs.Expressions.{Expression, NoExpressions, Refers, Subscript};
+ghost use Rattle.hal_grammar.specs.Leaves.{Naming};
+ghost use Rattle.hal_grammar.specs.Units.{File};
+ghost use Rattle.hal_phrases.specs.declared.around.Around.{Around};
+ghost use Rattle.hal_phrases.specs.declared.role.Role.{Role};
+ghost use Rattle.hal_phrases.specs.declared.role.Role.TheVariants as role;
+ghost use Rattle.hal_phrases.specs.GatheredExpressions.{gathered};
+ghost use Rattle.hal_phrases.specs.GatheredUnits.{phrases_of};
+ghost use Rattle.hal_phrases.specs.Phrases.{OfItem, OfReference, Phrase};
+ghost use Rattle.hal_names.specs.Means.{means};
+ghost use Rattle.hal_scope.specs.Rules.{IsAmong, IsSound, rows};
+ghost use Rattle.hal_scope.specs.declared.usage.Usage.TheVariants as usage;
+ghost use Rattle.hal_scope.specs.Sorts.{type_of, usage_of};
+ghost use Rattle.hal_kinds.specs.Attributes.{sizes_of};
+ghost use Rattle.hal_kinds.specs.Classes.{class_of};
+ghost use Rattle.hal_kinds.specs.Data.{is_event_type, is_structure_type};
+ghost use Rattle.hal_types.specs.Rules.{type_rows};
+ghost use Rattle.hal_values.specs.declared.value.Kind as values;
+ghost use Rattle.hal_constants.specs.declared.constant.Constant.TheVariants as constant;
+ghost use Rattle.hal_constants.specs.Constants.{constant_of};
+ghost use Rattle.hal_constants.specs.Known.{kind_of_type, known};
+ghost use Rattle.hal_constants.specs.Naming.{is_value_item};
+ghost use Rattle.hal_shapes.specs.Arguments.{parameter_of};
+ghost use Rattle.hal_agreement.specs.Sites.{Site};
+ghost use Rattle.hal_fit_expr.specs.Uses.{Uses};
+ghost use Rattle.hal_fit_rules.specs.Agreeing.{NameAgrees};
+ghost use Rattle.hal_fit_rules.specs.Begun.{AreFirst};
+ghost use Rattle.hal_fit_rules.specs.Happening.{AsksAll};
+ghost use Rattle.hal_fit_rules.specs.Leaves.{is_value_role};
+ghost use Rattle.hal_fit_rules.specs.Owned.{IsOwn, IsPlainData};
+ghost use Rattle.hal_fit_rules.specs.Passing.{IsParameter};
+ghost use Rattle.hal_fit_rules.specs.Valued.{HasConstants};
+ghost use Rattle.hal_fit_names.specs.Named.{AreLeft};
+ghost use Rattle.hal_fit_names.specs.Suited.{HasFitLiterals, is_templated, Suits};
+
+use hal_names::{phrases_are_counted, what_is_meant_declares_the_name};
+
+/// In a set of files that breaks no rule of names or types, no operand of an expression is wrong where a constant is needed, and a value of it is a right one of
+/// the class of the expression; this is so for each phrase in the block of the expression, before which other constants may stand (language document, Kinds).
+pub fn constant_expressions_suit_their_classes()
+    ensures { (files : List File) (before : List Phrase) (around : Around) (role : Role) (tree : Expression) (p : Phrase) → IsSound rows (phrases_of files) → IsSound type_rows (phrases_of files)
+        → HasFitLiterals (phrases_of files) → is_value_role role ≡ true → AreFirst (gathered before around role tree) (phrases_of files) → around.block ≡ p.around.block
+        → Suits (class_of (phrases_of files) around.block tree) (constant_of (phrases_of files) (known (phrases_of files)) p tree) }
+{
+    phrases_are_counted();
+    what_is_meant_declares_the_name();
+}
+
+/// The kind of the cells of what such a set declares is known, where that is no structure and no constant that is its value: a length of bits or of a text is a
+/// number within its limits, in the phrase of the length and in that of the name (language document, Kinds).
+pub fn kinds_of_cells_are_known()
+    ensures { (files : List File) (p : Phrase) (common : List Attribute) (item : Declared) (kind : Kind) (double : Bool) → IsSound rows (phrases_of files) → IsSound type_rows (phrases_of files)
+        → HasFitLiterals (phrases_of files) → IsAmong p (phrases_of files) → p.node ≡ OfItem common item → type_of common item ≡ Some kind → is_structure_type (Some kind) ≡ false
+        → is_value_item common item ≡ false → (cells : values.Kind) × (kind_of_type (phrases_of files) (known (phrases_of files)) p double (Some kind) ≡ Some cells) }
+{
+    phrases_are_counted();
+    what_is_meant_declares_the_name();
+}
+
+/// So data of the set are plain data for the laws of names where they are no event, no structure and no constant that is its value; and a parameter that is no such
+/// constant is one for the laws of arguments (language document, Names and Calls).
+pub fn declared_data_are_known()
+    ensures data { (files : List File) (site : Site) (p : Phrase) (common : List Attribute) (item : Declared) (kind : Kind) → site.set.phrases ≡ phrases_of files → HasConstants site
+        → IsSound rows (phrases_of files) → IsSound type_rows (phrases_of files) → HasFitLiterals (phrases_of files) → IsAmong p (phrases_of files) → p.node ≡ OfItem common item → type_of common item ≡ Some kind
+        → is_event_type (Some kind) ≡ false → is_structure_type (Some kind) ≡ false → is_value_item common item ≡ false → IsPlainData site p }
+    ensures parameter { (files : List File) (site : Site) (unit : ℕ) (name : Naming) (p : Phrase) (common : List Attribute) (item : Declared) (kind : Kind) → site.set.phrases ≡ phrases_of files
+        → HasConstants site → IsSound rows (phrases_of files) → IsSound type_rows (phrases_of files) → HasFitLiterals (phrases_of files) → parameter_of site.set.phrases unit name ≡ Some p
+        → IsAmong p (phrases_of files) → p.node ≡ OfItem common item → type_of common item ≡ Some kind → (sizes_of common item ≡ Some NoExpressions → ⊥) → is_value_item common item ≡ false
+        → IsParameter site unit name }
+{
+    phrases_are_counted();
+    what_is_meant_declares_the_name();
+}
+
+/// And no operand of a channel is wrong (language document, Statements).
+pub fn channels_have_right_operands()
+    ensures { (files : List File) (p : Phrase) (before : List Phrase) (around : Around) (tree : Expression) → IsSound rows (phrases_of files) → IsSound type_rows (phrases_of files)
+        → HasFitLiterals (phrases_of files) → AreFirst (gathered before around role.Channel tree) (phrases_of files) → around.block ≡ p.around.block
+        → constant_of (phrases_of files) (known (phrases_of files)) p tree ≡ constant.Unfit → ⊥ }
+{
+    phrases_are_counted();
+    what_is_meant_declares_the_name();
+}
+
+/// A name means itself where it means no written template and nothing that one declares for its file: so it is own, as the laws of names ask (language document,
+/// Templates).
+pub fn names_of_no_template_are_own()
+    ensures { (site : Site) (name : List ℕ) (k : ℕ) (p : Phrase) → means site.set.phrases site.block name ≡ Some k → slice_get site.set.phrases k ≡ Some p → is_templated site.set.phrases p p.node ≡ false
+        → IsOwn site name }
+{}
+
+/// A name without a path agrees that is used as a value, outside of UPDATE blocks, in a set of files that breaks no rule of names or types: it means data, an event, a
+/// process, a structure, a constant, a FUNCTION or a built-in function, each of which is for the meaning what it is for the checks. What is left is that written
+/// templates are apart, that constants have values, and that FUNCTIONs may be called (language document, Names).
+pub fn names_of_values_agree()
+    ensures { (u : Uses) (files : List File) (site : Site) (q : Phrase) (role : Role) (place : Place) (name : List ℕ) (subscript : Subscript) → site.set.phrases ≡ phrases_of files → HasConstants site
+        → AsksAll u site → AreLeft u site → IsSound rows (phrases_of files) → IsSound type_rows (phrases_of files) → HasFitLiterals (phrases_of files) → IsAmong q (phrases_of files)
+        → q.node ≡ OfReference role (Refers place name [] subscript) → usage_of role ≡ usage.Value → q.around.block ≡ site.block → NameAgrees u site site.set.phrases site.block name [] }
+{
+    phrases_are_counted();
+    what_is_meant_declares_the_name();
+}

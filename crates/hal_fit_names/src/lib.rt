@@ -1,0 +1,10 @@
+//! What the rules say of the names of units is what their code wants: what follows from rules of names and types that a set doesn't break for its constant
+//! expressions and for what it declares. `specs/` says when a constant suits its expression; what follows is said in `laws`.
+#![tactic(auto)]
+
+mod laws;
+
+pub use laws::{
+    channels_have_right_operands, constant_expressions_suit_their_classes, declared_data_are_known,
+    kinds_of_cells_are_known, names_of_no_template_are_own, names_of_values_agree,
+};
