@@ -1,5 +1,5 @@
 -- What a set declares is for the laws of names what they ask for.
-use Rattle.std.proofs.Common.{◌≡◌, ℕ, Bool, false, List, ◌++◌, Option, Some, sym, ap, ◌∙◌, subst}
+use Rattle.std.proofs.Common.{◌≡◌, ℕ, Bool, false, List, ◌++◌, Some, ap, ◌∙◌}
 use Rattle.hal_grammar.specs.Leaves.{Naming}
 use Rattle.hal_grammar.specs.Declarations.{Kind, Double, Attribute, Declared}
 use Rattle.hal_grammar.specs.Expressions.{NoExpressions}

@@ -1,5 +1,5 @@
 -- Operands one after another that suit, and arguments of built-in functions.
-use Rattle.std.proofs.Common.{◌≡◌, ℕ, Bool, true, false, ◌&&◌, List, Option, Some, None, refl, sym, ap, ◌∙◌, subst}
+use Rattle.std.proofs.Common.{◌≡◌, ℕ, true, ◌&&◌, List, Option, Some, None, refl, sym, ap, ◌∙◌, subst}
 use Rattle.std.specs.Prelude.{if◌then◌else◌}
 use Rattle.std.specs.Option.{option_and_then, option_or, is_some}
 use Rattle.hal_base.specs.declared.refusal.Place.{Place}
@@ -34,7 +34,7 @@ use Rattle.hal_constants.specs.Constants.{operation_of_sign, constant_of, folded
 use Rattle.hal_constants.specs.Known.{Known}
 use Rattle.hal_fit_rules.proofs.Unbroken.{no_rule}
 use Rattle.hal_fit_names.specs.Suited.{class_of_value, Suits}
-use Rattle.hal_fit_names.proofs.Holding.{fits_want, Holds, held, IsIdle, IsSane, held_sane, suited_sane, idle_suits, idle_left, idle_right, values_suit, is_arithmetic, arithmetic_suits, is_bitwise, strings_take, strings_joined, texts_joined, text_then_integer, integer_then_text, abs_suits, signum_suits, odd_suits, length_suits, trim_suits, xor_suits, index_suits, left_suits, right_suits}
+use Rattle.hal_fit_names.proofs.Holding.{fits_want, Holds, held, IsIdle, held_sane, suited_sane, idle_suits, idle_left, idle_right, values_suit, is_arithmetic, arithmetic_suits, is_bitwise, strings_take, strings_joined, texts_joined, text_then_integer, integer_then_text, abs_suits, signum_suits, odd_suits, length_suits, trim_suits, xor_suits, index_suits, left_suits, right_suits}
 
 pub bits_held : (c : Constant) → Suits (Some class.Bits) c → Holds want.Truth c
 bits_held (constant.Worth (value.Bits len word)) is = (is.right, refl)

@@ -1,17 +1,15 @@
 -- Values of constants are right ones, whatever rules are broken, but for literals of bits.
-use Rattle.std.proofs.Common.{◌≡◌, ℕ, ◌≤◌, ◌<◌, ◌^◌, zero, suc, pos, negsuc, ◌≤ℤ◌, length, Bool, true, false, ◌&&◌, ◌⊎◌, List, [], ◌∷◌, Option, Some, None, slice_get, refl, sym, ap, ◌∙◌, subst, inl, inr, arith}
-use Rattle.std.specs.Prelude.{nat_le, nat_lt, replicate, slice_set, if◌then◌else◌, Result, Ok, Err, IfOk}
+use Rattle.std.proofs.Common.{◌≡◌, ℕ, ◌^◌, pos, length, Bool, true, false, ◌&&◌, List, [], Option, Some, None, slice_get, refl, sym, subst, arith}
+use Rattle.std.specs.Prelude.{nat_le, nat_lt, if◌then◌else◌, Result, Ok, Err, IfOk}
 use Rattle.std.specs.Option.{is_some}
 use Rattle.std.proofs.lemmas.Bool.{and_parts, leb-true, ltb-true}
 use Rattle.hal_grammar.specs.Leaves.{Naming, Sign, Plus, Minus, LiteralValue, Integer, Text, Bits, True, False, On, Off}
-use Rattle.hal_grammar.specs.Expressions.{Expression, Or, And, Compare, Cat, Sum, Product, Power, Not, Literal, Decimal, Referred, Called, Convert, Parenthesis, Expressions, NoExpressions, MoreExpressions, Terms, NoTerms, MoreTerms, Reference, Refers, Subscript, Unsubscripted, ByName, ByInteger, ByParts, Subscripts, NoSubscripts, MoreSubscripts, Sub, Every, One, Range, Portion, Position, FromBeginning, FromEnd}
-use Rattle.hal_grammar.specs.Declarations.{Initial, Value as InitialValue, LiteralTimes, NameTimes, ListTimes, Initials, NoInitials, MoreInitials}
-use Rattle.hal_phrases.specs.Phrases.{Node, Phrase, OfFile, OfInclude, OfTemplate, OfUnit, OfParameter, OfClose, OfDeclare, OfItem, OfStructure, OfPart, OfStructureType, OfInitial, OfInitialName, OfLabel, OfExpression, OfDecimal, OfCallForm, OfReference, OfSubscriptName, OfAssignment, OfGroup, OfTemporaryGroup, OfVariable, OfExit, OfRepeat, OfReturn, OfCall, OfRead, OfWrite, OfUpdate, OfRealTime, OfProcess, OfEvent, OfHandler, OfResponse, OfOffError, OfSendError}
+use Rattle.hal_grammar.specs.Expressions.{Expression, Or, And, Compare, Cat, Sum, Product, Power, Not, Literal, Decimal, Referred, Called, Convert, Parenthesis, Expressions, NoExpressions, MoreExpressions, Terms, NoTerms, MoreTerms, Reference, Refers, Subscript, Unsubscripted, ByName, ByInteger, ByParts, Subscripts, NoSubscripts, MoreSubscripts, Sub, Every, One, Range, Portion}
+use Rattle.hal_phrases.specs.Phrases.{Node, Phrase, OfTemplate, OfUnit, OfItem, OfTemporaryGroup}
 use Rattle.hal_names.specs.Means.{means}
 use Rattle.hal_scope.specs.Builtins.{builtin_named}
 use Rattle.hal_scope.specs.Uses.{is_nil}
 use Rattle.hal_kinds.specs.Attributes.{no_more}
-use Rattle.hal_kinds.specs.Attributes as attributes
 use Rattle.hal_values.specs.declared.value.Value.{Value}
 use Rattle.hal_values.specs.declared.value.Value.TheVariants as value
 use Rattle.hal_values.specs.declared.environment.ErrNo.{ErrNo}
@@ -33,7 +31,7 @@ use Rattle.hal_constants.specs.declared.constant.Constant.TheVariants as constan
 use Rattle.hal_constants.specs.declared.operation.Operation.{Operation}
 use Rattle.hal_constants.specs.declared.operation.Operation.TheVariants as operation
 use Rattle.hal_constants.specs.Operands.{is_string, takes_string, takes_strings, takes_one, takes_two, has_components}
-use Rattle.hal_constants.specs.Results.{worth, worse, apply_one, apply_two, whole, component, component_at, component_to, component_from, picked_one, picked_to, picked_from, picked_all}
+use Rattle.hal_constants.specs.Results.{worth, worse, apply_one, apply_two, whole, component, component_at, component_to, component_from, picked_one, picked_to, picked_from}
 use Rattle.hal_constants.specs.Naming.{is_value_item, is_before, value_at, constant_known, constant_at, undeclared, constant_named, literal_constant, operation_named}
 use Rattle.hal_constants.specs.Constants.{operation_of_sign, signed, raised_to, raised, operation_of_conversion, is_none, factor_at, called_at, constant_of, folded, summed, computed, computed_second, multiplied, referred, subscripted, component_of, component_by, place_of}
 use Rattle.hal_constants.specs.Known.{Known}

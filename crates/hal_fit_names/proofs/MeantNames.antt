@@ -1,6 +1,5 @@
 -- Names of values agree in a set that breaks no rule, where what is left is known.
-use Rattle.std.proofs.Common.{◌≡◌, ℕ, Bool, true, false, not, ◌&&◌, ◌||◌, List, [], ◌++◌, Option, Some, None, slice_get, refl, sym, ap, ◌∙◌, inl, inr}
-use Rattle.std.specs.Prelude.{if◌then◌else◌}
+use Rattle.std.proofs.Common.{◌≡◌, ℕ, Bool, true, false, not, ◌&&◌, ◌||◌, List, [], ◌++◌, Option, Some, None, refl, sym, ap, ◌∙◌, inl, inr}
 use Rattle.std.specs.Option.{option_and_then, is_some}
 use Rattle.hal_base.specs.declared.refusal.Place.{Place}
 use Rattle.hal_grammar.specs.Expressions.{Expressions, Refers, Subscript}
@@ -11,13 +10,12 @@ use Rattle.hal_phrases.specs.Phrases.{Node, Phrase, OfFile, OfTemplate, OfUnit, 
 use Rattle.hal_names.specs.declared.key.Key.{Key}
 use Rattle.hal_names.specs.declared.key.Space.{Space}
 use Rattle.hal_names.specs.declared.key.Space.TheVariants as space
-use Rattle.hal_names.specs.Keys.{key, declared_at, declared_by}
+use Rattle.hal_names.specs.Keys.{key, declared_at}
 use Rattle.hal_names.specs.Laws.{IsCounted}
 use Rattle.hal_names.specs.Means.{means}
 use Rattle.hal_scope.specs.declared.builtin.Builtin.{Builtin}
 use Rattle.hal_scope.specs.declared.builtin.Form.{Form}
 use Rattle.hal_scope.specs.declared.builtin.Form.TheVariants as form
-use Rattle.hal_scope.specs.declared.sort.Sort.{Sort}
 use Rattle.hal_scope.specs.declared.usage.Usage.{Usage}
 use Rattle.hal_scope.specs.declared.usage.Usage.TheVariants as usage
 use Rattle.hal_scope.specs.declared.used.Use.{Use}

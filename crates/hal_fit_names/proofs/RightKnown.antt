@@ -1,9 +1,8 @@
 -- What is known of a phrase is a right value of the class of its type.
-use Rattle.std.proofs.Common.{◌≡◌, ◌≤◌, ℕ, zero, suc, Bool, true, false, ◌&&◌, ◌⊎◌, List, [], ◌∷◌, length, Option, Some, None, slice_get, refl, sym, ap, ◌∙◌, subst, inl, inr}
+use Rattle.std.proofs.Common.{◌≡◌, ℕ, zero, suc, Bool, true, false, ◌&&◌, ◌⊎◌, List, [], ◌∷◌, length, Option, Some, None, refl, sym, ap, ◌∙◌, subst, inl, inr}
 use Rattle.std.specs.Prelude.{◌==◌, nat_le, replicate, slice_set, if◌then◌else◌, Result, Ok, Err, IfOk}
 use Rattle.std.proofs.lemmas.Bool.{and_parts, leb-true}
 use Rattle.hal_grammar.specs.Declarations.{Kind, IntegerKind, BooleanKind, EventKind, BitKind, CharacterKind, StructureKind, Double, Attribute, Declared, Initial, Value as InitialValue, LiteralTimes, NameTimes, ListTimes, Initials, NoInitials, MoreInitials}
-use Rattle.hal_grammar.specs.Leaves.{Sign, Plus, Minus}
 use Rattle.hal_phrases.specs.Phrases.{Node, Phrase, OfItem}
 use Rattle.hal_scope.specs.Rules.{IsAmong}
 use Rattle.hal_scope.specs.Sorts.{type_of}
@@ -23,7 +22,7 @@ use Rattle.hal_sound_values.specs.Right.{IsRight}
 use Rattle.hal_sound_values.proofs.KindsKept.{stored_is, right_is}
 use Rattle.hal_constants.specs.declared.constant.Constant.{Constant}
 use Rattle.hal_constants.specs.declared.constant.Constant.TheVariants as constant
-use Rattle.hal_constants.specs.Constants.{constant_of, signed}
+use Rattle.hal_constants.specs.Constants.{constant_of}
 use Rattle.hal_constants.specs.Known.{Known, size_of, bits_kind, text_kind, kind_of, kind_of_type, kind_of_item, kept, fitted, gives_none, only_of, only_with, only_in, signed_literal, signed_name, declared_value, noted, round, is_file, rounds, nothing_known, known}
 use Rattle.hal_constants.specs.Naming.{is_value_item, value_at, literal_constant, constant_named}
 use Rattle.hal_constants.specs.Operands.{is_storable, is_string}

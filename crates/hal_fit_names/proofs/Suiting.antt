@@ -1,11 +1,11 @@
 -- Constant expressions of a set that breaks no rule of names or types suit their classes.
-use Rattle.std.proofs.Common.{◌≡◌, ℕ, zero, Bool, true, false, ◌&&◌, ◌||◌, List, [], Option, Some, None, slice_get, length, refl, sym, ap, ◌∙◌, subst, inl, inr, pos}
+use Rattle.std.proofs.Common.{◌≡◌, ℕ, Bool, true, false, ◌&&◌, ◌||◌, List, [], Option, Some, None, slice_get, length, refl, sym, ap, ◌∙◌, subst, inl, inr, pos}
 use Rattle.std.specs.Prelude.{nat_le, nat_lt, if◌then◌else◌, ◌^◌}
 use Rattle.std.specs.Option.{option_and_then, option_or, is_some}
 use Rattle.std.proofs.lemmas.Bool.{and_parts, leb-true, ltb-true}
 use Rattle.hal_base.specs.declared.refusal.Place.{Place}
 use Rattle.hal_grammar.specs.Declarations.{Attribute, Declared}
-use Rattle.hal_grammar.specs.Leaves.{Naming, Sign, Plus, Minus, LiteralValue, Integer, Text, Bits, True, False, On, Off, Conversion, ToInteger, ToBits, ToText}
+use Rattle.hal_grammar.specs.Leaves.{Naming, Sign, Plus, Minus, LiteralValue, Integer, Text, Bits, True, False, On, Off, ToInteger, ToBits, ToText}
 use Rattle.hal_grammar.specs.Expressions.{Expression, Or, And, Compare, Cat, Sum, Product, Power, Not, Literal, Decimal, Referred, Called, Convert, Parenthesis, Expressions, NoExpressions, MoreExpressions, Terms, NoTerms, MoreTerms, Reference, Refers, Subscript, Unsubscripted, ByName, ByInteger, ByParts, Subscripts, NoSubscripts, MoreSubscripts, Sub, Every, One as OnePlace, Range, Portion, Position, FromBeginning, FromEnd, place_of}
 use Rattle.hal_phrases.specs.declared.around.Around.{Around}
 use Rattle.hal_phrases.specs.declared.role.Role.{Role}
@@ -16,7 +16,6 @@ use Rattle.hal_phrases.specs.GatheredExpressions.{below, gathered, gathered_all,
 use Rattle.hal_names.specs.Laws.{IsCounted}
 use Rattle.hal_names.specs.Means.{means}
 use Rattle.hal_scope.specs.declared.builtin.Builtin.{Builtin}
-use Rattle.hal_scope.specs.declared.usage.Usage.{Usage}
 use Rattle.hal_scope.specs.declared.usage.Usage.TheVariants as usage
 use Rattle.hal_scope.specs.Builtins.{builtin_named, form_of}
 use Rattle.hal_scope.specs.Rules.{IsSound, rows, ruled}
@@ -33,7 +32,7 @@ use Rattle.hal_kinds.specs.Subscripts as kinds
 use Rattle.hal_operands.specs.declared.want.Want.{Want}
 use Rattle.hal_operands.specs.declared.want.Want.TheVariants as want
 use Rattle.hal_operands.specs.Pairs.{joined_fault, pair_fault}
-use Rattle.hal_operands.specs.Wants.{wanted, misfit, misfit_at, name_misfit, unfit}
+use Rattle.hal_operands.specs.Wants.{wanted, misfit, misfit_at, unfit}
 use Rattle.hal_uses.specs.Calls.{formed_fault, factor_fault, product_fault, is_raised, declared_fault, miscalled}
 use Rattle.hal_uses.specs.Calls as calls
 use Rattle.hal_uses.specs.Forms.{no_exponent, is_exponent, is_integer_literal, is_integer_value}
@@ -51,7 +50,7 @@ use Rattle.hal_constants.specs.declared.constant.Constant.{Constant}
 use Rattle.hal_constants.specs.declared.constant.Constant.TheVariants as constant
 use Rattle.hal_constants.specs.Known.{known}
 use Rattle.hal_constants.specs.Naming.{constant_at, constant_named, literal_constant, operation_of, operation_named}
-use Rattle.hal_constants.specs.Results.{worse, apply_two, whole, picked_one}
+use Rattle.hal_constants.specs.Results.{worse, whole}
 use Rattle.hal_constants.specs.Constants.{operation_of_conversion, signed, raised_to, raised, is_none, factor_at, called_at, constant_of, folded, summed, computed, multiplied, referred, subscripted, component_of, component_by}
 use Rattle.hal_constants.specs.Constants as constants
 use Rattle.hal_fit_expr.specs.Sorted.{are_bits}
@@ -61,10 +60,10 @@ use Rattle.hal_fit_rules.specs.Leaves.{is_value_role}
 use Rattle.hal_fit_rules.proofs.Beginning.{then_, one, among}
 use Rattle.hal_fit_rules.proofs.BegunExpressions.{own_first, expression_first, expressions_first, terms_first, subscript_first, position_first}
 use Rattle.hal_fit_rules.proofs.Unbroken.{no_rule, ruled_none, unbroken, of_operands, of_uses, value_eventless, value_timeless, own_role, fit, matched, no_decimal}
-use Rattle.hal_fit_names.specs.Suited.{class_of_value, IsWorth, Suits, NodeIsFit, HasFitLiterals, AreDeclared}
+use Rattle.hal_fit_names.specs.Suited.{class_of_value, Suits, NodeIsFit, HasFitLiterals, AreDeclared}
 use Rattle.hal_fit_names.proofs.Loose.{string_is, whole_right}
 use Rattle.hal_fit_names.proofs.Holding.{Holds, held, IsIdle, IsSane, held_sane, idle_suits, idle_left, chosen, arithmetic_suits, minus_suits, not_suits, integer_suits, bit_suits, character_suits}
-use Rattle.hal_fit_names.proofs.Valuing.{IsValueItem, IsValueName, named_value, node_value, node_sane, named_sane, single, value_data, in_class, left_class, PartsFit, ComponentsFit, parts_fit, component_suits, one_picks, to_picks, from_picks}
+use Rattle.hal_fit_names.proofs.Valuing.{IsValueName, named_value, node_value, node_sane, named_sane, single, value_data, in_class, left_class, PartsFit, parts_fit, component_suits, one_picks, to_picks, from_picks}
 use Rattle.hal_fit_names.proofs.Folding.{AllFit, TermsFit, integer_held, holding_suits, beside_suits, product_holds, sum_holds, joined_suits, argument_held, built_suits}
 
 -- what roles want

@@ -3,7 +3,6 @@ use Rattle.std.proofs.Common.{◌≡◌, ℕ, zero, suc, ◌==◌, Bool, true, f
 use Rattle.std.specs.Prelude.{nat_lt, if◌then◌else◌, Result, Ok, Err, IfOk}
 use Rattle.std.specs.Option.{is_some}
 use Rattle.std.proofs.lemmas.Bool.{and_parts, lt-ltb, ne_eqb}
-use Rattle.hal_base.specs.declared.refusal.Place.{Place}
 use Rattle.hal_grammar.specs.Leaves.{Naming}
 use Rattle.hal_grammar.specs.Declarations.{Kind, StructureKind, Attribute, Declared}
 use Rattle.hal_grammar.specs.Expressions.{Expressions, Subscript, Unsubscripted, ByName, ByInteger, ByParts, Subscripts, NoSubscripts, MoreSubscripts}
@@ -40,7 +39,7 @@ use Rattle.hal_constants.specs.Operands.{has_components}
 use Rattle.hal_constants.specs.Results.{worth, component, component_at, component_to, component_from, picked_one, picked_to, picked_from}
 use Rattle.hal_fit_rules.proofs.Constants.{among_found, phrase_same}
 use Rattle.hal_fit_names.specs.Suited.{class_of_value, Suits, AreDeclared}
-use Rattle.hal_fit_names.proofs.Holding.{Holds, IsIdle, IsSane, held_sane, idle_suits, worse_left, worse_right, worth_suits, chosen, is_string_of}
+use Rattle.hal_fit_names.proofs.Holding.{Holds, IsSane, held_sane, idle_suits, worse_left, worse_right, worth_suits, chosen, is_string_of}
 use Rattle.hal_fit_names.proofs.RightKnown.{known_noted}
 
 -- a phrase declares a constant that is this value, to which a path without names leads
