@@ -1,12 +1,15 @@
 -- Names of values agree in a set that breaks no rule, where what is left is known.
-use Rattle.std.proofs.Common.{◌≡◌, ℕ, Bool, true, false, not, ◌&&◌, ◌||◌, List, [], ◌++◌, Option, Some, None, refl, sym, ap, ◌∙◌, inl, inr}
+use Rattle.std.proofs.Common.{◌≡◌, ℕ, Bool, true, false, not, ◌&&◌, ◌||◌, List, [], ◌++◌, Option, Some, None, slice_get, refl, sym, ap, ◌∙◌, inl, inr}
+use Rattle.std.specs.Prelude.{if◌then◌else◌}
 use Rattle.std.specs.Option.{option_and_then, is_some}
 use Rattle.hal_base.specs.declared.refusal.Place.{Place}
 use Rattle.hal_grammar.specs.Expressions.{Expressions, Refers, Subscript}
+use Rattle.hal_grammar.specs.Leaves.{Naming}
 use Rattle.hal_phrases.specs.declared.role.Role.{Role}
+use Rattle.hal_phrases.specs.declared.role.Role.TheVariants as role
 use Rattle.hal_grammar.specs.Declarations.{Kind, StructureKind, Attribute, Declared}
 use Rattle.hal_grammar.specs.Units.{Program, Compool, Task, Procedure, Function}
-use Rattle.hal_phrases.specs.Phrases.{Node, Phrase, OfFile, OfTemplate, OfUnit, OfParameter, OfItem, OfStructure, OfPart, OfLabel, OfTemporaryGroup, OfReference}
+use Rattle.hal_phrases.specs.Phrases.{Node, Phrase, OfFile, OfTemplate, OfUnit, OfParameter, OfItem, OfStructure, OfPart, OfLabel, OfTemporaryGroup, OfReference, OfSubscriptName}
 use Rattle.hal_names.specs.declared.key.Key.{Key}
 use Rattle.hal_names.specs.declared.key.Space.{Space}
 use Rattle.hal_names.specs.declared.key.Space.TheVariants as space
@@ -21,26 +24,30 @@ use Rattle.hal_scope.specs.declared.usage.Usage.TheVariants as usage
 use Rattle.hal_scope.specs.declared.used.Use.{Use}
 use Rattle.hal_scope.specs.Builtins.{builtin_named, form_of}
 use Rattle.hal_scope.specs.Rules.{Row, IsAmong, IsSound, rows, ruled}
-use Rattle.hal_scope.specs.Sorts.{type_of, sort_of, sort_of_head, usage_of, use_of_reference, used, is_known, fits_builtin}
+use Rattle.hal_scope.specs.Sorts.{type_of, sort_of, sort_of_head, usage_of, use_of, use_of_reference, used, is_known, fits_builtin}
 use Rattle.hal_scope.specs.Uses.{is_nil, unless, sort_at, is_known_builtin, is_known_use, unknown, fits_declared, fits_named, fits_use, misused}
 use Rattle.hal_kinds.specs.declared.class.Class.TheVariants as class
+use Rattle.hal_kinds.specs.Attributes as attributes
 use Rattle.hal_kinds.specs.Attributes.{sizes_of}
 use Rattle.hal_kinds.specs.Data.{class_of_type, has_copies, dimensions_of, data_with, data_of, data_at, is_event_type, is_structure_type, is_parameter}
 use Rattle.hal_attributes.specs.Typed.{untyped, is_no_variable, misplaced_event}
+use Rattle.hal_uses.specs.Receivers.{is_input_parameter, may_receive, received_by, received, reference_receives, misreceived}
 use Rattle.hal_types.specs.Rules.{attribute_rows, operand_rows, use_rows, size_rows, type_rows}
 use Rattle.hal_constants.specs.Naming.{is_value_item}
 use Rattle.hal_meaning.specs.Places.{is_in_unit}
-use Rattle.hal_agreement.specs.Sites.{Site}
+use Rattle.hal_meaning.specs.Variables.{name_meant}
+use Rattle.hal_agreement.specs.Sites.{Site, here_at}
 use Rattle.hal_fit_expr.specs.Uses.{Uses}
 use Rattle.hal_fit_rules.specs.Agreeing.{NameAgrees}
 use Rattle.hal_fit_rules.specs.Happening.{AsksAll}
-use Rattle.hal_fit_rules.specs.Owned.{IsOwn}
+use Rattle.hal_fit_rules.specs.Owned.{IsOwn, IsStructureData}
+use Rattle.hal_fit_rules.specs.Received.{CellsAgree}
 use Rattle.hal_fit_rules.specs.Valued.{HasConstants}
 use Rattle.hal_fit_rules.proofs.Constants.{constant_agrees}
-use Rattle.hal_fit_rules.proofs.Declaring.{plain_data_agree, temporary_agrees, builtin_agrees, function_agrees}
+use Rattle.hal_fit_rules.proofs.Declaring.{plain_data_agree, plain_cells_agree, temporary_agrees, temporary_cells_agree, builtin_agrees, function_agrees}
 use Rattle.hal_fit_rules.proofs.Happening.{event_agrees, process_agrees}
-use Rattle.hal_fit_rules.proofs.Structuring.{structure_agrees}
-use Rattle.hal_fit_rules.proofs.Unbroken.{among_first, unbroken, ruled_none}
+use Rattle.hal_fit_rules.proofs.Structuring.{structure_agrees, structure_cells}
+use Rattle.hal_fit_rules.proofs.Unbroken.{among_first, unbroken, ruled_none, of_uses}
 use Rattle.hal_fit_names.specs.Named.{AreLeft}
 use Rattle.hal_fit_names.specs.Suited.{HasFitLiterals, AreDeclared, is_templated}
 use Rattle.hal_fit_names.proofs.Declaring.{plain_data}
@@ -71,6 +78,22 @@ structure_class : (t : Kind) → is_structure_type (Some t) ≡ true → class_o
 unfolding is_structure_type class_of_type
 structure_class (StructureKind place template copies) is = refl
 structure_class other is = absurd (cc)
+
+-- what is fixed or an event takes no value
+neither_true : (a b c : Bool) → not ((a || b) || c) ≡ true → (a ≡ false) × (c ≡ false)
+neither_true false false false is = (refl, refl)
+neither_true true b c is = absurd (cc)
+neither_true false true c is = absurd (cc)
+neither_true false false true is = absurd (cc)
+
+not_received : (f : Form) → is_known usage.Receiver f ≡ true → (not (is_known usage.Receiver f) || fits_builtin usage.Receiver f) ≡ true → ⊥
+not_received form.Alone is fits = cc
+not_received form.Listed is fits = cc
+not_received form.Arrayed is fits = cc
+
+may_be_received : (b : Bool) (fault : ℕ × Place) → (if b then None else Some fault) ≡ None → b ≡ true
+may_be_received true fault is = refl
+may_be_received false fault is = absurd (cc)
 
 in_unit : (b : Bool) → not b ≡ false → b ≡ true
 in_unit true is = refl
@@ -103,12 +126,23 @@ module _ (u : Uses) (site : Site) (named : IsSound rows site.set.phrases) (sound
   stored_agrees name own common item t false is within typed eventless plain valued =
       plain_data_agree u site name own (plain_data site.set.phrases named sound counted declared literals site refl has own.phrase (placed own.phrase within) common item t is typed valued eventless plain)
 
+  structure_data : (p : Phrase) (common : List Attribute) (item : Declared) (t : Kind) → p.node ≡ OfItem common item → type_of common item ≡ Some t → is_structure_type (Some t) ≡ true → IsStructureData site p []
+  unfolding data_at is_nil data_of
+  structure_data p common item t is typed structured = record {
+    common = common;
+    item = item;
+    declares = is;
+    kind = t;
+    typed = typed;
+    structured = structured;
+    declared = data_with (class_of_type t) (dimensions_of (sizes_of common item)) (has_copies t);
+    known = ap (λ o. data_of o (sizes_of common item)) typed;
+    whole = structure_class t structured;
+  }
+
   structured_agrees : (name : List ℕ) (own : IsOwn site name) (common : List Attribute) (item : Declared) (t : Kind) (structured : Bool) → own.phrase.node ≡ OfItem common item → IsAmong own.phrase site.set.phrases → type_of common item ≡ Some t
       → is_event_type (Some t) ≡ false → is_structure_type (Some t) ≡ structured → NameAgrees u site site.set.phrases site.block name []
-  unfolding data_at is_nil data_of
-  structured_agrees name own common item t true is within typed eventless structured =
-      structure_agrees u site name [] own
-      (record { common = common; item = item; declares = is; kind = t; typed = typed; structured = structured; declared = data_with (class_of_type t) (dimensions_of (sizes_of common item)) (has_copies t); known = ap (λ o. data_of o (sizes_of common item)) typed; whole = structure_class t structured })
+  structured_agrees name own common item t true is within typed eventless structured = structure_agrees u site name [] own (structure_data own.phrase common item t is typed structured)
   structured_agrees name own common item t false is within typed eventless structured = stored_agrees name own common item t (is_value_item common item) is within typed eventless structured refl
 
   typed_agrees : (name : List ℕ) (own : IsOwn site name) (common : List Attribute) (item : Declared) (t : Kind) (eventful : Bool) → own.phrase.node ≡ OfItem common item → IsAmong own.phrase site.set.phrases → type_of common item ≡ Some t
@@ -161,21 +195,87 @@ module _ (u : Uses) (site : Site) (named : IsSound rows site.set.phrases) (sound
       node_agrees name (record { number = k; meant = meant; phrase = p; there = first.there; own = own_number site.set.phrases k p first.there plain }) is_declared.0 q p.node refl (at_among site.set.phrases k p first.there) first.declares plain
       (ap (λ o. fits_declared site.set.phrases q usage.Value (option_and_then (λ (x : Phrase). sort_of x.node) o)) (sym first.there) ∙ fits)
 
+  -- a name that is used as a value
+  used_agrees : (q : Phrase) (place : Place) (name : List ℕ) → IsAmong q site.set.phrases → used q.node ≡ Some (use_of place name usage.Value) → q.around.block ≡ site.block → NameAgrees u site site.set.phrases site.block name []
+  unfolding unknown misused
+  used_agrees q place name within is here =
+      let ps : List Phrase = site.set.phrases in
+      let block : ℕ = q.around.block in
+      let no_unknown = ruled_none 601 (unknown ps q) (unbroken rows ps named q within (λ qs o. ruled 601 (unknown qs o)) (inl refl)) in
+      let no_misuse = ruled_none 603 (misused ps q) (unbroken rows ps named q within (λ qs o. ruled 603 (misused qs o)) (inr (inr (inl refl)))) in
+      let known_ : (is_some (means ps block name) || is_known_builtin name usage.Value) ≡ true = unless_true (is_some (means ps block name) || is_known_builtin name usage.Value) place
+      (ap (option_and_then (λ (v : Use). unless (is_known_use ps block v) v.place)) (sym is) ∙ no_unknown) in
+      let fits : elim (means ps block name) [ None ↦ fits_named name usage.Value | Some k ↦ fits_declared ps q usage.Value (sort_at ps k) ] ≡ true = unless_true (elim (means ps block name) [ None ↦ fits_named name usage.Value | Some k ↦ fits_declared ps q usage.Value (sort_at ps k) ]) place
+      (ap (option_and_then (λ (v : Use). unless (fits_use ps q v) v.place)) (sym is) ∙ no_misuse) in
+      meant_by_name name q (means ps site.block name) refl (ap (λ b. is_some (means ps b name) || is_known_builtin name usage.Value) (sym here) ∙ known_)
+      (ap (λ b. elim (means ps b name) [ None ↦ fits_named name usage.Value | Some k ↦ fits_declared ps q usage.Value (sort_at ps k) ]) (sym here) ∙ fits)
+
   -- the name of a reference that is a value
   pub value_agrees : (q : Phrase) (role : Role) (place : Place) (name : List ℕ) (x : Subscript) → IsAmong q site.set.phrases → q.node ≡ OfReference role (Refers place name [] x) → usage_of role ≡ usage.Value → q.around.block ≡ site.block
       → NameAgrees u site site.set.phrases site.block name []
-  unfolding unknown misused used use_of_reference
-  value_agrees q role place name x within is wanted here =
+  unfolding used use_of_reference
+  value_agrees q role place name x within is wanted here = used_agrees q place name within (ap used is ∙ ap (λ w. Some (use_of place name w)) wanted) here
+
+  -- and the one behind `$`
+  pub subscript_agrees : (q : Phrase) (name : Naming) → IsAmong q site.set.phrases → q.node ≡ OfSubscriptName name → q.around.block ≡ site.block → NameAgrees u site site.set.phrases site.block name.name []
+  unfolding used
+  subscript_agrees q name within is here = used_agrees q name.place name.name within (ap used is) here
+
+  -- data that may take a value
+  cells_by : (name : List ℕ) (own : IsOwn site name) (common : List Attribute) (item : Declared) (t : Kind) (structured : Bool) → own.phrase.node ≡ OfItem common item → IsAmong own.phrase site.set.phrases → type_of common item ≡ Some t
+      → is_event_type (Some t) ≡ false → is_some (attributes.constant_of common item) ≡ false → is_structure_type (Some t) ≡ structured → CellsAgree site.set.phrases [] (means site.set.phrases site.block name) (name_meant (here_at site) name [])
+  cells_by name own common item t true is within typed eventless free structured = structure_cells u site name [] own (structure_data own.phrase common item t is typed structured)
+  cells_by name own common item t false is within typed eventless free structured =
+      plain_cells_agree u site name own
+      (plain_data site.set.phrases named sound counted declared literals site refl has own.phrase (placed own.phrase within) common item t is typed (ap (λ b. b && (not (is_some (sizes_of common item)) && not (is_structure_type (type_of common item)))) free) eventless structured)
+
+  cells_typed : (name : List ℕ) (own : IsOwn site name) (common : List Attribute) (item : Declared) (o : Option Kind) → own.phrase.node ≡ OfItem common item → IsAmong own.phrase site.set.phrases → type_of common item ≡ o
+      → is_event_type (type_of common item) ≡ false → is_some (attributes.constant_of common item) ≡ false → CellsAgree site.set.phrases [] (means site.set.phrases site.block name) (name_meant (here_at site) name [])
+  cells_typed name own common item None is within typed eventless free = let other : false ≡ true = ap (λ (o : Option Kind). is_some o) (sym typed) ∙ item_typed own.phrase common item within is in absurd (cc)
+  cells_typed name own common item (Some t) is within typed eventless free = cells_by name own common item t (is_structure_type (Some t)) is within typed (ap is_event_type (sym typed) ∙ eventless) free refl
+
+  -- what may be received by a phrase
+  node_receives : (name : List ℕ) (own : IsOwn site name) (q : Phrase) (n : Node) → own.phrase.node ≡ n → IsAmong own.phrase site.set.phrases → fits_declared site.set.phrases q usage.Receiver (sort_of n) ≡ true
+      → may_receive site.set.phrases own.phrase n ≡ true → CellsAgree site.set.phrases [] (means site.set.phrases site.block name) (name_meant (here_at site) name [])
+  unfolding sort_of may_receive
+  node_receives name own q (OfItem common item) is within fits may =
+      let both = neither_true (is_some (attributes.constant_of common item)) (is_input_parameter site.set.phrases own.phrase item.name.name) (is_event_type (type_of common item)) may in
+      cells_typed name own common item (type_of common item) is within refl both.1 both.0
+  node_receives name own q (OfTemporaryGroup labels variable) is within fits may = temporary_cells_agree u site name own (record { labels = labels; variable = variable; declares = is })
+  node_receives name own q (OfStructure structure parts) is within fits may = absurd (cc)
+  node_receives name own q other is within fits may = absurd (cc)
+
+  no_builtin : {X : Type 0} (o : Option Builtin) → elim o [ None ↦ false | Some b ↦ is_known usage.Receiver (form_of b) ] ≡ true
+      → elim o [ None ↦ true | Some b ↦ not (is_known usage.Receiver (form_of b)) || fits_builtin usage.Receiver (form_of b) ] ≡ true → X
+  no_builtin None known_ fits = absurd (cc)
+  no_builtin (Some b) known_ fits = absurd (not_received (form_of b) known_ fits)
+
+  received_by_name : (name : List ℕ) (q : Phrase) (place : Place) (o : Option ℕ) → means site.set.phrases site.block name ≡ o → (is_some o || is_known_builtin name usage.Receiver) ≡ true
+      → elim o [ None ↦ fits_named name usage.Receiver | Some k ↦ fits_declared site.set.phrases q usage.Receiver (sort_at site.set.phrases k) ] ≡ true
+      → option_and_then (λ k. option_and_then (received_by site.set.phrases place) (slice_get site.set.phrases k)) o ≡ None → CellsAgree site.set.phrases [] (means site.set.phrases site.block name) (name_meant (here_at site) name [])
+  received_by_name name q place None meant known_ fits none = no_builtin (builtin_named name) known_ fits
+  received_by_name name q place (Some k) meant known_ fits none =
+      let first = (declared site.block name k meant).1 in
+      let p : Phrase = first.declaring in
+      let plain = left.untemplated name k p meant first.there in
+      node_receives name (record { number = k; meant = meant; phrase = p; there = first.there; own = own_number site.set.phrases k p first.there plain }) q p.node refl (at_among site.set.phrases k p first.there)
+      (ap (λ o. fits_declared site.set.phrases q usage.Receiver (option_and_then (λ (x : Phrase). sort_of x.node) o)) (sym first.there) ∙ fits)
+      (may_be_received (may_receive site.set.phrases p p.node) (709, place) (ap (option_and_then (received_by site.set.phrases place)) (sym first.there) ∙ none))
+
+  -- the name of a receiver
+  pub receiver_agrees : (q : Phrase) (place : Place) (name : List ℕ) (x : Subscript) → IsAmong q site.set.phrases → q.node ≡ OfReference role.Receiver (Refers place name [] x) → q.around.block ≡ site.block
+      → CellsAgree site.set.phrases [] (means site.set.phrases site.block name) (name_meant (here_at site) name [])
+  unfolding unknown misused used use_of_reference usage_of use_rows misreceived reference_receives
+  receiver_agrees q place name x within is here =
       let ps : List Phrase = site.set.phrases in
       let block : ℕ = q.around.block in
-      let w : Usage = usage_of role in
       let no_unknown = ruled_none 601 (unknown ps q) (unbroken rows ps named q within (λ qs o. ruled 601 (unknown qs o)) (inl refl)) in
       let no_misuse = ruled_none 603 (misused ps q) (unbroken rows ps named q within (λ qs o. ruled 603 (misused qs o)) (inr (inr (inl refl)))) in
-      let known_ : (is_some (means ps block name) || is_known_builtin name w) ≡ true = unless_true (is_some (means ps block name) || is_known_builtin name w) place
+      let no_fault = unbroken type_rows ps sound q within (λ qs o. misreceived qs o o.node) (of_uses (λ qs o. misreceived qs o o.node) (inr (inr (inr (inr (inr (inl refl))))))) in
+      let known_ : (is_some (means ps block name) || is_known_builtin name usage.Receiver) ≡ true = unless_true (is_some (means ps block name) || is_known_builtin name usage.Receiver) place
       (ap (λ n. option_and_then (λ (v : Use). unless (is_known_use ps block v) v.place) (used n)) (sym is) ∙ no_unknown) in
-      let fits : elim (means ps block name) [ None ↦ fits_named name w | Some k ↦ fits_declared ps q w (sort_at ps k) ] ≡ true = unless_true (elim (means ps block name) [ None ↦ fits_named name w | Some k ↦ fits_declared ps q w (sort_at ps k) ]) place
+      let fits : elim (means ps block name) [ None ↦ fits_named name usage.Receiver | Some k ↦ fits_declared ps q usage.Receiver (sort_at ps k) ] ≡ true = unless_true (elim (means ps block name) [ None ↦ fits_named name usage.Receiver | Some k ↦ fits_declared ps q usage.Receiver (sort_at ps k) ]) place
       (ap (λ n. option_and_then (λ (v : Use). unless (fits_use ps q v) v.place) (used n)) (sym is) ∙ no_misuse) in
-      meant_by_name name q (means ps site.block name) refl
-      (ap (λ b. is_some (means ps b name) || is_known_builtin name usage.Value) (sym here) ∙ (ap (λ v. is_some (means ps block name) || is_known_builtin name v) (sym wanted) ∙ known_))
-      (ap (λ b. elim (means ps b name) [ None ↦ fits_named name usage.Value | Some k ↦ fits_declared ps q usage.Value (sort_at ps k) ]) (sym here)
-      ∙ (ap (λ v. elim (means ps block name) [ None ↦ fits_named name v | Some k ↦ fits_declared ps q v (sort_at ps k) ]) (sym wanted) ∙ fits))
+      received_by_name name q place (means ps site.block name) refl (ap (λ b. is_some (means ps b name) || is_known_builtin name usage.Receiver) (sym here) ∙ known_)
+      (ap (λ b. elim (means ps b name) [ None ↦ fits_named name usage.Receiver | Some k ↦ fits_declared ps q usage.Receiver (sort_at ps k) ]) (sym here) ∙ fits)
+      (ap (λ b. received ps b place name) (sym here) ∙ (ap (misreceived ps q) (sym is) ∙ no_fault))

@@ -11,7 +11,7 @@ ghost use Rattle.hal_phrases.specs.declared.role.Role.{Role};
 ghost use Rattle.hal_phrases.specs.declared.role.Role.TheVariants as role;
 ghost use Rattle.hal_phrases.specs.GatheredExpressions.{gathered};
 ghost use Rattle.hal_phrases.specs.GatheredUnits.{phrases_of};
-ghost use Rattle.hal_phrases.specs.Phrases.{OfItem, OfReference, Phrase};
+ghost use Rattle.hal_phrases.specs.Phrases.{OfItem, OfReference, OfSubscriptName, Phrase};
 ghost use Rattle.hal_names.specs.Means.{means};
 ghost use Rattle.hal_scope.specs.Rules.{IsAmong, IsSound, rows};
 ghost use Rattle.hal_scope.specs.declared.usage.Usage.TheVariants as usage;
@@ -26,7 +26,8 @@ ghost use Rattle.hal_constants.specs.Constants.{constant_of};
 ghost use Rattle.hal_constants.specs.Known.{kind_of_type, known};
 ghost use Rattle.hal_constants.specs.Naming.{is_value_item};
 ghost use Rattle.hal_shapes.specs.Arguments.{parameter_of};
-ghost use Rattle.hal_agreement.specs.Sites.{Site};
+ghost use Rattle.hal_meaning.specs.Variables.{name_meant};
+ghost use Rattle.hal_agreement.specs.Sites.{Site, here_at};
 ghost use Rattle.hal_fit_expr.specs.Uses.{Uses};
 ghost use Rattle.hal_fit_rules.specs.Agreeing.{NameAgrees};
 ghost use Rattle.hal_fit_rules.specs.Begun.{AreFirst};
@@ -34,6 +35,7 @@ ghost use Rattle.hal_fit_rules.specs.Happening.{AsksAll};
 ghost use Rattle.hal_fit_rules.specs.Leaves.{is_value_role};
 ghost use Rattle.hal_fit_rules.specs.Owned.{IsOwn, IsPlainData};
 ghost use Rattle.hal_fit_rules.specs.Passing.{IsParameter};
+ghost use Rattle.hal_fit_rules.specs.Received.{CellsAgree};
 ghost use Rattle.hal_fit_rules.specs.Valued.{HasConstants};
 ghost use Rattle.hal_fit_names.specs.Named.{AreLeft};
 ghost use Rattle.hal_fit_names.specs.Suited.{HasFitLiterals, is_templated, Suits};
@@ -94,13 +96,27 @@ pub fn names_of_no_template_are_own()
         → IsOwn site name }
 {}
 
-/// A name without a path agrees that is used as a value, outside of UPDATE blocks, in a set of files that breaks no rule of names or types: it means data, an event, a
-/// process, a structure, a constant, a FUNCTION or a built-in function, each of which is for the meaning what it is for the checks. What is left is that written
-/// templates are apart, that constants have values, and that FUNCTIONs may be called (language document, Names).
+/// A name without a path agrees that is used as a value, outside of UPDATE blocks, in a set of files that breaks no rule of names or types, also behind `$`: it means
+/// data, an event, a process, a structure, a constant, a FUNCTION or a built-in function, each of which is for the meaning what it is for the checks. What is left is
+/// that written templates are apart, that constants have values, and that FUNCTIONs may be called (language document, Names).
 pub fn names_of_values_agree()
-    ensures { (u : Uses) (files : List File) (site : Site) (q : Phrase) (role : Role) (place : Place) (name : List ℕ) (subscript : Subscript) → site.set.phrases ≡ phrases_of files → HasConstants site
+    ensures reference { (u : Uses) (files : List File) (site : Site) (q : Phrase) (role : Role) (place : Place) (name : List ℕ) (subscript : Subscript) → site.set.phrases ≡ phrases_of files → HasConstants site
         → AsksAll u site → AreLeft u site → IsSound rows (phrases_of files) → IsSound type_rows (phrases_of files) → HasFitLiterals (phrases_of files) → IsAmong q (phrases_of files)
         → q.node ≡ OfReference role (Refers place name [] subscript) → usage_of role ≡ usage.Value → q.around.block ≡ site.block → NameAgrees u site site.set.phrases site.block name [] }
+    ensures subscript { (u : Uses) (files : List File) (site : Site) (q : Phrase) (name : Naming) → site.set.phrases ≡ phrases_of files → HasConstants site → AsksAll u site → AreLeft u site
+        → IsSound rows (phrases_of files) → IsSound type_rows (phrases_of files) → HasFitLiterals (phrases_of files) → IsAmong q (phrases_of files) → q.node ≡ OfSubscriptName name
+        → q.around.block ≡ site.block → NameAgrees u site site.set.phrases site.block name.name [] }
+{
+    phrases_are_counted();
+    what_is_meant_declares_the_name();
+}
+
+/// The name of a receiver without a path means cells that are for the meaning what they are for the checks (language document, Assignments).
+pub fn names_of_receivers_agree()
+    ensures { (u : Uses) (files : List File) (site : Site) (q : Phrase) (place : Place) (name : List ℕ) (subscript : Subscript) → site.set.phrases ≡ phrases_of files → HasConstants site
+        → AsksAll u site → AreLeft u site → IsSound rows (phrases_of files) → IsSound type_rows (phrases_of files) → HasFitLiterals (phrases_of files) → IsAmong q (phrases_of files)
+        → q.node ≡ OfReference role.Receiver (Refers place name [] subscript) → q.around.block ≡ site.block
+        → CellsAgree site.set.phrases [] (means site.set.phrases site.block name) (name_meant (here_at site) name []) }
 {
     phrases_are_counted();
     what_is_meant_declares_the_name();
