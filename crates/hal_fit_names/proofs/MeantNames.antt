@@ -7,9 +7,10 @@ use Rattle.hal_grammar.specs.Expressions.{Expressions, Refers, Subscript}
 use Rattle.hal_grammar.specs.Leaves.{Naming}
 use Rattle.hal_phrases.specs.declared.role.Role.{Role}
 use Rattle.hal_phrases.specs.declared.role.Role.TheVariants as role
-use Rattle.hal_grammar.specs.Declarations.{Kind, StructureKind, Attribute, Declared}
+use Rattle.hal_grammar.specs.Declarations.{Kind, IntegerKind, BooleanKind, EventKind, BitKind, CharacterKind, StructureKind, Attribute, Declared}
+use Rattle.hal_grammar.specs.Statements.{Eventful}
 use Rattle.hal_grammar.specs.Units.{Program, Compool, Task, Procedure, Function}
-use Rattle.hal_phrases.specs.Phrases.{Node, Phrase, OfFile, OfTemplate, OfUnit, OfParameter, OfItem, OfStructure, OfPart, OfLabel, OfTemporaryGroup, OfReference, OfSubscriptName}
+use Rattle.hal_phrases.specs.Phrases.{Node, Phrase, OfFile, OfTemplate, OfUnit, OfParameter, OfItem, OfStructure, OfPart, OfLabel, OfTemporaryGroup, OfReference, OfSubscriptName, OfEvent}
 use Rattle.hal_names.specs.declared.key.Key.{Key}
 use Rattle.hal_names.specs.declared.key.Space.{Space}
 use Rattle.hal_names.specs.declared.key.Space.TheVariants as space
@@ -24,30 +25,34 @@ use Rattle.hal_scope.specs.declared.usage.Usage.TheVariants as usage
 use Rattle.hal_scope.specs.declared.used.Use.{Use}
 use Rattle.hal_scope.specs.Builtins.{builtin_named, form_of}
 use Rattle.hal_scope.specs.Rules.{Row, IsAmong, IsSound, rows, ruled}
-use Rattle.hal_scope.specs.Sorts.{type_of, sort_of, sort_of_head, usage_of, use_of, use_of_reference, used, is_known, fits_builtin}
+use Rattle.hal_scope.specs.Sorts.{type_of, sort_of, sort_of_type, sort_of_head, usage_of, use_of, use_of_reference, used, is_known, fits_builtin}
 use Rattle.hal_scope.specs.Uses.{is_nil, unless, sort_at, is_known_builtin, is_known_use, unknown, fits_declared, fits_named, fits_use, misused}
 use Rattle.hal_kinds.specs.declared.class.Class.TheVariants as class
 use Rattle.hal_kinds.specs.Attributes as attributes
 use Rattle.hal_kinds.specs.Attributes.{sizes_of}
 use Rattle.hal_kinds.specs.Data.{class_of_type, has_copies, dimensions_of, data_with, data_of, data_at, is_event_type, is_structure_type, is_parameter}
+use Rattle.hal_operands.specs.Wants.{at}
 use Rattle.hal_attributes.specs.Typed.{untyped, is_no_variable, misplaced_event}
-use Rattle.hal_uses.specs.Receivers.{is_input_parameter, may_receive, received_by, received, reference_receives, misreceived}
+use Rattle.hal_uses.specs.Receivers.{is_input_parameter, is_component, put_fault, put, may_receive, received_by, received, reference_receives, misreceived}
 use Rattle.hal_types.specs.Rules.{attribute_rows, operand_rows, use_rows, size_rows, type_rows}
 use Rattle.hal_constants.specs.Naming.{is_value_item}
 use Rattle.hal_meaning.specs.Places.{is_in_unit}
+use Rattle.hal_code.specs.declared.image.ImageParts.{ImageParts}
 use Rattle.hal_meaning.specs.Variables.{name_meant}
 use Rattle.hal_agreement.specs.Sites.{Site, here_at}
 use Rattle.hal_fit_expr.specs.Uses.{Uses}
 use Rattle.hal_fit_rules.specs.Agreeing.{NameAgrees}
-use Rattle.hal_fit_rules.specs.Happening.{AsksAll}
+use Rattle.hal_fit_rules.specs.Happening.{AsksAll, IsEvent}
 use Rattle.hal_fit_rules.specs.Owned.{IsOwn, IsStructureData}
 use Rattle.hal_fit_rules.specs.Received.{CellsAgree}
+use Rattle.hal_fit_rules.specs.Signalled.{EventAgrees, HasEvents}
 use Rattle.hal_fit_rules.specs.Valued.{HasConstants}
 use Rattle.hal_fit_rules.proofs.Constants.{constant_agrees}
 use Rattle.hal_fit_rules.proofs.Declaring.{plain_data_agree, plain_cells_agree, temporary_agrees, temporary_cells_agree, builtin_agrees, function_agrees}
+use Rattle.hal_fit_rules.proofs.Eventful.{event_known}
 use Rattle.hal_fit_rules.proofs.Happening.{event_agrees, process_agrees}
 use Rattle.hal_fit_rules.proofs.Structuring.{structure_agrees, structure_cells}
-use Rattle.hal_fit_rules.proofs.Unbroken.{among_first, unbroken, ruled_none, of_uses}
+use Rattle.hal_fit_rules.proofs.Unbroken.{among_first, unbroken, ruled_none, no_rule, of_uses}
 use Rattle.hal_fit_names.specs.Named.{AreLeft}
 use Rattle.hal_fit_names.specs.Suited.{HasFitLiterals, AreDeclared, is_templated}
 use Rattle.hal_fit_names.proofs.Declaring.{plain_data}
@@ -94,6 +99,36 @@ not_received form.Arrayed is fits = cc
 may_be_received : (b : Bool) (fault : ℕ × Place) → (if b then None else Some fault) ≡ None → b ≡ true
 may_be_received true fault is = refl
 may_be_received false fault is = absurd (cc)
+
+unfixed : (event constant_ input component : Bool) → ◌≡◌ {A = Option ℕ} (if event then Some 722 else if constant_ || input then Some 709 else if component then Some 722 else None) None → (event ≡ false) × (constant_ ≡ false)
+unfixed true constant_ input component is = absurd (cc)
+unfixed false true input component is = absurd (cc)
+unfixed false false true component is = absurd (cc)
+unfixed false false false component is = (refl, refl)
+
+no_output : {X : Type 0} (o : Option Builtin) (place : Place) → elim o [ None ↦ false | Some b ↦ is_known usage.Output (form_of b) ] ≡ true → ◌≡◌ {A = Option (ℕ × Place)} (if is_some o then Some (722, place) else None) None → X
+no_output None place known_ none = absurd (cc)
+no_output (Some b) place known_ none = absurd (cc)
+
+-- what may be signalled is an event
+event_type : (ps : List Phrase) (q : Phrase) (o : Option Kind) → fits_declared ps q usage.Event (Some (sort_of_type o)) ≡ true → is_event_type o ≡ true
+unfolding sort_of_type is_event_type
+event_type ps q None fits = absurd (cc)
+event_type ps q (Some (EventKind place)) fits = refl
+event_type ps q (Some (IntegerKind place)) fits = absurd (cc)
+event_type ps q (Some (BooleanKind place)) fits = absurd (cc)
+event_type ps q (Some (BitKind place size)) fits = absurd (cc)
+event_type ps q (Some (CharacterKind place size)) fits = absurd (cc)
+event_type ps q (Some (StructureKind place template copies)) fits = absurd (cc)
+
+no_event : {X : Type 0} (o : Option Builtin) → elim o [ None ↦ false | Some b ↦ is_known usage.Event (form_of b) ] ≡ true
+    → elim o [ None ↦ true | Some b ↦ not (is_known usage.Event (form_of b)) || fits_builtin usage.Event (form_of b) ] ≡ true → X
+no_event None known_ fits = absurd (cc)
+no_event (Some b) known_ fits = absurd (by (form_of b) known_ fits) where
+  by : (f : Form) → is_known usage.Event f ≡ true → (not (is_known usage.Event f) || fits_builtin usage.Event f) ≡ true → ⊥
+  by form.Alone known_ fits = cc
+  by form.Listed known_ fits = cc
+  by form.Arrayed known_ fits = cc
 
 in_unit : (b : Bool) → not b ≡ false → b ≡ true
 in_unit true is = refl
@@ -279,3 +314,88 @@ module _ (u : Uses) (site : Site) (named : IsSound rows site.set.phrases) (sound
       received_by_name name q place (means ps site.block name) refl (ap (λ b. is_some (means ps b name) || is_known_builtin name usage.Receiver) (sym here) ∙ known_)
       (ap (λ b. elim (means ps b name) [ None ↦ fits_named name usage.Receiver | Some k ↦ fits_declared ps q usage.Receiver (sort_at ps k) ]) (sym here) ∙ fits)
       (ap (λ b. received ps b place name) (sym here) ∙ (ap (misreceived ps q) (sym is) ∙ no_fault))
+
+  -- what may be put by a phrase
+  node_puts : (name : List ℕ) (own : IsOwn site name) (x : Subscript) (n : Node) → own.phrase.node ≡ n → IsAmong own.phrase site.set.phrases → put_fault site.set.phrases own.phrase [] x n ≡ None
+      → CellsAgree site.set.phrases [] (means site.set.phrases site.block name) (name_meant (here_at site) name [])
+  unfolding put_fault
+  node_puts name own x (OfItem common item) is within none =
+      let both = unfixed (is_event_type (type_of common item)) (is_some (attributes.constant_of common item)) (is_input_parameter site.set.phrases own.phrase item.name.name) (is_component (data_at site.set.phrases own.phrase [] (OfItem common item)) x) none in
+      cells_typed name own common item (type_of common item) is within refl both.0 both.1
+  node_puts name own x (OfTemporaryGroup labels variable) is within none = temporary_cells_agree u site name own (record { labels = labels; variable = variable; declares = is })
+  node_puts name own x other is within none = absurd (cc)
+
+  put_by_name : (name : List ℕ) (x : Subscript) (place : Place) (o : Option ℕ) → means site.set.phrases site.block name ≡ o → (is_some o || is_known_builtin name usage.Output) ≡ true
+      → ◌≡◌ {A = Option (ℕ × Place)} (elim o [ None ↦ if is_some (builtin_named name) then Some (722, place) else None | Some k ↦ elim (slice_get site.set.phrases k) [ None ↦ None | Some r ↦ at place (put_fault site.set.phrases r [] x r.node) ] ]) None
+      → CellsAgree site.set.phrases [] (means site.set.phrases site.block name) (name_meant (here_at site) name [])
+  put_by_name name x place None meant known_ none = no_output (builtin_named name) place known_ none
+  put_by_name name x place (Some k) meant known_ none =
+      let first = (declared site.block name k meant).1 in
+      let p : Phrase = first.declaring in
+      let plain = left.untemplated name k p meant first.there in
+      node_puts name (record { number = k; meant = meant; phrase = p; there = first.there; own = own_number site.set.phrases k p first.there plain }) x p.node refl (at_among site.set.phrases k p first.there)
+      (no_rule place (put_fault site.set.phrases p [] x p.node)
+      (ap (λ (o : Option Phrase). elim o [ None ↦ None | Some r ↦ at place (put_fault site.set.phrases r [] x r.node) ]) (sym first.there) ∙ none))
+
+  -- the name of an ASSIGN argument
+  pub output_agrees : (q : Phrase) (place : Place) (name : List ℕ) (x : Subscript) → IsAmong q site.set.phrases → q.node ≡ OfReference role.Output (Refers place name [] x) → q.around.block ≡ site.block
+      → CellsAgree site.set.phrases [] (means site.set.phrases site.block name) (name_meant (here_at site) name [])
+  unfolding unknown used use_of_reference usage_of use_rows misreceived reference_receives put
+  output_agrees q place name x within is here =
+      let ps : List Phrase = site.set.phrases in
+      let block : ℕ = q.around.block in
+      let no_unknown = ruled_none 601 (unknown ps q) (unbroken rows ps named q within (λ qs o. ruled 601 (unknown qs o)) (inl refl)) in
+      let no_fault = unbroken type_rows ps sound q within (λ qs o. misreceived qs o o.node) (of_uses (λ qs o. misreceived qs o o.node) (inr (inr (inr (inr (inr (inl refl))))))) in
+      let known_ : (is_some (means ps block name) || is_known_builtin name usage.Output) ≡ true = unless_true (is_some (means ps block name) || is_known_builtin name usage.Output) place
+      (ap (λ n. option_and_then (λ (v : Use). unless (is_known_use ps block v) v.place) (used n)) (sym is) ∙ no_unknown) in
+      put_by_name name x place (means ps site.block name) refl (ap (λ b. is_some (means ps b name) || is_known_builtin name usage.Output) (sym here) ∙ known_)
+      (ap (λ b. put ps b (Refers place name [] x)) (sym here) ∙ (ap (misreceived ps q) (sym is) ∙ no_fault))
+
+  -- an event that is signalled, set or reset
+  node_event : (name : List ℕ) (own : IsOwn site name) (owner : ℕ) (q : Phrase) (n : Node) → own.phrase.node ≡ n → IsAmong own.phrase site.set.phrases → declared_at own.phrase.number own.phrase.around n ≡ Some (key space.Declared owner name)
+      → is_templated site.set.phrases own.phrase n ≡ false → fits_declared site.set.phrases q usage.Event (sort_of n) ≡ true → IsEvent site own.phrase
+  unfolding sort_of sort_of_head declared_at
+  node_event name own owner q (OfTemplate unit head declarations) is within declares plain fits = absurd (cc)
+  node_event name own owner q (OfUnit unit (Program place) declarations) is within declares plain fits = absurd (cc)
+  node_event name own owner q (OfUnit unit (Task place) declarations) is within declares plain fits = absurd (cc)
+  node_event name own owner q (OfUnit unit (Compool place) declarations) is within declares plain fits = absurd (cc)
+  node_event name own owner q (OfUnit unit (Procedure place inputs outputs mode) declarations) is within declares plain fits = absurd (cc)
+  node_event name own owner q (OfUnit unit (Function place inputs returns mode) declarations) is within declares plain fits = absurd (cc)
+  node_event name own owner q (OfItem common item) is within declares plain fits =
+      let eventful = event_type site.set.phrases q (type_of common item) fits in
+      record { common = common; item = item; declares = is; eventful = eventful; sized = event_single own.phrase common item within is eventful; within = in_unit (is_in_unit site.set.phrases own.phrase.around.home) plain }
+  node_event name own owner q (OfTemporaryGroup labels variable) is within declares plain fits = absurd (cc)
+  node_event name own owner q (OfStructure structure parts) is within declares plain fits = absurd (cc)
+  node_event name own owner q (OfLabel label) is within declares plain fits = absurd (cc)
+  node_event name own owner q (OfFile prefaces unit) is within declares plain fits = let other : Some space.Unit ≡ Some space.Declared = ap space_of declares in absurd (cc)
+  node_event name own owner q (OfParameter parameter output) is within declares plain fits = let other : Some space.Parameter ≡ Some space.Declared = ap space_of declares in absurd (cc)
+  node_event name own owner q (OfPart bottom part) is within declares plain fits = let other : Some space.Part ≡ Some space.Declared = ap space_of declares in absurd (cc)
+  node_event name own owner q other is within declares plain fits = absurd (cc)
+
+  event_by_name : (image : ImageParts) (e : Eventful) (q : Phrase) (o : Option ℕ) → HasEvents image site → means site.set.phrases site.block e.name.name ≡ o → (is_some o || is_known_builtin e.name.name usage.Event) ≡ true
+      → elim o [ None ↦ fits_named e.name.name usage.Event | Some k ↦ fits_declared site.set.phrases q usage.Event (sort_at site.set.phrases k) ] ≡ true → EventAgrees image site site.set.phrases site.block e
+  event_by_name image e q None events meant known_ fits = no_event (builtin_named e.name.name) known_ fits
+  event_by_name image e q (Some k) events meant known_ fits =
+      let is_declared = declared site.block e.name.name k meant in
+      let first = is_declared.1 in
+      let p : Phrase = first.declaring in
+      let plain = left.untemplated e.name.name k p meant first.there in
+      let own : IsOwn site e.name.name = record { number = k; meant = meant; phrase = p; there = first.there; own = own_number site.set.phrases k p first.there plain } in
+      event_known image site counted events e own
+      (node_event e.name.name own is_declared.0 q p.node refl (at_among site.set.phrases k p first.there) first.declares plain
+      (ap (λ o. fits_declared site.set.phrases q usage.Event (option_and_then (λ (x : Phrase). sort_of x.node) o)) (sym first.there) ∙ fits))
+
+  pub changed_agrees : (image : ImageParts) (q : Phrase) (e : Eventful) → HasEvents image site → IsAmong q site.set.phrases → q.node ≡ OfEvent e → q.around.block ≡ site.block → EventAgrees image site site.set.phrases site.block e
+  unfolding unknown misused used
+  changed_agrees image q e events within is here =
+      let ps : List Phrase = site.set.phrases in
+      let block : ℕ = q.around.block in
+      let name : List ℕ = e.name.name in
+      let no_unknown = ruled_none 601 (unknown ps q) (unbroken rows ps named q within (λ qs o. ruled 601 (unknown qs o)) (inl refl)) in
+      let no_misuse = ruled_none 603 (misused ps q) (unbroken rows ps named q within (λ qs o. ruled 603 (misused qs o)) (inr (inr (inl refl)))) in
+      let known_ : (is_some (means ps block name) || is_known_builtin name usage.Event) ≡ true = unless_true (is_some (means ps block name) || is_known_builtin name usage.Event) e.name.place
+      (ap (λ n. option_and_then (λ (v : Use). unless (is_known_use ps block v) v.place) (used n)) (sym is) ∙ no_unknown) in
+      let fits : elim (means ps block name) [ None ↦ fits_named name usage.Event | Some k ↦ fits_declared ps q usage.Event (sort_at ps k) ] ≡ true = unless_true (elim (means ps block name) [ None ↦ fits_named name usage.Event | Some k ↦ fits_declared ps q usage.Event (sort_at ps k) ]) e.name.place
+      (ap (λ n. option_and_then (λ (v : Use). unless (fits_use ps q v) v.place) (used n)) (sym is) ∙ no_misuse) in
+      event_by_name image e q (means ps site.block name) events refl (ap (λ b. is_some (means ps b name) || is_known_builtin name usage.Event) (sym here) ∙ known_)
+      (ap (λ b. elim (means ps b name) [ None ↦ fits_named name usage.Event | Some k ↦ fits_declared ps q usage.Event (sort_at ps k) ]) (sym here) ∙ fits)

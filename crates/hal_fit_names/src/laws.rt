@@ -5,13 +5,14 @@ ghost use Rattle.hal_grammar.specs.Declarations.{Attribute, Declared, Kind};
 ghost use Rattle.hal_base.specs.declared.refusal.Place.{Place};
 ghost use Rattle.hal_grammar.specs.Expressions.{Expression, NoExpressions, Refers, Subscript};
 ghost use Rattle.hal_grammar.specs.Leaves.{Naming};
+ghost use Rattle.hal_grammar.specs.Statements.{Eventful};
 ghost use Rattle.hal_grammar.specs.Units.{File};
 ghost use Rattle.hal_phrases.specs.declared.around.Around.{Around};
 ghost use Rattle.hal_phrases.specs.declared.role.Role.{Role};
 ghost use Rattle.hal_phrases.specs.declared.role.Role.TheVariants as role;
 ghost use Rattle.hal_phrases.specs.GatheredExpressions.{gathered};
 ghost use Rattle.hal_phrases.specs.GatheredUnits.{phrases_of};
-ghost use Rattle.hal_phrases.specs.Phrases.{OfItem, OfReference, OfSubscriptName, Phrase};
+ghost use Rattle.hal_phrases.specs.Phrases.{OfEvent, OfItem, OfReference, OfSubscriptName, Phrase};
 ghost use Rattle.hal_names.specs.Means.{means};
 ghost use Rattle.hal_scope.specs.Rules.{IsAmong, IsSound, rows};
 ghost use Rattle.hal_scope.specs.declared.usage.Usage.TheVariants as usage;
@@ -27,6 +28,7 @@ ghost use Rattle.hal_constants.specs.Known.{kind_of_type, known};
 ghost use Rattle.hal_constants.specs.Naming.{is_value_item};
 ghost use Rattle.hal_shapes.specs.Arguments.{parameter_of};
 ghost use Rattle.hal_meaning.specs.Variables.{name_meant};
+ghost use Rattle.hal_code.specs.declared.image.ImageParts.{ImageParts};
 ghost use Rattle.hal_agreement.specs.Sites.{Site, here_at};
 ghost use Rattle.hal_fit_expr.specs.Uses.{Uses};
 ghost use Rattle.hal_fit_rules.specs.Agreeing.{NameAgrees};
@@ -36,6 +38,7 @@ ghost use Rattle.hal_fit_rules.specs.Leaves.{is_value_role};
 ghost use Rattle.hal_fit_rules.specs.Owned.{IsOwn, IsPlainData};
 ghost use Rattle.hal_fit_rules.specs.Passing.{IsParameter};
 ghost use Rattle.hal_fit_rules.specs.Received.{CellsAgree};
+ghost use Rattle.hal_fit_rules.specs.Signalled.{EventAgrees, HasEvents};
 ghost use Rattle.hal_fit_rules.specs.Valued.{HasConstants};
 ghost use Rattle.hal_fit_names.specs.Named.{AreLeft};
 ghost use Rattle.hal_fit_names.specs.Suited.{HasFitLiterals, is_templated, Suits};
@@ -111,12 +114,27 @@ pub fn names_of_values_agree()
     what_is_meant_declares_the_name();
 }
 
-/// The name of a receiver without a path means cells that are for the meaning what they are for the checks (language document, Assignments).
+/// The name of a receiver without a path, or of an ASSIGN argument, means cells that are for the meaning what they are for the checks (language document, Assignments
+/// and Calls).
 pub fn names_of_receivers_agree()
-    ensures { (u : Uses) (files : List File) (site : Site) (q : Phrase) (place : Place) (name : List ℕ) (subscript : Subscript) → site.set.phrases ≡ phrases_of files → HasConstants site
+    ensures receiver { (u : Uses) (files : List File) (site : Site) (q : Phrase) (place : Place) (name : List ℕ) (subscript : Subscript) → site.set.phrases ≡ phrases_of files → HasConstants site
         → AsksAll u site → AreLeft u site → IsSound rows (phrases_of files) → IsSound type_rows (phrases_of files) → HasFitLiterals (phrases_of files) → IsAmong q (phrases_of files)
         → q.node ≡ OfReference role.Receiver (Refers place name [] subscript) → q.around.block ≡ site.block
         → CellsAgree site.set.phrases [] (means site.set.phrases site.block name) (name_meant (here_at site) name []) }
+    ensures output { (u : Uses) (files : List File) (site : Site) (q : Phrase) (place : Place) (name : List ℕ) (subscript : Subscript) → site.set.phrases ≡ phrases_of files → HasConstants site
+        → AsksAll u site → AreLeft u site → IsSound rows (phrases_of files) → IsSound type_rows (phrases_of files) → HasFitLiterals (phrases_of files) → IsAmong q (phrases_of files)
+        → q.node ≡ OfReference role.Output (Refers place name [] subscript) → q.around.block ≡ site.block
+        → CellsAgree site.set.phrases [] (means site.set.phrases site.block name) (name_meant (here_at site) name []) }
+{
+    phrases_are_counted();
+    what_is_meant_declares_the_name();
+}
+
+/// An event that is signalled, set or reset is for an image with the set's events what it is for the checks (language document, Events).
+pub fn events_that_are_changed_agree()
+    ensures { (u : Uses) (image : ImageParts) (files : List File) (site : Site) (q : Phrase) (event : Eventful) → site.set.phrases ≡ phrases_of files → HasConstants site → AsksAll u site → AreLeft u site
+        → HasEvents image site → IsSound rows (phrases_of files) → IsSound type_rows (phrases_of files) → HasFitLiterals (phrases_of files) → IsAmong q (phrases_of files) → q.node ≡ OfEvent event
+        → q.around.block ≡ site.block → EventAgrees image site site.set.phrases site.block event }
 {
     phrases_are_counted();
     what_is_meant_declares_the_name();
