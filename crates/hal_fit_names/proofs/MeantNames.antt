@@ -1,6 +1,6 @@
 -- Names of values agree in a set that breaks no rule, where what is left is known.
 use Rattle.std.proofs.Common.{◌≡◌, ℕ, Bool, true, false, not, ◌&&◌, ◌||◌, List, [], ◌++◌, Option, Some, None, slice_get, refl, sym, ap, ◌∙◌, inl, inr}
-use Rattle.std.specs.Prelude.{if◌then◌else◌}
+use Rattle.std.specs.Prelude.{nat_lt, if◌then◌else◌}
 use Rattle.std.specs.Option.{option_and_then, is_some}
 use Rattle.hal_base.specs.declared.refusal.Place.{Place}
 use Rattle.hal_grammar.specs.Expressions.{Expressions, Refers, Subscript}
@@ -10,7 +10,7 @@ use Rattle.hal_phrases.specs.declared.role.Role.TheVariants as role
 use Rattle.hal_grammar.specs.Declarations.{Kind, IntegerKind, BooleanKind, EventKind, BitKind, CharacterKind, StructureKind, Attribute, Declared}
 use Rattle.hal_grammar.specs.Statements.{Eventful}
 use Rattle.hal_grammar.specs.Units.{Program, Compool, Task, Procedure, Function}
-use Rattle.hal_phrases.specs.Phrases.{Node, Phrase, OfFile, OfTemplate, OfUnit, OfParameter, OfItem, OfStructure, OfPart, OfLabel, OfTemporaryGroup, OfReference, OfSubscriptName, OfEvent}
+use Rattle.hal_phrases.specs.Phrases.{Node, Phrase, OfFile, OfTemplate, OfUnit, OfParameter, OfItem, OfStructure, OfPart, OfLabel, OfTemporaryGroup, OfReference, OfSubscriptName, OfVariable, OfEvent}
 use Rattle.hal_names.specs.declared.key.Key.{Key}
 use Rattle.hal_names.specs.declared.key.Space.{Space}
 use Rattle.hal_names.specs.declared.key.Space.TheVariants as space
@@ -28,12 +28,13 @@ use Rattle.hal_scope.specs.Rules.{Row, IsAmong, IsSound, rows, ruled}
 use Rattle.hal_scope.specs.Sorts.{type_of, sort_of, sort_of_type, sort_of_head, usage_of, use_of, use_of_reference, used, is_known, fits_builtin}
 use Rattle.hal_scope.specs.Uses.{is_nil, unless, sort_at, is_known_builtin, is_known_use, unknown, fits_declared, fits_named, fits_use, misused}
 use Rattle.hal_kinds.specs.declared.class.Class.TheVariants as class
+use Rattle.hal_kinds.specs.declared.data.Data.{Data}
 use Rattle.hal_kinds.specs.Attributes as attributes
 use Rattle.hal_kinds.specs.Attributes.{sizes_of}
 use Rattle.hal_kinds.specs.Data.{class_of_type, has_copies, dimensions_of, data_with, data_of, data_at, is_event_type, is_structure_type, is_parameter}
 use Rattle.hal_operands.specs.Wants.{at}
 use Rattle.hal_attributes.specs.Typed.{untyped, is_no_variable, misplaced_event}
-use Rattle.hal_uses.specs.Receivers.{is_input_parameter, is_component, put_fault, put, may_receive, received_by, received, reference_receives, misreceived}
+use Rattle.hal_uses.specs.Receivers.{is_input_parameter, is_component, put_fault, put, is_integer, counted_fault, variable_fault, varied, may_receive, received_by, received, reference_receives, misreceived}
 use Rattle.hal_types.specs.Rules.{attribute_rows, operand_rows, use_rows, size_rows, type_rows}
 use Rattle.hal_constants.specs.Naming.{is_value_item}
 use Rattle.hal_meaning.specs.Places.{is_in_unit}
@@ -129,6 +130,27 @@ no_event (Some b) known_ fits = absurd (by (form_of b) known_ fits) where
   by form.Alone known_ fits = cc
   by form.Listed known_ fits = cc
   by form.Arrayed known_ fits = cc
+
+no_variable : {X : Type 0} (o : Option Builtin) (place : Place) → elim o [ None ↦ false | Some b ↦ is_known usage.Variable (form_of b) ] ≡ true → ◌≡◌ {A = Option (ℕ × Place)} (if is_some o then Some (712, place) else None) None → X
+no_variable None place known_ none = absurd (cc)
+no_variable (Some b) place known_ none = absurd (cc)
+
+-- a single integer that isn't fixed
+single_free : (integer alone constant_ input : Bool) → ◌≡◌ {A = Option ℕ} (if integer && alone then (if constant_ || input then Some 709 else None) else Some 712) None → (integer ≡ true) × (constant_ ≡ false)
+single_free true true false false is = (refl, refl)
+single_free true true true input is = absurd (cc)
+single_free true true false true is = absurd (cc)
+single_free true false constant_ input is = absurd (cc)
+single_free false alone constant_ input is = absurd (cc)
+
+integer_type : (t : Kind) → is_integer (class_of_type t) ≡ true → (is_event_type (Some t) ≡ false) × (is_structure_type (Some t) ≡ false)
+unfolding is_integer class_of_type is_event_type is_structure_type
+integer_type (IntegerKind place) is = (refl, refl)
+integer_type (BooleanKind place) is = absurd (cc)
+integer_type (EventKind place) is = absurd (cc)
+integer_type (BitKind place size) is = absurd (cc)
+integer_type (CharacterKind place size) is = absurd (cc)
+integer_type (StructureKind place template copies) is = absurd (cc)
 
 in_unit : (b : Bool) → not b ≡ false → b ≡ true
 in_unit true is = refl
@@ -399,3 +421,45 @@ module _ (u : Uses) (site : Site) (named : IsSound rows site.set.phrases) (sound
       (ap (λ n. option_and_then (λ (v : Use). unless (fits_use ps q v) v.place) (used n)) (sym is) ∙ no_misuse) in
       event_by_name image e q (means ps site.block name) events refl (ap (λ b. is_some (means ps b name) || is_known_builtin name usage.Event) (sym here) ∙ known_)
       (ap (λ b. elim (means ps b name) [ None ↦ fits_named name usage.Event | Some k ↦ fits_declared ps q usage.Event (sort_at ps k) ]) (sym here) ∙ fits)
+
+  -- the variable of DO FOR
+  item_varies : (name : List ℕ) (own : IsOwn site name) (common : List Attribute) (item : Declared) (o : Option Kind) → own.phrase.node ≡ OfItem common item → IsAmong own.phrase site.set.phrases → type_of common item ≡ o
+      → counted_fault site.set.phrases own.phrase common item (data_of o (sizes_of common item)) ≡ None → CellsAgree site.set.phrases [] (means site.set.phrases site.block name) (name_meant (here_at site) name [])
+  unfolding counted_fault data_of
+  item_varies name own common item None is within typed none = let other : false ≡ true = ap (λ (o : Option Kind). is_some o) (sym typed) ∙ item_typed own.phrase common item within is in absurd (cc)
+  item_varies name own common item (Some t) is within typed none =
+      let d : Data = data_with (class_of_type t) (dimensions_of (sizes_of common item)) (has_copies t) in
+      let both = single_free (is_integer (class_of_type t)) (not (nat_lt 0 d.dimensions || d.copies)) (is_some (attributes.constant_of common item)) (is_input_parameter site.set.phrases own.phrase item.name.name) none in
+      let type_ = integer_type t both.0 in
+      cells_by name own common item t false is within typed type_.0 both.1 type_.1
+
+  node_varies : (name : List ℕ) (own : IsOwn site name) (n : Node) → own.phrase.node ≡ n → IsAmong own.phrase site.set.phrases → variable_fault site.set.phrases own.phrase n ≡ None
+      → CellsAgree site.set.phrases [] (means site.set.phrases site.block name) (name_meant (here_at site) name [])
+  unfolding variable_fault data_at is_nil
+  node_varies name own (OfItem common item) is within none = item_varies name own common item (type_of common item) is within refl none
+  node_varies name own (OfTemporaryGroup labels variable) is within none = temporary_cells_agree u site name own (record { labels = labels; variable = variable; declares = is })
+  node_varies name own other is within none = absurd (cc)
+
+  varied_by_name : (name : List ℕ) (place : Place) (o : Option ℕ) → means site.set.phrases site.block name ≡ o → (is_some o || is_known_builtin name usage.Variable) ≡ true
+      → ◌≡◌ {A = Option (ℕ × Place)} (elim o [ None ↦ if is_some (builtin_named name) then Some (712, place) else None | Some k ↦ elim (slice_get site.set.phrases k) [ None ↦ None | Some r ↦ at place (variable_fault site.set.phrases r r.node) ] ]) None
+      → CellsAgree site.set.phrases [] (means site.set.phrases site.block name) (name_meant (here_at site) name [])
+  varied_by_name name place None meant known_ none = no_variable (builtin_named name) place known_ none
+  varied_by_name name place (Some k) meant known_ none =
+      let first = (declared site.block name k meant).1 in
+      let p : Phrase = first.declaring in
+      let plain = left.untemplated name k p meant first.there in
+      node_varies name (record { number = k; meant = meant; phrase = p; there = first.there; own = own_number site.set.phrases k p first.there plain }) p.node refl (at_among site.set.phrases k p first.there)
+      (no_rule place (variable_fault site.set.phrases p p.node) (ap (λ (o : Option Phrase). elim o [ None ↦ None | Some r ↦ at place (variable_fault site.set.phrases r r.node) ]) (sym first.there) ∙ none))
+
+  pub variable_agrees : (q : Phrase) (name : Naming) → IsAmong q site.set.phrases → q.node ≡ OfVariable name → q.around.block ≡ site.block
+      → CellsAgree site.set.phrases [] (means site.set.phrases site.block name.name) (name_meant (here_at site) name.name [])
+  unfolding unknown used use_rows misreceived
+  variable_agrees q name within is here =
+      let ps : List Phrase = site.set.phrases in
+      let block : ℕ = q.around.block in
+      let no_unknown = ruled_none 601 (unknown ps q) (unbroken rows ps named q within (λ qs o. ruled 601 (unknown qs o)) (inl refl)) in
+      let no_fault = unbroken type_rows ps sound q within (λ qs o. misreceived qs o o.node) (of_uses (λ qs o. misreceived qs o o.node) (inr (inr (inr (inr (inr (inl refl))))))) in
+      let known_ : (is_some (means ps block name.name) || is_known_builtin name.name usage.Variable) ≡ true = unless_true (is_some (means ps block name.name) || is_known_builtin name.name usage.Variable) name.place
+      (ap (λ n. option_and_then (λ (v : Use). unless (is_known_use ps block v) v.place) (used n)) (sym is) ∙ no_unknown) in
+      varied_by_name name.name name.place (means ps site.block name.name) refl (ap (λ b. is_some (means ps b name.name) || is_known_builtin name.name usage.Variable) (sym here) ∙ known_)
+      (ap (λ b. varied ps b name.place name.name) (sym here) ∙ (ap (misreceived ps q) (sym is) ∙ no_fault))

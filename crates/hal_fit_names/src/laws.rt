@@ -12,7 +12,7 @@ ghost use Rattle.hal_phrases.specs.declared.role.Role.{Role};
 ghost use Rattle.hal_phrases.specs.declared.role.Role.TheVariants as role;
 ghost use Rattle.hal_phrases.specs.GatheredExpressions.{gathered};
 ghost use Rattle.hal_phrases.specs.GatheredUnits.{phrases_of};
-ghost use Rattle.hal_phrases.specs.Phrases.{OfEvent, OfItem, OfReference, OfSubscriptName, Phrase};
+ghost use Rattle.hal_phrases.specs.Phrases.{OfEvent, OfItem, OfReference, OfSubscriptName, OfVariable, Phrase};
 ghost use Rattle.hal_names.specs.Means.{means};
 ghost use Rattle.hal_scope.specs.Rules.{IsAmong, IsSound, rows};
 ghost use Rattle.hal_scope.specs.declared.usage.Usage.TheVariants as usage;
@@ -114,7 +114,7 @@ pub fn names_of_values_agree()
     what_is_meant_declares_the_name();
 }
 
-/// The name of a receiver without a path, or of an ASSIGN argument, means cells that are for the meaning what they are for the checks (language document, Assignments
+/// The name of a receiver without a path, of an ASSIGN argument, or of the variable of DO FOR means cells that are for the meaning what they are for the checks (language document, Assignments
 /// and Calls).
 pub fn names_of_receivers_agree()
     ensures receiver { (u : Uses) (files : List File) (site : Site) (q : Phrase) (place : Place) (name : List ℕ) (subscript : Subscript) → site.set.phrases ≡ phrases_of files → HasConstants site
@@ -125,6 +125,9 @@ pub fn names_of_receivers_agree()
         → AsksAll u site → AreLeft u site → IsSound rows (phrases_of files) → IsSound type_rows (phrases_of files) → HasFitLiterals (phrases_of files) → IsAmong q (phrases_of files)
         → q.node ≡ OfReference role.Output (Refers place name [] subscript) → q.around.block ≡ site.block
         → CellsAgree site.set.phrases [] (means site.set.phrases site.block name) (name_meant (here_at site) name []) }
+    ensures variable { (u : Uses) (files : List File) (site : Site) (q : Phrase) (name : Naming) → site.set.phrases ≡ phrases_of files → HasConstants site → AsksAll u site → AreLeft u site
+        → IsSound rows (phrases_of files) → IsSound type_rows (phrases_of files) → HasFitLiterals (phrases_of files) → IsAmong q (phrases_of files) → q.node ≡ OfVariable name → q.around.block ≡ site.block
+        → CellsAgree site.set.phrases [] (means site.set.phrases site.block name.name) (name_meant (here_at site) name.name []) }
 {
     phrases_are_counted();
     what_is_meant_declares_the_name();
