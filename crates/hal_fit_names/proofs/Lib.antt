@@ -14,3 +14,4 @@ mod Sizing
 mod Declaring
 mod Owning
 mod MeantNames
+mod Bodied

@@ -1,2 +1,3 @@
 pub mod Suited
 pub mod Named
+pub mod Bodied

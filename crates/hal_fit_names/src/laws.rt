@@ -1,18 +1,18 @@
 //! What holds of a set of files that breaks no rule of names or types.
 
 ghost use Rattle.std.specs.Prelude.{◌≡◌, ℕ, false, true, Bool, List, [], Some, slice_get};
-ghost use Rattle.hal_grammar.specs.Declarations.{Attribute, Declared, Kind};
+ghost use Rattle.hal_grammar.specs.Declarations.{Attribute, Declaration, Declared, Kind};
 ghost use Rattle.hal_base.specs.declared.refusal.Place.{Place};
 ghost use Rattle.hal_grammar.specs.Expressions.{Expression, NoExpressions, Refers, Subscript};
 ghost use Rattle.hal_grammar.specs.Leaves.{Naming};
 ghost use Rattle.hal_grammar.specs.Statements.{Eventful};
-ghost use Rattle.hal_grammar.specs.Units.{File};
+ghost use Rattle.hal_grammar.specs.Units.{File, Head};
 ghost use Rattle.hal_phrases.specs.declared.around.Around.{Around};
 ghost use Rattle.hal_phrases.specs.declared.role.Role.{Role};
 ghost use Rattle.hal_phrases.specs.declared.role.Role.TheVariants as role;
 ghost use Rattle.hal_phrases.specs.GatheredExpressions.{gathered};
 ghost use Rattle.hal_phrases.specs.GatheredUnits.{phrases_of};
-ghost use Rattle.hal_phrases.specs.Phrases.{OfEvent, OfItem, OfReference, OfSubscriptName, OfVariable, Phrase};
+ghost use Rattle.hal_phrases.specs.Phrases.{OfEvent, OfItem, OfReference, OfSubscriptName, OfUnit, OfVariable, Phrase};
 ghost use Rattle.hal_names.specs.Means.{means};
 ghost use Rattle.hal_scope.specs.Rules.{IsAmong, IsSound, rows};
 ghost use Rattle.hal_scope.specs.declared.usage.Usage.TheVariants as usage;
@@ -27,6 +27,8 @@ ghost use Rattle.hal_constants.specs.Constants.{constant_of};
 ghost use Rattle.hal_constants.specs.Known.{kind_of_type, known};
 ghost use Rattle.hal_constants.specs.Naming.{is_value_item};
 ghost use Rattle.hal_shapes.specs.Arguments.{parameter_of};
+ghost use Rattle.hal_meaning.specs.Bodies.{bodies_of};
+ghost use Rattle.hal_meaning.specs.Sets.{Set};
 ghost use Rattle.hal_meaning.specs.Variables.{name_meant};
 ghost use Rattle.hal_code.specs.declared.image.ImageParts.{ImageParts};
 ghost use Rattle.hal_agreement.specs.Sites.{Site, here_at};
@@ -40,6 +42,7 @@ ghost use Rattle.hal_fit_rules.specs.Passing.{IsParameter};
 ghost use Rattle.hal_fit_rules.specs.Received.{CellsAgree};
 ghost use Rattle.hal_fit_rules.specs.Signalled.{EventAgrees, HasEvents};
 ghost use Rattle.hal_fit_rules.specs.Valued.{HasConstants};
+ghost use Rattle.hal_fit_names.specs.Bodied.{HasBody};
 ghost use Rattle.hal_fit_names.specs.Named.{AreLeft};
 ghost use Rattle.hal_fit_names.specs.Suited.{HasFitLiterals, is_templated, Suits};
 
@@ -141,4 +144,12 @@ pub fn events_that_are_changed_agree()
 {
     phrases_are_counted();
     what_is_meant_declares_the_name();
+}
+
+/// Each unit of a set of files has its body, which has the head of the unit's phrase (language document, Units).
+pub fn units_have_bodies()
+    ensures { (files : List File) (s : Set) (k : ℕ) (p : Phrase) (name : Naming) (head : Head) (declarations : List Declaration) → s.phrases ≡ phrases_of files → s.bodies ≡ bodies_of files s.phrases
+        → slice_get s.phrases k ≡ Some p → p.node ≡ OfUnit name head declarations → HasBody s.bodies k head }
+{
+    phrases_are_counted();
 }

@@ -12,7 +12,7 @@ mod Forming
 pub mod Agreeing
 pub mod BegunStatements
 pub mod BegunDeclarations
-mod BegunUnits
+pub mod BegunUnits
 pub mod Stating
 pub mod Declaring
 pub mod Ranging
