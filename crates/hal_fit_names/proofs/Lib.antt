@@ -15,3 +15,4 @@ mod Declaring
 mod Owning
 mod MeantNames
 mod Bodied
+mod Callable

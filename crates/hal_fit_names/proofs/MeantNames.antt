@@ -72,7 +72,7 @@ abbrev space_of : Option Key → Option Space
 space_of None = None
 space_of (Some k) = Some k.space
 
-of_attributes : (row : Row) → IsAmong row attribute_rows → IsAmong row type_rows
+pub of_attributes : (row : Row) → IsAmong row attribute_rows → IsAmong row type_rows
 unfolding type_rows
 of_attributes row listed = among_first row attribute_rows (operand_rows ++ (use_rows ++ size_rows)) listed
 

@@ -1,12 +1,12 @@
 //! What holds of a set of files that breaks no rule of names or types.
 
-ghost use Rattle.std.specs.Prelude.{◌≡◌, ℕ, false, true, Bool, List, [], Some, slice_get};
+ghost use Rattle.std.specs.Prelude.{◌≡◌, ℕ, false, true, Bool, List, [], Option, Some, slice_get};
 ghost use Rattle.hal_grammar.specs.Declarations.{Attribute, Declaration, Declared, Kind};
 ghost use Rattle.hal_base.specs.declared.refusal.Place.{Place};
 ghost use Rattle.hal_grammar.specs.Expressions.{Expression, NoExpressions, Refers, Subscript};
 ghost use Rattle.hal_grammar.specs.Leaves.{Naming};
 ghost use Rattle.hal_grammar.specs.Statements.{Eventful};
-ghost use Rattle.hal_grammar.specs.Units.{File, Head};
+ghost use Rattle.hal_grammar.specs.Units.{File, Function, Head, Mode, Procedure, Returns};
 ghost use Rattle.hal_phrases.specs.declared.around.Around.{Around};
 ghost use Rattle.hal_phrases.specs.declared.role.Role.{Role};
 ghost use Rattle.hal_phrases.specs.declared.role.Role.TheVariants as role;
@@ -37,8 +37,8 @@ ghost use Rattle.hal_fit_rules.specs.Agreeing.{NameAgrees};
 ghost use Rattle.hal_fit_rules.specs.Begun.{AreFirst};
 ghost use Rattle.hal_fit_rules.specs.Happening.{AsksAll};
 ghost use Rattle.hal_fit_rules.specs.Leaves.{is_value_role};
-ghost use Rattle.hal_fit_rules.specs.Owned.{IsOwn, IsPlainData};
-ghost use Rattle.hal_fit_rules.specs.Passing.{IsParameter};
+ghost use Rattle.hal_fit_rules.specs.Owned.{IsFunction, IsOwn, IsPlainData};
+ghost use Rattle.hal_fit_rules.specs.Passing.{AreParameters, IsParameter, IsProcedure};
 ghost use Rattle.hal_fit_rules.specs.Received.{CellsAgree};
 ghost use Rattle.hal_fit_rules.specs.Signalled.{EventAgrees, HasEvents};
 ghost use Rattle.hal_fit_rules.specs.Valued.{HasConstants};
@@ -150,6 +150,20 @@ pub fn events_that_are_changed_agree()
 pub fn units_have_bodies()
     ensures { (files : List File) (s : Set) (k : ℕ) (p : Phrase) (name : Naming) (head : Head) (declarations : List Declaration) → s.phrases ≡ phrases_of files → s.bodies ≡ bodies_of files s.phrases
         → slice_get s.phrases k ≡ Some p → p.node ≡ OfUnit name head declarations → HasBody s.bodies k head }
+{
+    phrases_are_counted();
+}
+
+/// So a FUNCTION gives a value where no rule of types is broken, and is known to the laws of names where it may be called; and so is a PROCEDURE whose parameters are
+/// known (language document, Calls).
+pub fn units_that_may_be_called_are_known()
+    ensures function { (u : Uses) (files : List File) (site : Site) (k : ℕ) (p : Phrase) (name : Naming) (place : Place) (inputs : List Naming) (returns : Returns) (mode : Option Mode)
+        (declarations : List Declaration) → site.set.phrases ≡ phrases_of files → site.set.bodies ≡ bodies_of files site.set.phrases → IsSound type_rows (phrases_of files)
+        → slice_get site.set.phrases k ≡ Some p → p.node ≡ OfUnit name (Function place inputs returns mode) declarations → u.calls p.number ≡ true → IsFunction u site p }
+    ensures procedure { (u : Uses) (files : List File) (site : Site) (k : ℕ) (p : Phrase) (name : Naming) (place : Place) (inputs outputs : List Naming) (mode : Option Mode)
+        (declarations : List Declaration) → site.set.phrases ≡ phrases_of files → site.set.bodies ≡ bodies_of files site.set.phrases → IsSound type_rows (phrases_of files)
+        → slice_get site.set.phrases k ≡ Some p → p.node ≡ OfUnit name (Procedure place inputs outputs mode) declarations → u.calls p.number ≡ true → AreParameters site p.number inputs
+        → IsProcedure u site p }
 {
     phrases_are_counted();
 }
