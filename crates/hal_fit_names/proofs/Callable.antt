@@ -1,12 +1,12 @@
 -- Units of a set that breaks no rule of types, where they may be called.
-use Rattle.std.proofs.Common.{◌≡◌, ℕ, Bool, true, false, not, List, Option, Some, None, slice_get, refl, sym, ap, ◌∙◌, inl, inr}
+use Rattle.std.proofs.Common.{◌≡◌, ℕ, true, not, List, Option, Some, slice_get, refl, sym, ap, ◌∙◌, inl, inr}
 use Rattle.hal_base.specs.declared.refusal.Place.{Place}
 use Rattle.hal_grammar.specs.Leaves.{Naming}
-use Rattle.hal_grammar.specs.Declarations.{Kind, IntegerKind, BooleanKind, EventKind, BitKind, CharacterKind, StructureKind, Declaration}
+use Rattle.hal_grammar.specs.Declarations.{IntegerKind, BooleanKind, EventKind, BitKind, CharacterKind, StructureKind, Declaration}
 use Rattle.hal_grammar.specs.Units.{Procedure, Function, Returns, NoKind, HasKind, Mode}
 use Rattle.hal_phrases.specs.Phrases.{Phrase, OfUnit}
 use Rattle.hal_names.specs.Laws.{IsCounted}
-use Rattle.hal_scope.specs.Rules.{IsAmong, IsSound, ruled}
+use Rattle.hal_scope.specs.Rules.{IsSound, ruled}
 use Rattle.hal_kinds.specs.declared.class.Class.{Class}
 use Rattle.hal_kinds.specs.Classes.{class_of_result, class_of_returns}
 use Rattle.hal_kinds.specs.Data.{class_of_type}

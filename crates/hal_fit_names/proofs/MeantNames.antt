@@ -20,7 +20,6 @@ use Rattle.hal_names.specs.Means.{means}
 use Rattle.hal_scope.specs.declared.builtin.Builtin.{Builtin}
 use Rattle.hal_scope.specs.declared.builtin.Form.{Form}
 use Rattle.hal_scope.specs.declared.builtin.Form.TheVariants as form
-use Rattle.hal_scope.specs.declared.usage.Usage.{Usage}
 use Rattle.hal_scope.specs.declared.usage.Usage.TheVariants as usage
 use Rattle.hal_scope.specs.declared.used.Use.{Use}
 use Rattle.hal_scope.specs.Builtins.{builtin_named, form_of}
