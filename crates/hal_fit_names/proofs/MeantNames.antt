@@ -3,14 +3,14 @@ use Rattle.std.proofs.Common.{◌≡◌, ℕ, Bool, true, false, not, ◌&&◌, 
 use Rattle.std.specs.Prelude.{nat_lt, if◌then◌else◌}
 use Rattle.std.specs.Option.{option_and_then, is_some}
 use Rattle.hal_base.specs.declared.refusal.Place.{Place}
-use Rattle.hal_grammar.specs.Expressions.{Expressions, Refers, Subscript}
+use Rattle.hal_grammar.specs.Expressions.{Expressions, NoExpressions, MoreExpressions, Refers, Subscript}
 use Rattle.hal_grammar.specs.Leaves.{Naming}
 use Rattle.hal_phrases.specs.declared.role.Role.{Role}
 use Rattle.hal_phrases.specs.declared.role.Role.TheVariants as role
 use Rattle.hal_grammar.specs.Declarations.{Kind, IntegerKind, BooleanKind, EventKind, BitKind, CharacterKind, StructureKind, Attribute, Declared}
 use Rattle.hal_grammar.specs.Statements.{Eventful}
 use Rattle.hal_grammar.specs.Units.{Program, Compool, Task, Procedure, Function}
-use Rattle.hal_phrases.specs.Phrases.{Node, Phrase, OfFile, OfTemplate, OfUnit, OfParameter, OfItem, OfStructure, OfPart, OfLabel, OfTemporaryGroup, OfReference, OfSubscriptName, OfVariable, OfEvent}
+use Rattle.hal_phrases.specs.Phrases.{Node, Phrase, OfFile, OfTemplate, OfUnit, OfParameter, OfItem, OfStructure, OfPart, OfLabel, OfTemporaryGroup, OfReference, OfSubscriptName, OfVariable, OfEvent, OfCallForm}
 use Rattle.hal_names.specs.declared.key.Key.{Key}
 use Rattle.hal_names.specs.declared.key.Space.{Space}
 use Rattle.hal_names.specs.declared.key.Space.TheVariants as space
@@ -29,9 +29,12 @@ use Rattle.hal_scope.specs.Uses.{is_nil, unless, sort_at, is_known_builtin, is_k
 use Rattle.hal_kinds.specs.declared.class.Class.TheVariants as class
 use Rattle.hal_kinds.specs.declared.data.Data.{Data}
 use Rattle.hal_kinds.specs.Attributes as attributes
-use Rattle.hal_kinds.specs.Attributes.{sizes_of}
+use Rattle.hal_kinds.specs.Attributes.{no_more, sizes_of}
+use Rattle.hal_kinds.specs.Subscripts.{is_structure_class}
 use Rattle.hal_kinds.specs.Data.{class_of_type, has_copies, dimensions_of, data_with, data_of, data_at, is_event_type, is_structure_type, is_parameter}
-use Rattle.hal_operands.specs.Wants.{at}
+use Rattle.hal_operands.specs.Wants.{at, misfit, misfit_of_whole}
+use Rattle.hal_uses.specs.Calls.{head_fault, product_fault, is_raised, declared_fault, miscalled}
+use Rattle.hal_uses.specs.Calls as calls
 use Rattle.hal_attributes.specs.Typed.{untyped, is_no_variable, misplaced_event}
 use Rattle.hal_uses.specs.Receivers.{is_input_parameter, is_component, put_fault, put, is_integer, counted_fault, variable_fault, varied, may_receive, received_by, received, reference_receives, misreceived}
 use Rattle.hal_types.specs.Rules.{attribute_rows, operand_rows, use_rows, size_rows, type_rows}
@@ -41,13 +44,15 @@ use Rattle.hal_code.specs.declared.image.ImageParts.{ImageParts}
 use Rattle.hal_meaning.specs.Variables.{name_meant}
 use Rattle.hal_agreement.specs.Sites.{Site, here_at}
 use Rattle.hal_fit_expr.specs.Uses.{Uses}
-use Rattle.hal_fit_rules.specs.Agreeing.{NameAgrees}
+use Rattle.hal_fit_rules.specs.Agreeing.{NameAgrees, FormAgrees}
 use Rattle.hal_fit_rules.specs.Happening.{AsksAll, IsEvent}
-use Rattle.hal_fit_rules.specs.Owned.{IsOwn, IsStructureData}
+use Rattle.hal_fit_rules.specs.Owned.{IsFunction, IsOwn, IsStructureData}
+use Rattle.hal_fit_rules.specs.Passing.{AreParameters}
 use Rattle.hal_fit_rules.specs.Received.{CellsAgree}
 use Rattle.hal_fit_rules.specs.Signalled.{EventAgrees, HasEvents}
 use Rattle.hal_fit_rules.specs.Valued.{HasConstants}
-use Rattle.hal_fit_rules.proofs.Constants.{constant_agrees}
+use Rattle.hal_fit_rules.proofs.Constants.{constant_agrees, constant_formed}
+use Rattle.hal_fit_rules.proofs.Calling.{data_formed, temporary_formed, event_formed, function_formed, builtin_formed}
 use Rattle.hal_fit_rules.proofs.Declaring.{plain_data_agree, plain_cells_agree, temporary_agrees, temporary_cells_agree, builtin_agrees, function_agrees}
 use Rattle.hal_fit_rules.proofs.Eventful.{event_known}
 use Rattle.hal_fit_rules.proofs.Happening.{event_agrees, process_agrees}
@@ -150,6 +155,20 @@ integer_type (EventKind place) is = absurd (cc)
 integer_type (BitKind place size) is = absurd (cc)
 integer_type (CharacterKind place size) is = absurd (cc)
 integer_type (StructureKind place template copies) is = absurd (cc)
+
+-- a structure is no factor
+structure_product : (ps : List Phrase) (block : ℕ) (place : Place) (dimensions : ℕ) (copies raised : Bool) (ts : Expressions) (t : Kind) → is_structure_type (Some t) ≡ true
+    → product_fault ps block place (Some (data_with (class_of_type t) dimensions copies)) raised ts ≡ None → ⊥
+unfolding product_fault no_more is_structure_type class_of_type is_structure_class misfit misfit_of_whole
+structure_product ps block place dimensions copies true ts t structured none = cc
+structure_product ps block place dimensions copies false NoExpressions t structured none = cc
+structure_product ps block place dimensions copies false (MoreExpressions x (MoreExpressions y others)) t structured none = cc
+structure_product ps block place dimensions copies false (MoreExpressions x NoExpressions) (StructureKind at_ template more) structured none = cc
+structure_product ps block place dimensions copies false (MoreExpressions x NoExpressions) (IntegerKind at_) structured none = cc
+structure_product ps block place dimensions copies false (MoreExpressions x NoExpressions) (BooleanKind at_) structured none = cc
+structure_product ps block place dimensions copies false (MoreExpressions x NoExpressions) (EventKind at_) structured none = cc
+structure_product ps block place dimensions copies false (MoreExpressions x NoExpressions) (BitKind at_ size) structured none = cc
+structure_product ps block place dimensions copies false (MoreExpressions x NoExpressions) (CharacterKind at_ size) structured none = cc
 
 in_unit : (b : Bool) → not b ≡ false → b ≡ true
 in_unit true is = refl
@@ -462,3 +481,77 @@ module _ (u : Uses) (site : Site) (named : IsSound rows site.set.phrases) (sound
       (ap (λ n. option_and_then (λ (v : Use). unless (is_known_use ps block v) v.place) (used n)) (sym is) ∙ no_unknown) in
       varied_by_name name.name name.place (means ps site.block name.name) refl (ap (λ b. is_some (means ps b name.name) || is_known_builtin name.name usage.Variable) (sym here) ∙ known_)
       (ap (λ b. varied ps b name.place name.name) (sym here) ∙ (ap (misreceived ps q) (sym is) ∙ no_fault))
+
+  -- the call form of data, as a factor
+  stored_forms : (name : List ℕ) (own : IsOwn site name) (common : List Attribute) (item : Declared) (t : Kind) (valued : Bool) → own.phrase.node ≡ OfItem common item → IsAmong own.phrase site.set.phrases → type_of common item ≡ Some t
+      → is_event_type (Some t) ≡ false → is_structure_type (Some t) ≡ false → is_value_item common item ≡ valued → FormAgrees u site site.set.phrases site.block name
+  stored_forms name own common item t true is within typed eventless plain valued =
+      let worth = left.valued own.number own.phrase common item own.there is valued in
+      constant_formed u site counted has name own (record { common = common; item = item; declares = is; kind = t; typed = typed; eventless = eventless; valued = valued; value = worth.0; worth = worth.1 })
+  stored_forms name own common item t false is within typed eventless plain valued =
+      data_formed u site name own (plain_data site.set.phrases named sound counted declared literals site refl has own.phrase (placed own.phrase within) common item t is typed valued eventless plain)
+
+  structured_forms : (name : List ℕ) (own : IsOwn site name) (common : List Attribute) (item : Declared) (t : Kind) (structured : Bool) (block : ℕ) (place : Place) (raised : Bool) (ts : Expressions) → own.phrase.node ≡ OfItem common item
+      → IsAmong own.phrase site.set.phrases → type_of common item ≡ Some t → is_event_type (Some t) ≡ false → is_structure_type (Some t) ≡ structured
+      → product_fault site.set.phrases block place (Some (data_with (class_of_type t) (dimensions_of (sizes_of common item)) (has_copies t))) raised ts ≡ None → FormAgrees u site site.set.phrases site.block name
+  structured_forms name own common item t true block place raised ts is within typed eventless structured none = absurd (structure_product site.set.phrases block place (dimensions_of (sizes_of common item)) (has_copies t) raised ts t structured none)
+  structured_forms name own common item t false block place raised ts is within typed eventless structured none = stored_forms name own common item t (is_value_item common item) is within typed eventless structured refl
+
+  typed_forms : (name : List ℕ) (own : IsOwn site name) (common : List Attribute) (item : Declared) (t : Kind) (eventful : Bool) (block : ℕ) (place : Place) (raised : Bool) (ts : Expressions) → own.phrase.node ≡ OfItem common item
+      → IsAmong own.phrase site.set.phrases → type_of common item ≡ Some t → is_in_unit site.set.phrases own.phrase.around.home ≡ true → is_event_type (Some t) ≡ eventful
+      → product_fault site.set.phrases block place (Some (data_with (class_of_type t) (dimensions_of (sizes_of common item)) (has_copies t))) raised ts ≡ None → FormAgrees u site site.set.phrases site.block name
+  typed_forms name own common item t true block place raised ts is within typed home eventful none =
+      let eventful_type : is_event_type (type_of common item) ≡ true = ap is_event_type typed ∙ eventful in
+      event_formed u site name own counted (record { common = common; item = item; declares = is; eventful = eventful_type; sized = event_single own.phrase common item within is eventful_type; within = home })
+  typed_forms name own common item t false block place raised ts is within typed home eventful none = structured_forms name own common item t (is_structure_type (Some t)) block place raised ts is within typed eventful refl none
+
+  item_forms : (name : List ℕ) (own : IsOwn site name) (common : List Attribute) (item : Declared) (o : Option Kind) (block : ℕ) (place : Place) (raised : Bool) (ts : Expressions) → own.phrase.node ≡ OfItem common item
+      → IsAmong own.phrase site.set.phrases → type_of common item ≡ o → is_in_unit site.set.phrases own.phrase.around.home ≡ true → product_fault site.set.phrases block place (data_of o (sizes_of common item)) raised ts ≡ None
+      → FormAgrees u site site.set.phrases site.block name
+  unfolding data_of
+  item_forms name own common item None block place raised ts is within typed home none = let other : false ≡ true = ap (λ (o : Option Kind). is_some o) (sym typed) ∙ item_typed own.phrase common item within is in absurd (cc)
+  item_forms name own common item (Some t) block place raised ts is within typed home none = typed_forms name own common item t (is_event_type (Some t)) block place raised ts is within typed home refl none
+
+  module _ (parameters : (k : ℕ) (p : Phrase) → slice_get site.set.phrases k ≡ Some p → (is : IsFunction u site p) → AreParameters site p.number is.inputs) where
+    node_forms : (name : List ℕ) (own : IsOwn site name) (f : Phrase) (place : Place) (ts : Expressions) (n : Node) → own.phrase.node ≡ n → IsAmong own.phrase site.set.phrases → is_templated site.set.phrases own.phrase n ≡ false
+        → declared_fault site.set.phrases f place ts own.phrase n ≡ None → FormAgrees u site site.set.phrases site.block name
+    unfolding declared_fault head_fault data_at is_nil
+    node_forms name own f place ts (OfTemplate unit head declarations) is within plain none = absurd (cc)
+    node_forms name own f place ts (OfUnit unit (Program at_) declarations) is within plain none = absurd (cc)
+    node_forms name own f place ts (OfUnit unit (Task at_) declarations) is within plain none = absurd (cc)
+    node_forms name own f place ts (OfUnit unit (Compool at_) declarations) is within plain none = absurd (cc)
+    node_forms name own f place ts (OfUnit unit (Procedure at_ inputs outputs mode) declarations) is within plain none = absurd (cc)
+    node_forms name own f place ts (OfUnit unit (Function at_ inputs returns mode) declarations) is within plain none =
+        let function_ = left.called own.number own.phrase unit at_ inputs returns mode declarations own.there is in function_formed u site name own counted function_ (parameters own.number own.phrase own.there function_)
+    node_forms name own f place ts (OfItem common item) is within plain none =
+        item_forms name own common item (type_of common item) f.around.block place (is_raised site.set.phrases f.around.parent) ts is within refl (in_unit (is_in_unit site.set.phrases own.phrase.around.home) plain) none
+    node_forms name own f place ts (OfTemporaryGroup labels variable) is within plain none = temporary_formed u site name own (record { labels = labels; variable = variable; declares = is })
+    node_forms name own f place ts other is within plain none = absurd (cc)
+
+    builtin_forms : (name : List ℕ) (o : Option Builtin) → means site.set.phrases site.block name ≡ None → builtin_named name ≡ o → elim o [ None ↦ false | Some b ↦ is_known usage.CallForm (form_of b) ] ≡ true → FormAgrees u site site.set.phrases site.block name
+    builtin_forms name None undeclared is known_ = absurd (cc)
+    builtin_forms name (Some b) undeclared is known_ = builtin_formed u site name b undeclared is
+
+    formed_by_name : (name : List ℕ) (f : Phrase) (place : Place) (ts : Expressions) (o : Option ℕ) → means site.set.phrases site.block name ≡ o → (is_some o || is_known_builtin name usage.CallForm) ≡ true
+        → ◌≡◌ {A = Option (ℕ × Place)} (elim o [ None ↦ calls.builtin_fault site.set.phrases f.around.block place name ts | Some k ↦ option_and_then (λ (r : Phrase). declared_fault site.set.phrases f place ts r r.node) (slice_get site.set.phrases k) ]) None
+        → FormAgrees u site site.set.phrases site.block name
+    formed_by_name name f place ts None meant known_ none = builtin_forms name (builtin_named name) meant refl known_
+    formed_by_name name f place ts (Some k) meant known_ none =
+        let first = (declared site.block name k meant).1 in
+        let p : Phrase = first.declaring in
+        let plain = left.untemplated name k p meant first.there in
+        node_forms name (record { number = k; meant = meant; phrase = p; there = first.there; own = own_number site.set.phrases k p first.there plain }) f place ts p.node refl (at_among site.set.phrases k p first.there) plain
+        (ap (option_and_then (λ (r : Phrase). declared_fault site.set.phrases f place ts r r.node)) (sym first.there) ∙ none)
+
+    -- a call form
+    pub form_agrees : (q : Phrase) (place : Place) (name : List ℕ) (ts : Expressions) → IsAmong q site.set.phrases → q.node ≡ OfCallForm place name ts → q.around.block ≡ site.block → FormAgrees u site site.set.phrases site.block name
+    unfolding unknown used use_rows miscalled
+    form_agrees q place name ts within is here =
+        let ps : List Phrase = site.set.phrases in
+        let block : ℕ = q.around.block in
+        let no_unknown = ruled_none 601 (unknown ps q) (unbroken rows ps named q within (λ qs o. ruled 601 (unknown qs o)) (inl refl)) in
+        let no_fault = unbroken type_rows ps sound q within (λ qs o. miscalled qs o o.node) (of_uses (λ qs o. miscalled qs o o.node) (inr (inr (inr (inr (inr (inr (inr (inl refl))))))))) in
+        let known_ : (is_some (means ps block name) || is_known_builtin name usage.CallForm) ≡ true = unless_true (is_some (means ps block name) || is_known_builtin name usage.CallForm) place
+        (ap (λ n. option_and_then (λ (v : Use). unless (is_known_use ps block v) v.place) (used n)) (sym is) ∙ no_unknown) in
+        formed_by_name name q place ts (means ps site.block name) refl (ap (λ b. is_some (means ps b name) || is_known_builtin name usage.CallForm) (sym here) ∙ known_)
+        (ap (λ b. elim (means ps b name) [ None ↦ calls.builtin_fault ps block place name ts | Some k ↦ option_and_then (λ (r : Phrase). declared_fault ps q place ts r r.node) (slice_get ps k) ]) (sym here) ∙ (ap (miscalled ps q) (sym is) ∙ no_fault))

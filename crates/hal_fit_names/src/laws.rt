@@ -3,7 +3,7 @@
 ghost use Rattle.std.specs.Prelude.{◌≡◌, ℕ, false, true, Bool, List, [], Option, Some, slice_get};
 ghost use Rattle.hal_grammar.specs.Declarations.{Attribute, Declaration, Declared, Kind};
 ghost use Rattle.hal_base.specs.declared.refusal.Place.{Place};
-ghost use Rattle.hal_grammar.specs.Expressions.{Expression, NoExpressions, Refers, Subscript};
+ghost use Rattle.hal_grammar.specs.Expressions.{Expression, Expressions, NoExpressions, Refers, Subscript};
 ghost use Rattle.hal_grammar.specs.Leaves.{Naming};
 ghost use Rattle.hal_grammar.specs.Statements.{Eventful};
 ghost use Rattle.hal_grammar.specs.Units.{File, Function, Head, Mode, Procedure, Returns};
@@ -12,7 +12,7 @@ ghost use Rattle.hal_phrases.specs.declared.role.Role.{Role};
 ghost use Rattle.hal_phrases.specs.declared.role.Role.TheVariants as role;
 ghost use Rattle.hal_phrases.specs.GatheredExpressions.{gathered};
 ghost use Rattle.hal_phrases.specs.GatheredUnits.{phrases_of};
-ghost use Rattle.hal_phrases.specs.Phrases.{OfEvent, OfItem, OfReference, OfSubscriptName, OfUnit, OfVariable, Phrase};
+ghost use Rattle.hal_phrases.specs.Phrases.{OfCallForm, OfEvent, OfItem, OfReference, OfSubscriptName, OfUnit, OfVariable, Phrase};
 ghost use Rattle.hal_names.specs.Means.{means};
 ghost use Rattle.hal_scope.specs.Rules.{IsAmong, IsSound, rows};
 ghost use Rattle.hal_scope.specs.declared.usage.Usage.TheVariants as usage;
@@ -33,7 +33,7 @@ ghost use Rattle.hal_meaning.specs.Variables.{name_meant};
 ghost use Rattle.hal_code.specs.declared.image.ImageParts.{ImageParts};
 ghost use Rattle.hal_agreement.specs.Sites.{Site, here_at};
 ghost use Rattle.hal_fit_expr.specs.Uses.{Uses};
-ghost use Rattle.hal_fit_rules.specs.Agreeing.{NameAgrees};
+ghost use Rattle.hal_fit_rules.specs.Agreeing.{FormAgrees, NameAgrees};
 ghost use Rattle.hal_fit_rules.specs.Begun.{AreFirst};
 ghost use Rattle.hal_fit_rules.specs.Happening.{AsksAll};
 ghost use Rattle.hal_fit_rules.specs.Leaves.{is_value_role};
@@ -166,4 +166,16 @@ pub fn units_that_may_be_called_are_known()
         → IsProcedure u site p }
 {
     phrases_are_counted();
+}
+
+/// A call form is for the meaning what it is for the checks, where the parameters of FUNCTIONs are known: of a FUNCTION or a built-in function, or the product of data and a
+/// parenthesis (language document, Products and Built-in functions).
+pub fn call_forms_agree()
+    ensures { (u : Uses) (files : List File) (site : Site) (q : Phrase) (place : Place) (name : List ℕ) (arguments : Expressions) → site.set.phrases ≡ phrases_of files → HasConstants site → AsksAll u site
+        → AreLeft u site → ((k : ℕ) (p : Phrase) → slice_get site.set.phrases k ≡ Some p → (is : IsFunction u site p) → AreParameters site p.number is.inputs) → IsSound rows (phrases_of files)
+        → IsSound type_rows (phrases_of files) → HasFitLiterals (phrases_of files) → IsAmong q (phrases_of files) → q.node ≡ OfCallForm place name arguments → q.around.block ≡ site.block
+        → FormAgrees u site site.set.phrases site.block name }
+{
+    phrases_are_counted();
+    what_is_meant_declares_the_name();
 }
