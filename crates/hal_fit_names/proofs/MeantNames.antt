@@ -3,14 +3,14 @@ use Rattle.std.proofs.Common.{◌≡◌, ℕ, Bool, true, false, not, ◌&&◌, 
 use Rattle.std.specs.Prelude.{nat_lt, if◌then◌else◌}
 use Rattle.std.specs.Option.{option_and_then, is_some}
 use Rattle.hal_base.specs.declared.refusal.Place.{Place}
-use Rattle.hal_grammar.specs.Expressions.{Expressions, NoExpressions, MoreExpressions, Refers, Subscript}
+use Rattle.hal_grammar.specs.Expressions.{Expressions, NoExpressions, MoreExpressions, Reference, Refers, Subscript}
 use Rattle.hal_grammar.specs.Leaves.{Naming}
 use Rattle.hal_phrases.specs.declared.role.Role.{Role}
 use Rattle.hal_phrases.specs.declared.role.Role.TheVariants as role
-use Rattle.hal_grammar.specs.Declarations.{Kind, IntegerKind, BooleanKind, EventKind, BitKind, CharacterKind, StructureKind, Attribute, Declared}
+use Rattle.hal_grammar.specs.Declarations.{Kind, IntegerKind, BooleanKind, EventKind, BitKind, CharacterKind, StructureKind, Attribute, Declared, Declaration}
 use Rattle.hal_grammar.specs.Statements.{Eventful}
-use Rattle.hal_grammar.specs.Units.{Program, Compool, Task, Procedure, Function}
-use Rattle.hal_phrases.specs.Phrases.{Node, Phrase, OfFile, OfTemplate, OfUnit, OfParameter, OfItem, OfStructure, OfPart, OfLabel, OfTemporaryGroup, OfReference, OfSubscriptName, OfVariable, OfEvent, OfCallForm}
+use Rattle.hal_grammar.specs.Units.{Program, Compool, Task, Procedure, Function, Mode}
+use Rattle.hal_phrases.specs.Phrases.{Node, Phrase, OfFile, OfTemplate, OfUnit, OfParameter, OfItem, OfStructure, OfPart, OfLabel, OfTemporaryGroup, OfReference, OfSubscriptName, OfVariable, OfEvent, OfCallForm, OfCall}
 use Rattle.hal_names.specs.declared.key.Key.{Key}
 use Rattle.hal_names.specs.declared.key.Space.{Space}
 use Rattle.hal_names.specs.declared.key.Space.TheVariants as space
@@ -47,12 +47,13 @@ use Rattle.hal_fit_expr.specs.Uses.{Uses}
 use Rattle.hal_fit_rules.specs.Agreeing.{NameAgrees, FormAgrees}
 use Rattle.hal_fit_rules.specs.Happening.{AsksAll, IsEvent}
 use Rattle.hal_fit_rules.specs.Owned.{IsFunction, IsOwn, IsStructureData}
-use Rattle.hal_fit_rules.specs.Passing.{AreParameters}
+use Rattle.hal_fit_rules.specs.Passing.{AreParameters, IsProcedure}
+use Rattle.hal_fit_rules.specs.Passed.{ProcedureAgrees}
 use Rattle.hal_fit_rules.specs.Received.{CellsAgree}
 use Rattle.hal_fit_rules.specs.Signalled.{EventAgrees, HasEvents}
 use Rattle.hal_fit_rules.specs.Valued.{HasConstants}
 use Rattle.hal_fit_rules.proofs.Constants.{constant_agrees, constant_formed}
-use Rattle.hal_fit_rules.proofs.Calling.{data_formed, temporary_formed, event_formed, function_formed, builtin_formed}
+use Rattle.hal_fit_rules.proofs.Calling.{procedure_agrees, data_formed, temporary_formed, event_formed, function_formed, builtin_formed}
 use Rattle.hal_fit_rules.proofs.Declaring.{plain_data_agree, plain_cells_agree, temporary_agrees, temporary_cells_agree, builtin_agrees, function_agrees}
 use Rattle.hal_fit_rules.proofs.Eventful.{event_known}
 use Rattle.hal_fit_rules.proofs.Happening.{event_agrees, process_agrees}
@@ -125,6 +126,25 @@ event_type ps q (Some (BooleanKind place)) fits = absurd (cc)
 event_type ps q (Some (BitKind place size)) fits = absurd (cc)
 event_type ps q (Some (CharacterKind place size)) fits = absurd (cc)
 event_type ps q (Some (StructureKind place template copies)) fits = absurd (cc)
+
+no_call : (ps : List Phrase) (q : Phrase) (o : Option Kind) → fits_declared ps q usage.Called (Some (sort_of_type o)) ≡ true → ⊥
+unfolding sort_of_type
+no_call ps q None fits = cc
+no_call ps q (Some (EventKind place)) fits = cc
+no_call ps q (Some (IntegerKind place)) fits = cc
+no_call ps q (Some (BooleanKind place)) fits = cc
+no_call ps q (Some (BitKind place size)) fits = cc
+no_call ps q (Some (CharacterKind place size)) fits = cc
+no_call ps q (Some (StructureKind place template copies)) fits = cc
+
+no_builtin_call : {X : Type 0} (o : Option Builtin) → elim o [ None ↦ false | Some b ↦ is_known usage.Called (form_of b) ] ≡ true
+    → elim o [ None ↦ true | Some b ↦ not (is_known usage.Called (form_of b)) || fits_builtin usage.Called (form_of b) ] ≡ true → X
+no_builtin_call None known_ fits = absurd (cc)
+no_builtin_call (Some b) known_ fits = absurd (by (form_of b) known_ fits) where
+  by : (f : Form) → is_known usage.Called f ≡ true → (not (is_known usage.Called f) || fits_builtin usage.Called f) ≡ true → ⊥
+  by form.Alone known_ fits = cc
+  by form.Listed known_ fits = cc
+  by form.Arrayed known_ fits = cc
 
 no_event : {X : Type 0} (o : Option Builtin) → elim o [ None ↦ false | Some b ↦ is_known usage.Event (form_of b) ] ≡ true
     → elim o [ None ↦ true | Some b ↦ not (is_known usage.Event (form_of b)) || fits_builtin usage.Event (form_of b) ] ≡ true → X
@@ -555,3 +575,52 @@ module _ (u : Uses) (site : Site) (named : IsSound rows site.set.phrases) (sound
         (ap (λ n. option_and_then (λ (v : Use). unless (is_known_use ps block v) v.place) (used n)) (sym is) ∙ no_unknown) in
         formed_by_name name q place ts (means ps site.block name) refl (ap (λ b. is_some (means ps b name) || is_known_builtin name usage.CallForm) (sym here) ∙ known_)
         (ap (λ b. elim (means ps b name) [ None ↦ calls.builtin_fault ps block place name ts | Some k ↦ option_and_then (λ (r : Phrase). declared_fault ps q place ts r r.node) (slice_get ps k) ]) (sym here) ∙ (ap (miscalled ps q) (sym is) ∙ no_fault))
+
+  module _ (procedures : (k : ℕ) (p : Phrase) (name : Naming) (place : Place) (inputs outputs : List Naming) (mode : Option Mode) (declarations : List Declaration) → slice_get site.set.phrases k ≡ Some p
+      → p.node ≡ OfUnit name (Procedure place inputs outputs mode) declarations → IsProcedure u site p) where
+    node_called : (name : List ℕ) (own : IsOwn site name) (owner : ℕ) (q : Phrase) (n : Node) → own.phrase.node ≡ n → declared_at own.phrase.number own.phrase.around n ≡ Some (key space.Declared owner name)
+        → is_templated site.set.phrases own.phrase n ≡ false → fits_declared site.set.phrases q usage.Called (sort_of n) ≡ true → IsProcedure u site own.phrase
+    unfolding sort_of sort_of_type sort_of_head declared_at
+    node_called name own owner q (OfTemplate unit head declarations) is declares plain fits = absurd (cc)
+    node_called name own owner q (OfUnit unit (Program place) declarations) is declares plain fits = absurd (cc)
+    node_called name own owner q (OfUnit unit (Task place) declarations) is declares plain fits = absurd (cc)
+    node_called name own owner q (OfUnit unit (Compool place) declarations) is declares plain fits = absurd (cc)
+    node_called name own owner q (OfUnit unit (Procedure place inputs outputs mode) declarations) is declares plain fits = procedures own.number own.phrase unit place inputs outputs mode declarations own.there is
+    node_called name own owner q (OfUnit unit (Function place inputs returns mode) declarations) is declares plain fits = absurd (cc)
+    node_called name own owner q (OfItem common item) is declares plain fits = absurd (no_call site.set.phrases q (type_of common item) fits)
+    node_called name own owner q (OfTemporaryGroup labels variable) is declares plain fits = absurd (cc)
+    node_called name own owner q (OfStructure structure parts) is declares plain fits = absurd (cc)
+    node_called name own owner q (OfLabel label) is declares plain fits = absurd (cc)
+    node_called name own owner q (OfFile prefaces unit) is declares plain fits = let other : Some space.Unit ≡ Some space.Declared = ap space_of declares in absurd (cc)
+    node_called name own owner q (OfParameter parameter output) is declares plain fits = let other : Some space.Parameter ≡ Some space.Declared = ap space_of declares in absurd (cc)
+    node_called name own owner q (OfPart bottom part) is declares plain fits = let other : Some space.Part ≡ Some space.Declared = ap space_of declares in absurd (cc)
+    node_called name own owner q other is declares plain fits = absurd (cc)
+
+    called_by_name : (name : Naming) (q : Phrase) (o : Option ℕ) → means site.set.phrases site.block name.name ≡ o → (is_some o || is_known_builtin name.name usage.Called) ≡ true
+        → elim o [ None ↦ fits_named name.name usage.Called | Some k ↦ fits_declared site.set.phrases q usage.Called (sort_at site.set.phrases k) ] ≡ true → ProcedureAgrees u site site.set.phrases site.block name
+    called_by_name name q None meant known_ fits = no_builtin_call (builtin_named name.name) known_ fits
+    called_by_name name q (Some k) meant known_ fits =
+        let is_declared = declared site.block name.name k meant in
+        let first = is_declared.1 in
+        let p : Phrase = first.declaring in
+        let plain = left.untemplated name.name k p meant first.there in
+        let own : IsOwn site name.name = record { number = k; meant = meant; phrase = p; there = first.there; own = own_number site.set.phrases k p first.there plain } in
+        procedure_agrees u site name own counted
+        (node_called name.name own is_declared.0 q p.node refl first.declares plain
+        (ap (λ o. fits_declared site.set.phrases q usage.Called (option_and_then (λ (x : Phrase). sort_of x.node) o)) (sym first.there) ∙ fits))
+
+    -- CALL
+    pub call_agrees : (q : Phrase) (name : Naming) (ts : Expressions) (receivers : List Reference) → IsAmong q site.set.phrases → q.node ≡ OfCall name ts receivers → q.around.block ≡ site.block
+        → ProcedureAgrees u site site.set.phrases site.block name
+    unfolding unknown misused used
+    call_agrees q name ts receivers within is here =
+        let ps : List Phrase = site.set.phrases in
+        let block : ℕ = q.around.block in
+        let no_unknown = ruled_none 601 (unknown ps q) (unbroken rows ps named q within (λ qs o. ruled 601 (unknown qs o)) (inl refl)) in
+        let no_misuse = ruled_none 603 (misused ps q) (unbroken rows ps named q within (λ qs o. ruled 603 (misused qs o)) (inr (inr (inl refl)))) in
+        let known_ : (is_some (means ps block name.name) || is_known_builtin name.name usage.Called) ≡ true = unless_true (is_some (means ps block name.name) || is_known_builtin name.name usage.Called) name.place
+        (ap (λ n. option_and_then (λ (v : Use). unless (is_known_use ps block v) v.place) (used n)) (sym is) ∙ no_unknown) in
+        let fits : elim (means ps block name.name) [ None ↦ fits_named name.name usage.Called | Some k ↦ fits_declared ps q usage.Called (sort_at ps k) ] ≡ true = unless_true (elim (means ps block name.name) [ None ↦ fits_named name.name usage.Called | Some k ↦ fits_declared ps q usage.Called (sort_at ps k) ]) name.place
+        (ap (λ n. option_and_then (λ (v : Use). unless (fits_use ps q v) v.place) (used n)) (sym is) ∙ no_misuse) in
+        called_by_name name q (means ps site.block name.name) refl (ap (λ b. is_some (means ps b name.name) || is_known_builtin name.name usage.Called) (sym here) ∙ known_)
+        (ap (λ b. elim (means ps b name.name) [ None ↦ fits_named name.name usage.Called | Some k ↦ fits_declared ps q usage.Called (sort_at ps k) ]) (sym here) ∙ fits)

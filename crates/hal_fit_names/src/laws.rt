@@ -3,7 +3,7 @@
 ghost use Rattle.std.specs.Prelude.{◌≡◌, ℕ, false, true, Bool, List, [], Option, Some, slice_get};
 ghost use Rattle.hal_grammar.specs.Declarations.{Attribute, Declaration, Declared, Kind};
 ghost use Rattle.hal_base.specs.declared.refusal.Place.{Place};
-ghost use Rattle.hal_grammar.specs.Expressions.{Expression, Expressions, NoExpressions, Refers, Subscript};
+ghost use Rattle.hal_grammar.specs.Expressions.{Expression, Expressions, NoExpressions, Reference, Refers, Subscript};
 ghost use Rattle.hal_grammar.specs.Leaves.{Naming};
 ghost use Rattle.hal_grammar.specs.Statements.{Eventful};
 ghost use Rattle.hal_grammar.specs.Units.{File, Function, Head, Mode, Procedure, Returns};
@@ -12,7 +12,7 @@ ghost use Rattle.hal_phrases.specs.declared.role.Role.{Role};
 ghost use Rattle.hal_phrases.specs.declared.role.Role.TheVariants as role;
 ghost use Rattle.hal_phrases.specs.GatheredExpressions.{gathered};
 ghost use Rattle.hal_phrases.specs.GatheredUnits.{phrases_of};
-ghost use Rattle.hal_phrases.specs.Phrases.{OfCallForm, OfEvent, OfItem, OfReference, OfSubscriptName, OfUnit, OfVariable, Phrase};
+ghost use Rattle.hal_phrases.specs.Phrases.{OfCall, OfCallForm, OfEvent, OfItem, OfReference, OfSubscriptName, OfUnit, OfVariable, Phrase};
 ghost use Rattle.hal_names.specs.Means.{means};
 ghost use Rattle.hal_scope.specs.Rules.{IsAmong, IsSound, rows};
 ghost use Rattle.hal_scope.specs.declared.usage.Usage.TheVariants as usage;
@@ -39,6 +39,7 @@ ghost use Rattle.hal_fit_rules.specs.Happening.{AsksAll};
 ghost use Rattle.hal_fit_rules.specs.Leaves.{is_value_role};
 ghost use Rattle.hal_fit_rules.specs.Owned.{IsFunction, IsOwn, IsPlainData};
 ghost use Rattle.hal_fit_rules.specs.Passing.{AreParameters, IsParameter, IsProcedure};
+ghost use Rattle.hal_fit_rules.specs.Passed.{ProcedureAgrees};
 ghost use Rattle.hal_fit_rules.specs.Received.{CellsAgree};
 ghost use Rattle.hal_fit_rules.specs.Signalled.{EventAgrees, HasEvents};
 ghost use Rattle.hal_fit_rules.specs.Valued.{HasConstants};
@@ -175,6 +176,19 @@ pub fn call_forms_agree()
         → AreLeft u site → ((k : ℕ) (p : Phrase) → slice_get site.set.phrases k ≡ Some p → (is : IsFunction u site p) → AreParameters site p.number is.inputs) → IsSound rows (phrases_of files)
         → IsSound type_rows (phrases_of files) → HasFitLiterals (phrases_of files) → IsAmong q (phrases_of files) → q.node ≡ OfCallForm place name arguments → q.around.block ≡ site.block
         → FormAgrees u site site.set.phrases site.block name }
+{
+    phrases_are_counted();
+    what_is_meant_declares_the_name();
+}
+
+/// CALL is of a PROCEDURE that is for the meaning what it is for the checks, where PROCEDUREs are known (language document, Calls).
+pub fn calls_agree()
+    ensures { (u : Uses) (files : List File) (site : Site) (q : Phrase) (name : Naming) (arguments : Expressions) (receivers : List Reference) → site.set.phrases ≡ phrases_of files → HasConstants site
+        → AsksAll u site → AreLeft u site
+        → ((k : ℕ) (p : Phrase) (name : Naming) (place : Place) (inputs outputs : List Naming) (mode : Option Mode) (declarations : List Declaration) → slice_get site.set.phrases k ≡ Some p
+        → p.node ≡ OfUnit name (Procedure place inputs outputs mode) declarations → IsProcedure u site p)
+        → IsSound rows (phrases_of files) → IsSound type_rows (phrases_of files) → HasFitLiterals (phrases_of files) → IsAmong q (phrases_of files) → q.node ≡ OfCall name arguments receivers
+        → q.around.block ≡ site.block → ProcedureAgrees u site site.set.phrases site.block name }
 {
     phrases_are_counted();
     what_is_meant_declares_the_name();
