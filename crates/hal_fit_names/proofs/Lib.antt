@@ -16,3 +16,4 @@ mod Owning
 mod MeantNames
 mod Bodied
 mod Callable
+mod UnitsKnown

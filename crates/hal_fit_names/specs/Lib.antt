@@ -1,3 +1,4 @@
 pub mod Suited
 pub mod Named
 pub mod Bodied
+pub mod Known

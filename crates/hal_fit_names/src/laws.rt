@@ -31,7 +31,8 @@ ghost use Rattle.hal_meaning.specs.Bodies.{bodies_of};
 ghost use Rattle.hal_meaning.specs.Sets.{Set};
 ghost use Rattle.hal_meaning.specs.Variables.{name_meant};
 ghost use Rattle.hal_code.specs.declared.image.ImageParts.{ImageParts};
-ghost use Rattle.hal_agreement.specs.Sites.{Site, here_at};
+ghost use Rattle.hal_agreement.specs.Sites.{Site, here_at, within_block};
+ghost use Rattle.hal_fitting.specs.Fitting.{Ground};
 ghost use Rattle.hal_fit_expr.specs.Uses.{Uses};
 ghost use Rattle.hal_fit_rules.specs.Agreeing.{FormAgrees, NameAgrees};
 ghost use Rattle.hal_fit_rules.specs.Begun.{AreFirst};
@@ -42,8 +43,10 @@ ghost use Rattle.hal_fit_rules.specs.Passing.{AreParameters, IsParameter, IsProc
 ghost use Rattle.hal_fit_rules.specs.Passed.{ProcedureAgrees};
 ghost use Rattle.hal_fit_rules.specs.Received.{CellsAgree};
 ghost use Rattle.hal_fit_rules.specs.Signalled.{EventAgrees, HasEvents};
+ghost use Rattle.hal_fit_rules.specs.Used.{PhraseKnown, UnitKnown};
 ghost use Rattle.hal_fit_rules.specs.Valued.{HasConstants};
 ghost use Rattle.hal_fit_names.specs.Bodied.{HasBody};
+ghost use Rattle.hal_fit_names.specs.Known.{is_left};
 ghost use Rattle.hal_fit_names.specs.Named.{AreLeft};
 ghost use Rattle.hal_fit_names.specs.Suited.{HasFitLiterals, is_templated, Suits};
 
@@ -189,6 +192,21 @@ pub fn calls_agree()
         → p.node ≡ OfUnit name (Procedure place inputs outputs mode) declarations → IsProcedure u site p)
         → IsSound rows (phrases_of files) → IsSound type_rows (phrases_of files) → HasFitLiterals (phrases_of files) → IsAmong q (phrases_of files) → q.node ≡ OfCall name arguments receivers
         → q.around.block ≡ site.block → ProcedureAgrees u site site.set.phrases site.block name }
+{
+    phrases_are_counted();
+    what_is_meant_declares_the_name();
+}
+
+/// So a unit is known, as the law of statements asks, where this is known of the phrases that are left: those in UPDATE blocks, references with a path, receivers, operands
+/// of event expressions, literals, channels, TEMPORARY variables, assignments and RETURN.
+pub fn units_are_known_where_what_is_left_is()
+    ensures { (image : ImageParts) (g : Ground) (u : Bool → Uses) (files : List File) (site : Site) (home : ℕ) → site.set.phrases ≡ phrases_of files → HasConstants site → AsksAll (u false) site
+        → ((block : ℕ) → AreLeft (u false) (within_block block site))
+        → ((block k : ℕ) (p : Phrase) → slice_get site.set.phrases k ≡ Some p → (is : IsFunction (u false) (within_block block site) p) → AreParameters (within_block block site) p.number is.inputs)
+        → ((block k : ℕ) (p : Phrase) (name : Naming) (place : Place) (inputs outputs : List Naming) (mode : Option Mode) (declarations : List Declaration) → slice_get site.set.phrases k ≡ Some p
+        → p.node ≡ OfUnit name (Procedure place inputs outputs mode) declarations → IsProcedure (u false) (within_block block site) p)
+        → HasEvents image site → IsSound rows (phrases_of files) → IsSound type_rows (phrases_of files) → HasFitLiterals (phrases_of files)
+        → ((q : Phrase) → IsAmong q site.set.phrases → q.around.home ≡ home → is_left q ≡ true → PhraseKnown image g u site q) → UnitKnown image g u site home }
 {
     phrases_are_counted();
     what_is_meant_declares_the_name();

@@ -1,0 +1,29 @@
+-- Phrases of which no law says yet what has to be known of them.
+use Rattle.std.specs.Prelude.{Bool, true, false, not, ◌||◌, List}
+use Rattle.std.specs.Option.{is_some}
+use Rattle.hal_grammar.specs.Leaves.{Naming}
+use Rattle.hal_grammar.specs.Expressions.{Refers}
+use Rattle.hal_phrases.specs.declared.role.Role.{Role}
+use Rattle.hal_phrases.specs.declared.role.Role.TheVariants as role
+use Rattle.hal_phrases.specs.Phrases.{Node, Phrase, OfExpression, OfReference, OfTemporaryGroup, OfAssignment, OfReturn}
+use Rattle.hal_scope.specs.Uses.{is_nil}
+
+-- references with a path, receivers, whose cells have to be of a kind, and operands of event expressions
+abbrev pub is_left_reference : Role → List Naming → Bool
+is_left_reference role.Receiver path = true
+is_left_reference role.Event path = true
+is_left_reference role.EventOrTime path = true
+is_left_reference other path = not (is_nil path)
+
+-- these, expressions (literals and channels), TEMPORARY variables, assignments and RETURN
+abbrev pub is_left_node : Node → Bool
+is_left_node (OfExpression r tree) = true
+is_left_node (OfReference r (Refers place name path subscript)) = is_left_reference r path
+is_left_node (OfTemporaryGroup labels variable) = true
+is_left_node (OfAssignment receivers value) = true
+is_left_node (OfReturn place value) = true
+is_left_node other = false
+
+-- and what stands in UPDATE blocks
+abbrev pub is_left : Phrase → Bool
+is_left p = is_some p.around.update || is_left_node p.node
