@@ -23,7 +23,7 @@ use Rattle.hal_sound_values.proofs.KindsKept.{stored_is, right_is}
 use Rattle.hal_constants.specs.declared.constant.Constant.{Constant}
 use Rattle.hal_constants.specs.declared.constant.Constant.TheVariants as constant
 use Rattle.hal_constants.specs.Constants.{constant_of}
-use Rattle.hal_constants.specs.Known.{Known, size_of, bits_kind, text_kind, kind_of, kind_of_type, kind_of_item, kept, fitted, gives_none, only_of, only_with, only_in, signed_literal, signed_name, declared_value, noted, round, is_file, rounds, nothing_known, known}
+use Rattle.hal_constants.specs.Known.{Known, size_of, bits_kind, text_kind, kind_of, kind_of_type, kind_of_item, kept, fitted, gives_none, only_of, only_with, only_in, signed_literal, signed_name, declared_value, noted, round, starts_round, rounds, nothing_known, known}
 use Rattle.hal_constants.specs.Naming.{is_value_item, value_at, literal_constant, constant_named}
 use Rattle.hal_constants.specs.Operands.{is_storable, is_string}
 use Rattle.hal_fit_names.specs.Suited.{class_of_value}
@@ -231,7 +231,7 @@ rounds_noted : (ps : List Phrase) (vs : Known) (rest : List Phrase) → AllNoted
 unfolding rounds
 rounds_noted ps vs [] all = all
 rounds_noted ps vs (p ∷ rest) all =
-    rounds_by ps (is_file p.node) (rounds ps (round ps vs ps) rest) (rounds ps vs rest) (rounds_noted ps (round ps vs ps) rest (round_noted ps vs ps (λ q within. within) all)) (rounds_noted ps vs rest all)
+    rounds_by ps (starts_round ps p) (rounds ps (round ps vs ps) rest) (rounds ps vs rest) (rounds_noted ps (round ps vs ps) rest (round_noted ps vs ps (λ q within. within) all)) (rounds_noted ps vs rest all)
 
 nothing_noted : (n k : ℕ) (v : Value) → value_at (replicate n None) k ≡ Some v → ⊥
 nothing_noted zero k v is = absurd (cc)
