@@ -402,14 +402,14 @@ module _ (site : Site) (vs : Known) (p : Phrase) (agree : NamesAgree site vs p) 
 
     multiplied_gives : (arguments : Expressions) (c : Constant) (r : Referent) → ((w : Value) → c ≡ constant.Worth w → r ≡ ConstantOf w)
         → Gives (multiplied site.set.phrases vs p c arguments) (known.called (λ v. known.folded site op2.Product v arguments) (λ op. known.built site op arguments) r)
-    multiplied_gives NoExpressions c r refers v is = absurd (cc)
+    multiplied_gives NoExpressions c r refers v is = absurd (never_worth c constant.Unfit v is)
     multiplied_gives (MoreExpressions x NoExpressions) (constant.Worth w) r refers v is =
         ap (known.called (λ v. known.folded site op2.Product v (MoreExpressions x NoExpressions)) (λ op. known.built site op (MoreExpressions x NoExpressions))) (refers w refl)
         ∙ two_gives op2.Product (constant.Worth w) (constant_of site.set.phrases vs p x) (Some w) (known.value_of site x) (worth_gives w) (value_gives x) v is
     multiplied_gives (MoreExpressions x NoExpressions) constant.Failed r refers v is = absurd (two_never constant.Failed (constant_of site.set.phrases vs p x) v (λ w no. absurd (cc)) is)
     multiplied_gives (MoreExpressions x NoExpressions) constant.Open r refers v is = absurd (two_never constant.Open (constant_of site.set.phrases vs p x) v (λ w no. absurd (cc)) is)
     multiplied_gives (MoreExpressions x NoExpressions) constant.Unfit r refers v is = absurd (two_never constant.Unfit (constant_of site.set.phrases vs p x) v (λ w no. absurd (cc)) is)
-    multiplied_gives (MoreExpressions x (MoreExpressions y others)) c r refers v is = absurd (cc)
+    multiplied_gives (MoreExpressions x (MoreExpressions y others)) c r refers v is = absurd (never_worth c constant.Unfit v is)
 
     -- a reference
     referred_gives : (reference : Reference) → Gives (referred site.set.phrases vs p reference) (known.referred site reference)
