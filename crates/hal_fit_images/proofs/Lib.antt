@@ -1,3 +1,5 @@
+mod Reaching
 mod Supporting
 mod Righting
+mod Serving
 mod Knowing
