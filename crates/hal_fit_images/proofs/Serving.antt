@@ -1,14 +1,13 @@
 -- What the statements of a unit may use serves the unit, in the block that its process has for it.
-use Rattle.std.specs.Prelude.{◌≡◌, ◌<◌, ◌≤◌, ◌⊎◌, ℕ, zero, suc, ◌+◌, ◌==◌, nat_lt, Bool, true, false, not, ◌||◌, List, [], ◌∷◌, find, cond, length, Option, Some, None, slice_get, unwrap_or, if◌then◌else◌}
+use Rattle.std.specs.Prelude.{◌≡◌, ◌<◌, ◌≤◌, ◌⊎◌, ℕ, zero, suc, ◌+◌, ◌==◌, nat_lt, Bool, true, false, not, List, [], ◌∷◌, find, cond, length, Option, Some, None, slice_get, unwrap_or}
 use Rattle.std.specs.List.{list_any}
 use Rattle.std.specs.Option.{is_some}
 use Rattle.std.proofs.Common.{refl, sym, ap, subst, ◌∙◌, inl, inr, arith}
 use Rattle.std.proofs.lemmas.Bool.{and_from, eqb-true, lt-ltb}
 use Rattle.std.proofs.lemmas.Option.{slice_get_within}
 use Rattle.hal_base.specs.declared.limits.TheConstants.{PROCESS_LIMIT}
-use Rattle.hal_base.specs.declared.refusal.Place.{Place}
 use Rattle.hal_phrases.specs.Phrases.{Phrase}
-use Rattle.hal_scope.specs.Rules.{IsAmong, IsSound, ruled}
+use Rattle.hal_scope.specs.Rules.{IsAmong, IsSound}
 use Rattle.hal_meaning.specs.Bodies.{Body, callees, processes_of}
 use Rattle.hal_meaning.specs.Bodies as bodies
 use Rattle.hal_meaning.specs.Calls.{is_function}
@@ -16,9 +15,7 @@ use Rattle.hal_meaning.specs.Places.{Place as OwnPlace, unit_numbers}
 use Rattle.hal_meaning.specs.Runs.{places_of_process}
 use Rattle.hal_meaning.specs.Sets.{Set, body_at}
 use Rattle.hal_reach.proofs.Within.{Has}
-use Rattle.hal_locks.specs.Barred.{barred}
 use Rattle.hal_locks.specs.Rules.{lock_rows}
-use Rattle.hal_locks.specs.Updates.{nested, updating}
 use Rattle.hal_code.specs.declared.image.ImageParts.{ImageParts}
 use Rattle.hal_code.specs.declared.row.Block.{Block}
 use Rattle.hal_code.specs.declared.row.View.{View}
@@ -43,32 +40,10 @@ use Rattle.hal_fit_layout.proofs.Ordered.{numbered, stands_before}
 use Rattle.hal_fit_layout.proofs.Outlining.{called_are, numbered_reaches, unit_is}
 use Rattle.hal_fit_images.specs.Blocks.{ParametersFit, ground_of, may_use, reached, uses_of}
 use Rattle.hal_fit_images.specs.Left.{AreLeft, AsksNothing, ServesUnit}
+use Rattle.hal_fit_images.proofs.Barred.{asks_nothing}
 use Rattle.hal_fit_images.proofs.Reaching.{called_reached, has_callee, own_reached, reached_on, reached_unit}
 use Rattle.hal_fit_images.proofs.Righting.{ends_there}
 use Rattle.hal_fit_images.proofs.Supporting.{gives, own_block, supports_inside}
-
--- a rule that isn't broken
-unbroken_by : (rule : ℕ) (o : Option Place) → ((place : Place) → ruled rule o ≡ Some (rule, place) → ⊥) → o ≡ None
-unbroken_by rule None none = refl
-unbroken_by rule (Some place) none = absurd (none place refl)
-
--- in a set that breaks no rule of locks, a phrase in an UPDATE block does nothing that an UPDATE block may not do
-none_nested : (ps : List Phrase) → IsSound lock_rows ps → (p : Phrase) → IsAmong p ps → is_some p.around.update ≡ true → updating p.node ≡ None
-unfolding lock_rows
-none_nested ps sound p among inside =
-    ap (λ b. if b then updating p.node else None) (sym inside)
-    ∙ unbroken_by 802 (nested p) (λ place broken. sound 802 place (record { row = λ qs r. ruled 802 (nested r); listed = inr (inl refl); phrase = p; there = among; broken = broken }))
-
-none_barred : (ps : List Phrase) → IsSound lock_rows ps → (p : Phrase) → IsAmong p ps → is_some p.around.update ≡ true → barred ps p.around.block p.node ≡ None
-unfolding lock_rows
-none_barred ps sound p among inside =
-    ap (λ b. if b then barred ps p.around.block p.node else None) (sym inside)
-    ∙ unbroken_by 803 (if is_some p.around.update then barred ps p.around.block p.node else None)
-    (λ place broken. sound 803 place (record { row = λ qs r. ruled 803 (if is_some r.around.update then barred qs r.around.block r.node else None); listed = inr (inr (inl refl)); phrase = p; there = among; broken = broken }))
-
-pub asks_nothing : (ps : List Phrase) → IsSound lock_rows ps → (unit : ℕ) → AsksNothing ps unit true
-asks_nothing ps sound unit p among its inside =
-    ap (λ o. is_some o || is_some (barred ps p.around.block p.node)) (none_nested ps sound p among inside) ∙ ap is_some (none_barred ps sound p among inside)
 
 -- a body that is found has the number looked for
 found_number : (k : ℕ) (bs : List Body) (b : Body) → find (λ (x : Body). x.number == k) bs ≡ Some b → b.number ≡ k
@@ -108,6 +83,7 @@ may_call image number callee true less quiet =
     and_from (nat_lt callee number) (not (unwrap_or (slice_get (outward image) callee) false)) (lt-ltb callee number less) (ap not (quiet refl))
 may_call image number callee false less quiet = and_from (nat_lt callee number) true (lt-ltb callee number less) refl
 
+-- so may a unit be called, if it has a block
 may_call_any : (image : ImageParts) (number : ℕ) (inside : Bool) (o : Option ℕ)
     → ((callee : ℕ) → o ≡ Some callee → (callee < number) × (inside ≡ true → unwrap_or (slice_get (outward image) callee) false ≡ false)) → may_use image number inside o ≡ true
 may_call_any image number inside None so = refl
@@ -116,6 +92,7 @@ may_call_any image number inside (Some callee) so = let its = so callee refl in 
 module _ (s : Set) (views : List View) (image : ImageParts) (given : AreGiven s views image) (left : AreLeft s image) (process : ℕ) (within : process < length s.tables.processes) (o : Outline)
     (there : slice_get (outlines_of s) process ≡ Some o)
     (parameters : (number : ℕ) (row : Block) → row.process ≡ process → ParametersFit s image number row) where
+  -- its unit is that of its outline
   its_unit : slice_get (processes_of s.phrases) process ≡ Some o.unit
   its_unit = unit_is s process o there
 
@@ -123,7 +100,7 @@ module _ (s : Set) (views : List View) (image : ImageParts) (given : AreGiven s 
   same_outline : (other : Outline) (number : ℕ) → number ≡ process → slice_get (outlines_of s) number ≡ Some other → other ≡ o
   same_outline other number same is = let here = subst (λ n. slice_get (outlines_of s) n ≡ Some other) same is in cc
 
-  -- a process's blocks are called in blocks of the process
+  -- what a block of the process calls are blocks of the process
   calls_by : (number : ℕ) (row : Block) → row.process ≡ process → IsKnown s views image number row → CallsUnits s image (numbers s views o) process
   calls_by number row its known = by known.is where
     same : known.outline ≡ o
@@ -136,7 +113,7 @@ module _ (s : Set) (views : List View) (image : ImageParts) (given : AreGiven s 
     by (inl p) = of_block p.linked.block p.block p.linked.calls
     by (inr u) = of_block u.linked.block u.block u.linked.calls
 
-  -- a unit with a block of its own stands before the process
+  -- a unit that has a block is one of those that the process calls
   record IsNumbered (unit callee : ℕ) : Type 0 where
     place : ℕ
     low : place < length o.called
@@ -155,11 +132,12 @@ module _ (s : Set) (views : List View) (image : ImageParts) (given : AreGiven s 
         reached = called_reached s process o.unit its_unit unit (numbered_reaches s views process o unit callee there is);
       }
 
-  -- its own block is there
+  -- the block of the process itself is there
   own_there : slice_get image.blocks (outlines.own_block o) ≡ Some (given.own process within).row
   own_there =
       subst (λ n. slice_get image.blocks n ≡ Some (given.own process within).row) (ap (λ (x : Option Outline). elim x [ None ↦ 0 | Some one ↦ outlines.own_block one ]) there) (given.own process within).there
 
+  -- so units are called in its blocks
   calls_units : CallsUnits s image (numbers s views o) process
   calls_units = calls_by (outlines.own_block o) (given.own process within).row (given.own process within).its (given.known (outlines.own_block o) (given.own process within).row own_there)
 
@@ -231,6 +209,7 @@ module _ (s : Set) (views : List View) (image : ImageParts) (given : AreGiven s 
           (supports_inside s image callee row u.linked.block u.linked.calls (own_block row (length s.tables.processes) u.linked.there given.few) (parameters callee row its) given.rows given.tables)
           (given.inside (ground_of image callee row) v (places_of_process s row.process) u.unit body u.found known (subst (IsHarmless s.phrases) (sym number_is) (given.itself unit harmless)))
 
+    -- the block of such a unit is that of the unit alone
     asks_none : (unit : ℕ) → IsNumbered unit callee → AllHarmless s.phrases unit → IsKnown s views image callee row → unwrap_or (slice_get (outward image) callee) false ≡ false
     asks_none unit one harmless known = by known.is where
       same : known.outline ≡ o
@@ -256,11 +235,12 @@ module _ (s : Set) (views : List View) (image : ImageParts) (given : AreGiven s 
       asks_none callee (λ q other before numbered harmless_too. all_ask_nothing n q other (omega (arith, before, less)) numbered harmless_too) row.0 row.1
       (calls_units.owned unit callee row.0 is row.1) unit one harmless (given.known callee row.0 row.1)
 
-  -- what the statements of a block of the process may use serves its unit, where the blocks of those that the unit calls stand before
+  -- outside of UPDATE blocks it may be asked, and inside nothing asks
   asks_by : (home : ℕ) (inside : Bool) → (not inside ≡ true) ⊎ AsksNothing s.phrases home inside
   asks_by home true = inr (asks_nothing s.phrases given.locked home)
   asks_by home false = inl refl
 
+  -- what the statements of a block of the process may use serves its unit, where the blocks of those that the unit calls stand before
   pub serves_block : (number unit home : ℕ) → home ≡ unit → reached s process unit ≡ true
       → ((q other : ℕ) → Has (callees s.phrases unit) q → numbers s views o q ≡ Some other → other < number) → ServesUnit s image (uses_of s image process (numbers s views o) number) home
   serves_block number unit home same is before =
@@ -272,12 +252,13 @@ module _ (s : Set) (views : List View) (image : ImageParts) (given : AreGiven s 
         events = λ inside. refl;
       }
 
-  -- that of the process itself, and that of a unit that it calls
+  -- so does what those of the process itself may use
   pub serves_process : (number : ℕ) (row : Block) (p : KnownProcess s views image o number row) → ServesUnit s image (uses_of s image process (numbers s views o) number) p.linked.body.number
   serves_process number row p =
       serves_block number o.unit p.linked.body.number (found_number o.unit s.bodies p.linked.body p.found) (own_reached s process o.unit its_unit)
       (λ q other called numbered. p.linked.before q other (ap (λ f. f q) p.block ∙ numbered))
 
+  -- and what those of a unit may use that the process calls
   pub serves_unit : (number : ℕ) (row : Block) (u : KnownUnit s views image o number row) → ServesUnit s image (uses_of s image process (numbers s views o) number) u.linked.body.number
   serves_unit number row u =
       let reaches = called_reaches s.phrases o.unit u.unit
