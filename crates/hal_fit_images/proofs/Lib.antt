@@ -1,3 +1,6 @@
+mod Reaching
 mod Supporting
 mod Righting
+mod Barred
+mod Serving
 mod Knowing

@@ -26,7 +26,7 @@ use Rattle.hal_fit_images.specs.Blocks.{AllFit, BlockFits, ProcessFits, UnitFits
 use Rattle.hal_fit_images.proofs.Supporting.{own_block, supports}
 
 -- where a unit ends, as its code says
-ends_there : (function : Bool) (head : Head) (finish : ℕ) → finish + length (end_code function head) ≡ end_behind function finish
+pub ends_there : (function : Bool) (head : Head) (finish : ℕ) → finish + length (end_code function head) ≡ end_behind function finish
 ends_there true head finish = omega arith
 ends_there false head finish = omega arith
 
@@ -36,13 +36,13 @@ code_with image block = record { image = image; block = block }
 module _ (s : Set) (image : ImageParts) (all : AllFit s image) (right : blocks_right image ≡ true) (tables : images.tables_of image ≡ s.tables) where
   process_of : (number : ℕ) (row : Block) (p : IsOfProcess s image number row) → ProcessFits s image number row p → (n : ℕ) → IsRightAt image (outward image) (flow_of image row number (code_of image row)) n
   process_of number row p fits =
-      process_right (code_with image p.block) (ground_of image number row) (uses_of image p.block number) (process_site s row.process p.body) 0 p.body.statements p.spot p.code p.ends p.begins p.owned
+      process_right (code_with image p.block) (ground_of image number row) (uses_of s image row.process p.block number) (process_site s row.process p.body) 0 p.body.statements p.spot p.code p.ends p.begins p.owned
       (supports s image number row p.block p.calls (own_block row (length s.tables.processes) p.there all.few) fits.parameters right tables) fits.statements
 
   unit_of : (number : ℕ) (row : Block) (u : IsOfUnit s image number row) → slice_get image.blocks number ≡ Some row → UnitFits s image number row u
       → (n : ℕ) → IsRightAt image (outward image) (flow_of image row number (code_of image row)) n
   unit_of number row u there fits =
-      unit_right (code_with image u.block) (ground_of image number row) (uses_of image u.block number) s (places_of_process s row.process) u.body u.code
+      unit_right (code_with image u.block) (ground_of image number row) (uses_of s image row.process u.block number) s (places_of_process s row.process) u.body u.code
       (supports s image number row u.block u.calls (own_block row (length s.tables.processes) u.there all.few) fits.parameters right tables) u.owned there fits.clears fits.statements
       (u.ends ∙ ends_there (is_function u.body.head) u.body.head u.code.finish)
 

@@ -23,7 +23,7 @@ use Rattle.hal_agreement.specs.PlacedBlocks.{EndAt}
 use Rattle.hal_fit_expr.specs.Serving.{MayCall, Serves}
 use Rattle.hal_fit.specs.Supporting.{Supports, at_inside}
 use Rattle.hal_link.specs.LinkedBlocks.{CallsUnits}
-use Rattle.hal_fit_images.specs.Blocks.{ParametersFit, ground_of, may_use, uses_of}
+use Rattle.hal_fit_images.specs.Blocks.{ParametersFit, ground_of, may_use, reached, uses_of}
 
 either : (a b : Bool) → b ≡ true → (a || b) ≡ true
 either true b is = refl
@@ -51,17 +51,19 @@ gives_none : (code : Code) (function : Bool) (head : Head) (row : Block) (at : �
 gives_none code true head row at is ends = absurd (cc)
 gives_none code false head row at is ends = ends.1
 
--- CALL of such a block may stand there
-call_stands : (image : ImageParts) (number callee : ℕ) (inside : Bool) → may_use image number inside (Some callee) ≡ true → stands_right (outward image) inside (instr.Call callee) ≡ true
-call_stands image number callee true may = (and_parts (nat_lt callee number) (not (unwrap_or (slice_get (outward image) callee) false)) may).1
-call_stands image number callee false may = refl
+-- CALL of such a block may stand there, and outside of UPDATE blocks
+call_stands : (image : ImageParts) (number callee : ℕ) (inside stands : Bool) → (inside ≡ false → stands ≡ false) → may_use image number inside (Some callee) ≡ true
+    → stands_right (outward image) stands (instr.Call callee) ≡ true
+call_stands image number callee inside false so may = refl
+call_stands image number callee true true so may = (and_parts (nat_lt callee number) (not (unwrap_or (slice_get (outward image) callee) false)) may).1
+call_stands image number callee false true so may = let no = so refl in absurd (cc)
 
 before : (image : ImageParts) (number callee : ℕ) (inside : Bool) → may_use image number inside (Some callee) ≡ true → nat_lt callee number ≡ true
 before image number callee inside may = (and_parts (nat_lt callee number) (if inside then not (unwrap_or (slice_get (outward image) callee) false) else true) may).0
 
-asks_outside : (inside : Bool) → not inside ≡ true → inside ≡ false
-asks_outside true is = absurd (cc)
-asks_outside false is = refl
+asks_outside : (inside stands : Bool) → (inside ≡ false → stands ≡ false) → not inside ≡ true → stands ≡ false
+asks_outside true stands so is = absurd (cc)
+asks_outside false stands so is = so refl
 
 all_at : {A : Type 0} (test : A → Bool) (xs : List A) (n : ℕ) (x : A) → list_all test xs ≡ true → slice_get xs n ≡ Some x → test x ≡ true
 all_at test [] n x all is = absurd (cc)
@@ -78,37 +80,50 @@ module _ (s : Set) (image : ImageParts) (number : ℕ) (row : Block) (block : �
   code = record { image = image; block = block }
 
   -- the block of a unit may be called
-  may_be_called : (inside : Bool) (unit callee : ℕ) (body : Body) (other : Block) → may_use image number inside (block unit) ≡ true → block unit ≡ Some callee → body_at s unit ≡ Some body
-      → slice_get image.blocks callee ≡ Some other → MayCall image (at_inside inside (ground_of image number row)) body callee other
-  may_be_called inside unit callee body other may named found there =
+  may_be_called : (inside stands : Bool) → (inside ≡ false → stands ≡ false) → (unit callee : ℕ) (body : Body) (other : Block) → may_use image number inside (block unit) ≡ true → block unit ≡ Some callee
+      → body_at s unit ≡ Some body → slice_get image.blocks callee ≡ Some other → MayCall image (at_inside stands (ground_of image number row)) body callee other
+  may_be_called inside stands so unit callee body other may named found there =
       let used = subst (λ o. may_use image number inside o ≡ true) named may in
       let at = calls.units unit callee body other named found there in
       let of_it = either (is_common other) (other.process == row.process) (same_told other.process row.process (calls.owned unit callee other named there)) in
       record {
         may = and_from (nat_lt callee number) (holds_of (λ (one : Block). is_common one || (one.process == row.process)) (slice_get image.blocks callee)) (before image number callee inside used)
             (subst (λ o. holds_of (λ (one : Block). is_common one || (one.process == row.process)) o ≡ true) (sym there) of_it);
-        stands = call_stands image number callee inside used;
+        stands = call_stands image number callee inside stands so used;
         function = λ is. gives code (is_function body.head) body.head other at.finish is at.ends;
         procedure = λ is. gives_none code (is_function body.head) body.head other at.finish is at.ends;
       }
 
-  serves : is_common row ≡ false → ParametersFit s image number row block → (inside : Bool) → Serves code (at_inside inside (ground_of image number row)) s (places_of_process s row.process) (uses_of image block number inside)
-  serves own parameters inside =
+  -- what may be used inside of UPDATE blocks may be used outside
+  serves : is_common row ≡ false → ParametersFit s image number row → (inside stands : Bool) → (inside ≡ false → stands ≡ false)
+      → Serves code (at_inside stands (ground_of image number row)) s (places_of_process s row.process) (uses_of s image row.process block number inside)
+  serves own parameters inside stands so =
       record {
         own = own;
-        asks = λ is. asks_outside inside is;
+        asks = λ is. asks_outside inside stands so is;
         events = refl;
-        calls = λ unit callee body other may named found there. may_be_called inside unit callee body other may named found there;
-        wholes = λ unit may. parameters.wholes inside unit may;
+        calls = λ unit callee body other may named found there.
+            may_be_called inside stands so unit callee body other (and_parts (reached s row.process unit) (may_use image number inside (block unit)) may).1 named found there;
+        wholes = λ unit may. parameters.wholes stands unit (and_parts (reached s row.process unit) (may_use image number inside (block unit)) may).0;
       }
 
-  -- all that statements use
-  pub supports : is_common row ≡ false → ParametersFit s image number row block → blocks_right image ≡ true → images.tables_of image ≡ s.tables
-      → Supports code (ground_of image number row) s (places_of_process s row.process) (uses_of image block number)
-  supports own parameters right tables =
-      record {
-        serves = serves own parameters;
-        results = results_known image right;
-        references = λ inside unit may. parameters.references inside unit may;
-        tables = tables;
-      }
+  module _ (own : is_common row ≡ false) (parameters : ParametersFit s image number row) (right : blocks_right image ≡ true) (tables : images.tables_of image ≡ s.tables) where
+    -- all that statements use
+    pub supports : Supports code (ground_of image number row) s (places_of_process s row.process) (uses_of s image row.process block number)
+    supports =
+        record {
+          serves = λ inside. serves own parameters inside inside (λ so. so);
+          results = results_known image right;
+          references = λ inside unit may. parameters.references unit (and_parts (reached s row.process unit) (may_use image number inside (block unit)) may).0;
+          tables = tables;
+        }
+
+    -- the same of what they may use inside of UPDATE blocks, wherever they stand
+    pub supports_inside : Supports code (ground_of image number row) s (places_of_process s row.process) (λ inside. uses_of s image row.process block number true)
+    supports_inside =
+        record {
+          serves = λ inside. serves own parameters true inside (λ so. absurd (cc));
+          results = results_known image right;
+          references = λ inside unit may. parameters.references unit (and_parts (reached s row.process unit) (may_use image number true (block unit)) may).0;
+          tables = tables;
+        }

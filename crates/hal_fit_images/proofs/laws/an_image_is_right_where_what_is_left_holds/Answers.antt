@@ -15,12 +15,14 @@ use Rattle.hal_meaning.specs.Bodies.{processes_of}
 use Rattle.hal_meaning.specs.ReportNames.{path_of}
 use Rattle.hal_meaning.specs.Runs.{places_of_process}
 use Rattle.hal_meaning.specs.Sets.{Set, set_of}
+use Rattle.hal_link.proofs.Linked.{image_placed}
 use Rattle.hal_link.specs.CalledViews.{views_of}
 use Rattle.hal_link.specs.Shapes.{Shapes, shapes_of}
 use Rattle.hal_fit_calls.specs.Each.{Each}
 use Rattle.hal_fit_layout.specs.Rows.{IsNumbered}
 use Rattle.hal_fit_rows.proofs.Made.{image_is}
 use Rattle.hal_fit_images.proofs.Knowing.{all_fit, rows_of_image}
+use Rattle.hal_fit_images.proofs.Serving.{AreGiven}
 use Rattle.hal_fit_images.proofs.laws.an_image_is_right_where_what_is_left_holds.Goals as goal
 
 pub returns : goal.returns
@@ -31,10 +33,26 @@ returns c turns files image is accepted few_turns left =
     let tables = (c.a_set_is_a_load.ensures turns files (c.a_set_within_its_limits_is_small.ensures turns files accepted.within accepted.program few_turns)).right in
     let blocks = c.each_block_of_a_linked_image_is_of_a_process_or_a_unit.ensures in
     let stored = c.parameters_of_units_are_stored.ensures in
+    let calls = c.what_update_blocks_call_is_harmless.ensures in
+    let statements = c.the_statements_of_each_known_unit_fit.ensures in
+    let given : AreGiven s views image =
+    record {
+      locked = accepted.locked;
+      acyclic = c.a_set_that_breaks_no_rule_of_calls_has_no_cycles.ensures.acyclic (phrases_of files) counted accepted.called;
+      fit = λ g u places unit b found known. statements.fit image g u s files places unit b refl refl accepted.typed accepted.locked found known;
+      inside = λ g v places unit b found known harmless. statements.inside image g v s files places unit b refl refl accepted.typed accepted.locked found known harmless;
+      called = λ p q among inside is. calls.called (phrases_of files) accepted.locked p q among inside is;
+      itself = λ q harmless. calls.itself (phrases_of files) q harmless;
+      on = λ q r unit called harmless. calls.on (phrases_of files) q r unit called harmless;
+      rows = blocks.rows turns files views image is;
+      tables = (image_placed turns files views image is).tables;
+      known = blocks.known turns files views image is;
+      own = blocks.own turns files views image is;
+      few = tables.few_processes;
+    } in
     let shapes : shapes_of s ≡ image.shapes = ap (λ (x : ImageParts). x.shapes) (image_is s views image is).1 in
     c.an_image_of_blocks_that_fit_is_right.ensures turns files views image is
-    (all_fit s counted views image is tables.few_processes (stored.inputs turns files accepted.named accepted.parts) (stored.outputs turns files accepted.named accepted.parts) accepted.few left
-    (blocks.known turns files views image is))
+    (all_fit s counted views image is tables.few_processes (stored.inputs turns files accepted.named accepted.parts) (stored.outputs turns files accepted.named accepted.parts) accepted.few given left)
     (rows_of_image s views image is tables refl (length-map (processes_of (phrases_of files)) (path_of (phrases_of files))) counted
     (c.a_set_that_breaks_no_rule_of_calls_has_no_cycles.ensures.reentrant (phrases_of files) counted accepted.called) accepted.within.cells (blocks.own turns files views image is)
     (record {
