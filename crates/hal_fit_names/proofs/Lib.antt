@@ -16,4 +16,5 @@ mod Owning
 mod MeantNames
 mod Bodied
 mod Callable
+mod KindsMeant
 mod UnitsKnown

@@ -4,7 +4,7 @@ use Rattle.std.specs.Option.{is_some}
 use Rattle.hal_base.specs.declared.refusal.Place.{Place}
 use Rattle.hal_grammar.specs.Leaves.{Naming}
 use Rattle.hal_grammar.specs.Declarations.{Declaration}
-use Rattle.hal_grammar.specs.Expressions.{Refers, Subscript}
+use Rattle.hal_grammar.specs.Expressions.{Expression, Literal, Decimal, Refers, Subscript}
 use Rattle.hal_grammar.specs.Units.{Procedure, Mode}
 use Rattle.hal_phrases.specs.declared.role.Role.{Role}
 use Rattle.hal_phrases.specs.declared.role.Role.TheVariants as role
@@ -15,19 +15,20 @@ use Rattle.hal_scope.specs.Sorts.{usage_of}
 use Rattle.hal_scope.specs.Uses.{is_nil}
 use Rattle.hal_types.specs.Rules.{type_rows}
 use Rattle.hal_code.specs.declared.image.ImageParts.{ImageParts}
-use Rattle.hal_agreement.specs.Sites.{Site, within_block}
+use Rattle.hal_agreement.specs.Sites.{Site, here_at, within_block}
 use Rattle.hal_fitting.specs.Fitting.{Ground}
 use Rattle.hal_fit_expr.specs.Uses.{Uses}
 use Rattle.hal_fit_rules.specs.Happening.{AsksAll}
 use Rattle.hal_fit_rules.specs.Owned.{IsFunction}
 use Rattle.hal_fit_rules.specs.Passing.{AreParameters, IsProcedure}
 use Rattle.hal_fit_rules.specs.Signalled.{HasEvents}
-use Rattle.hal_fit_rules.specs.Used.{NodeKnown, ReferenceKnown, PhraseKnown, UnitKnown}
+use Rattle.hal_fit_rules.specs.Used.{LeafKnown, ChannelKnown, NodeKnown, ReferenceKnown, PhraseKnown, UnitKnown}
 use Rattle.hal_fit_rules.specs.Valued.{HasConstants}
-use Rattle.hal_fit_names.specs.Known.{is_left_node, is_left}
+use Rattle.hal_fit_names.specs.Known.{is_channel, is_decimal, is_left_node, is_left}
 use Rattle.hal_fit_names.specs.Named.{AreLeft}
-use Rattle.hal_fit_names.specs.Suited.{HasFitLiterals, AreDeclared}
-use Rattle.hal_fit_names.proofs.MeantNames.{value_agrees, subscript_agrees, output_agrees, variable_agrees, changed_agrees, form_agrees, call_agrees}
+use Rattle.hal_fit_names.specs.Suited.{NodeIsFit, HasFitLiterals, AreDeclared}
+use Rattle.hal_fit_names.proofs.KindsMeant.{name_ranged}
+use Rattle.hal_fit_names.proofs.MeantNames.{value_agrees, subscript_agrees, receiver_agrees, output_agrees, variable_agrees, changed_agrees, form_agrees, call_agrees}
 use Rattle.hal_fit_names.proofs.Placing.{NodePlaced}
 
 neither : (a b : Bool) → (a || b) ≡ false → (a ≡ false) × (b ≡ false)
@@ -48,10 +49,25 @@ module _ (image : ImageParts) (g : Ground) (u : Bool → Uses) (site : Site) (na
   events_in : (block : ℕ) → HasEvents image (within_block block site)
   events_in block = record { tables = events.tables; processes = events.processes; events = events.events }
 
+  -- an expression that is no decimal
+  leaf_known : (r : Role) (tree : Expression) → is_decimal tree ≡ false → NodeIsFit (OfExpression r tree) → LeafKnown tree
+  leaf_known r (Literal place literal) plain fit = fit
+  leaf_known r (Decimal place number) plain fit = absurd (cc)
+  leaf_known r other plain fit = tt
+
+  -- and no channel
+  channel_known : (q : Phrase) (r : Role) (tree : Expression) → is_channel r ≡ false → ChannelKnown (within_block q.around.block site) site.set.phrases q r tree
+  channel_known q role.Channel tree plain = absurd (cc)
+  channel_known q other tree plain = tt
+
   reference_known : (q : Phrase) (r : Role) (place : Place) (name : List ℕ) (path : List Naming) (x : Subscript) → IsAmong q site.set.phrases → q.node ≡ OfReference r (Refers place name path x) → is_left_node (OfReference r (Refers place name path x)) ≡ false
       → ReferenceKnown (u false) (within_block q.around.block site) site.set.phrases q.around.block r (Refers place name path x)
   unfolding is_nil usage_of
-  reference_known q role.Receiver place name path x within is plain = absurd (cc)
+  reference_known q role.Receiver place name [] x within is plain = (
+    receiver_agrees (u false) (within_block q.around.block site) named sound counted declared literals has (asks_in q.around.block) (left q.around.block) placed q place name x within is refl,
+    name_ranged (here_at (within_block q.around.block site)) [] [] name,
+  )
+  reference_known q role.Receiver place name (n ∷ path) x within is plain = absurd (cc)
   reference_known q role.Event place name path x within is plain = absurd (cc)
   reference_known q role.EventOrTime place name path x within is plain = absurd (cc)
   reference_known q role.Output place name [] x within is plain =
@@ -62,7 +78,8 @@ module _ (image : ImageParts) (g : Ground) (u : Bool → Uses) (site : Site) (na
   reference_known q other place name (n ∷ path) x within is plain = absurd (cc)
 
   node_known : (q : Phrase) (n : Node) → IsAmong q site.set.phrases → q.node ≡ n → is_left_node n ≡ false → NodeKnown image g (u false) (within_block q.around.block site) site.set.phrases q n
-  node_known q (OfExpression r tree) within is plain = absurd (cc)
+  node_known q (OfExpression r tree) within is plain =
+      let both = neither (is_channel r) (is_decimal tree) plain in (leaf_known r tree both.1 (subst NodeIsFit is (literals q within)), channel_known q r tree both.0)
   node_known q (OfReference r (Refers place name path x)) within is plain = reference_known q r place name path x within is plain
   node_known q (OfTemporaryGroup labels variable) within is plain = absurd (cc)
   node_known q (OfAssignment receivers value) within is plain = absurd (cc)

@@ -197,8 +197,8 @@ pub fn calls_agree()
     what_is_meant_declares_the_name();
 }
 
-/// So a unit is known, as the law of statements asks, where this is known of the phrases that are left: those in UPDATE blocks, references with a path, receivers, operands
-/// of event expressions, literals, channels, TEMPORARY variables, assignments and RETURN.
+/// So a unit is known, as the law of statements asks, where this is known of the phrases that are left: those in UPDATE blocks, references with a path, operands
+/// of event expressions, channels, decimals, TEMPORARY variables, assignments and RETURN.
 pub fn units_are_known_where_what_is_left_is()
     ensures { (image : ImageParts) (g : Ground) (u : Bool → Uses) (files : List File) (site : Site) (home : ℕ) → site.set.phrases ≡ phrases_of files → HasConstants site → AsksAll (u false) site
         → ((block : ℕ) → AreLeft (u false) (within_block block site))
