@@ -22,7 +22,7 @@ use Rattle.hal_constants.specs.Naming.{is_value_item, value_at}
 use Rattle.hal_states.specs.Spots.{Spot, Held}
 use Rattle.hal_meaning.specs.Bodies.{meant}
 use Rattle.hal_meaning.specs.Access.{Here}
-use Rattle.hal_meaning.specs.Elements.{Component, Shape, Above, component, components_from, components_at, components_named, leads, chosen, lower, path_to, shape_of, shape_of_type}
+use Rattle.hal_meaning.specs.Elements.{Component, Shape, Above, component, components_from, components_at, leads, chosen, lower, path_to, shape_of, shape_of_type}
 use Rattle.hal_meaning.specs.Events.{event_of}
 use Rattle.hal_meaning.specs.Places.{storing}
 use Rattle.hal_meaning.specs.Statements.{kind_meant}
