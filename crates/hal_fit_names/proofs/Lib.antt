@@ -17,4 +17,5 @@ mod MeantNames
 mod Bodied
 mod Callable
 mod KindsMeant
+mod Parametered
 mod UnitsKnown

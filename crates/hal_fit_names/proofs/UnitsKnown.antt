@@ -20,6 +20,7 @@ use Rattle.hal_scope.specs.Sorts.{type_of, usage_of, use_of, use_of_reference, u
 use Rattle.hal_scope.specs.Uses.{is_nil}
 use Rattle.hal_types.specs.Rules.{type_rows}
 use Rattle.hal_shapes.specs.Arguments.{parameter_of}
+use Rattle.hal_meaning.specs.Calls.{inputs_of}
 use Rattle.hal_meaning.specs.Sets.{body_at}
 use Rattle.hal_code.specs.declared.image.ImageParts.{ImageParts}
 use Rattle.hal_agreement.specs.Sites.{Site, here_at, within_block}
@@ -59,7 +60,8 @@ module _ (image : ImageParts) (g : Ground) (u : Bool → Uses) (site : Site) (ho
     (declared : AreDeclared site.set.phrases) (literals : HasFitLiterals site.set.phrases) (has : HasConstants site) (asks : AsksAll (u false) site) (left : NamesAreLeft (u false) site home) (stands : IsHome g site home)
     (placed : (p : Phrase) → IsAmong p site.set.phrases → NodePlaced site.set.phrases p p.node)
     (bodied : (k : ℕ) (p : Phrase) (name : Naming) (head : Head) (declarations : List Declaration) → slice_get site.set.phrases k ≡ Some p → p.node ≡ OfUnit name head declarations → HasBody site.set.bodies k head)
-    (events : HasEvents image site) where
+    (inputs_known : (k : ℕ) (p : Phrase) (name : Naming) (head : Head) (declarations : List Declaration) → slice_get site.set.phrases k ≡ Some p → p.node ≡ OfUnit name head declarations
+    → AreDeclaredParameters site.set.phrases k (inputs_of head)) (events : HasEvents image site) where
   asks_in : (block : ℕ) → AsksAll (u false) (within_block block site)
   asks_in block = record { asks = asks.asks; all = asks.all }
 
@@ -82,6 +84,10 @@ module _ (image : ImageParts) (g : Ground) (u : Bool → Uses) (site : Site) (ho
   declared_parameters block unit [] are = tt
   declared_parameters block unit (name ∷ names) are = (declared_parameter block unit name are.0, declared_parameters block unit names are.1)
 
+  numbered_inputs : (k : ℕ) (p : Phrase) (name : Naming) (head : Head) (declarations : List Declaration) → slice_get site.set.phrases k ≡ Some p → p.node ≡ OfUnit name head declarations
+      → AreDeclaredParameters site.set.phrases p.number (inputs_of head)
+  numbered_inputs k p name head declarations there is = subst (λ n. AreDeclaredParameters site.set.phrases n (inputs_of head)) (sym (counted k p there)) (inputs_known k p name head declarations there is)
+
   -- the phrase uses a name of the unit
   module _ (q : Phrase) (within : IsAmong q site.set.phrases) (here : q.around.home ≡ home) (outside : is_some q.around.update ≡ false) (v : Use) (uses : used q.node ≡ Some v) where
     meaning : (k : ℕ) (p : Phrase) → means site.set.phrases q.around.block v.name ≡ Some k → slice_get site.set.phrases k ≡ Some p → IsUsed site home q v k p
@@ -98,13 +104,14 @@ module _ (image : ImageParts) (g : Ground) (u : Bool → Uses) (site : Site) (ho
 
     function_parameters : FunctionParameters (u false) (within_block q.around.block site) v.name
     function_parameters k p meant there is =
-        declared_parameters q.around.block p.number is.inputs (left.parameters q v k p is.name (Function is.place is.inputs is.returns is.mode) is.declarations (meaning k p meant there) is.declares)
+        declared_parameters q.around.block p.number is.inputs
+        (numbered_inputs k p is.name (Function is.place is.inputs is.returns is.mode) is.declarations there is.declares)
 
     procedures : AreProcedures (u false) (within_block q.around.block site) v.name
     procedures k p unit place inputs outputs mode declarations meant there is =
         procedure_known (u false) (within_block q.around.block site) sound counted k p there unit place inputs outputs mode declarations is (bodied k p unit (Procedure place inputs outputs mode) declarations there is)
         (left.called q v k p unit (Procedure place inputs outputs mode) declarations (meaning k p meant there) is refl)
-        (declared_parameters q.around.block p.number inputs (left.parameters q v k p unit (Procedure place inputs outputs mode) declarations (meaning k p meant there) is))
+        (declared_parameters q.around.block p.number inputs (numbered_inputs k p unit (Procedure place inputs outputs mode) declarations there is))
 
   -- RETURN
   return_known : (q : Phrase) (value : Option Expression) → q.around.home ≡ home → ReturnKnown image g (within_block q.around.block site) site.set.phrases q.around.home value

@@ -14,7 +14,7 @@ use Rattle.hal_kinds.specs.Attributes.{sizes_of}
 use Rattle.hal_values.specs.declared.value.Value.{Value}
 use Rattle.hal_constants.specs.Naming.{is_value_item, value_at}
 use Rattle.hal_shapes.specs.Arguments.{parameter_of}
-use Rattle.hal_meaning.specs.Calls.{inputs_of, is_function, zero_of}
+use Rattle.hal_meaning.specs.Calls.{is_function, zero_of}
 use Rattle.hal_code.specs.Controlling as machine
 use Rattle.hal_agreement.specs.Sites.{Site}
 use Rattle.hal_fitting.specs.Fitting.{Ground}
@@ -40,6 +40,10 @@ pub record IsDeclaredParameter (ps : List Phrase) (unit : ℕ) (name : Naming) :
   pub dimensioned : sizes_of common item ≡ Some NoExpressions → ⊥
   pub stored : is_value_item common item ≡ false
 
+-- no list of sizes is empty, as it is with what words spell
+abbrev pub HaveSizes : List Phrase → Type 0
+HaveSizes ps = (p : Phrase) (common : List Attribute) (item : Declared) → IsAmong p ps → p.node ≡ OfItem common item → sizes_of common item ≡ Some NoExpressions → ⊥
+
 -- parameters of these names
 abbrev pub AreDeclaredParameters : List Phrase → ℕ → List Naming → Type 0
 AreDeclaredParameters ps unit [] = Unit {0}
@@ -51,15 +55,13 @@ is_callee (Procedure place inputs outputs mode) = true
 is_callee (Function place inputs returns mode) = true
 is_callee other = false
 
--- names that it uses mean nothing of written templates, have values where they mean constants that are their values, and mean units that may be called and declare their parameters
+-- names that it uses mean nothing of written templates, have values where they mean constants that are their values, and mean units that may be called
 pub record NamesAreLeft (u : Uses) (site : Site) (home : ℕ) : Type 0 where
   pub untemplated : (q : Phrase) (v : Use) (k : ℕ) (p : Phrase) → IsUsed site home q v k p → is_templated site.set.phrases p p.node ≡ false
   pub valued : (q : Phrase) (v : Use) (k : ℕ) (p : Phrase) (common : List Attribute) (item : Declared) → IsUsed site home q v k p → p.node ≡ OfItem common item → is_value_item common item ≡ true
       → (one : Value) × (value_at site.set.constants p.number ≡ Some one)
   pub called : (q : Phrase) (v : Use) (k : ℕ) (p : Phrase) (name : Naming) (head : Head) (declarations : List Declaration) → IsUsed site home q v k p → p.node ≡ OfUnit name head declarations
       → is_callee head ≡ true → u.calls p.number ≡ true
-  pub parameters : (q : Phrase) (v : Use) (k : ℕ) (p : Phrase) (name : Naming) (head : Head) (declarations : List Declaration) → IsUsed site home q v k p → p.node ≡ OfUnit name head declarations
-      → AreDeclaredParameters site.set.phrases p.number (inputs_of head)
 
 -- the site is that of the unit with this number, which gives back what its code does
 pub record IsHome (g : Ground) (site : Site) (home : ℕ) : Type 0 where

@@ -28,6 +28,7 @@ ghost use Rattle.hal_constants.specs.Known.{kind_of_type, known};
 ghost use Rattle.hal_constants.specs.Naming.{is_value_item};
 ghost use Rattle.hal_shapes.specs.Arguments.{parameter_of};
 ghost use Rattle.hal_meaning.specs.Bodies.{bodies_of};
+ghost use Rattle.hal_meaning.specs.Calls.{inputs_of};
 ghost use Rattle.hal_meaning.specs.Sets.{Set};
 ghost use Rattle.hal_meaning.specs.Variables.{name_meant};
 ghost use Rattle.hal_code.specs.declared.image.ImageParts.{ImageParts};
@@ -49,9 +50,11 @@ ghost use Rattle.hal_fit_names.specs.Bodied.{HasBody};
 ghost use Rattle.hal_fit_names.specs.Known.{is_left};
 ghost use Rattle.hal_fit_names.specs.Named.{AreLeft, AreProcedures, FunctionParameters};
 ghost use Rattle.hal_fit_names.specs.Suited.{HasFitLiterals, is_templated, Suits};
-ghost use Rattle.hal_fit_names.specs.Used.{IsHome, NamesAreLeft};
+ghost use Rattle.hal_fit_names.specs.Used.{AreDeclaredParameters, HaveSizes, IsHome, NamesAreLeft};
 
-use hal_names::{phrases_are_counted, what_is_meant_declares_the_name};
+use hal_names::{
+    a_key_is_found_at_its_first_declaration, phrases_are_counted, what_is_meant_declares_the_name,
+};
 
 /// In a set of files that breaks no rule of names or types, no operand of an expression is wrong where a constant is needed, and a value of it is a right one of
 /// the class of the expression; this is so for each phrase in the block of the expression, before which other constants may stand (language document, Kinds).
@@ -194,14 +197,25 @@ pub fn calls_agree()
     what_is_meant_declares_the_name();
 }
 
+/// The input parameters of a unit of such a set are declared in it as data, and are no constants (language document, Units).
+pub fn input_parameters_are_declared()
+    ensures { (files : List File) (k : ℕ) (p : Phrase) (name : Naming) (head : Head) (declarations : List Declaration) → IsSound rows (phrases_of files) → IsSound type_rows (phrases_of files)
+        → HaveSizes (phrases_of files) → slice_get (phrases_of files) k ≡ Some p → p.node ≡ OfUnit name head declarations → AreDeclaredParameters (phrases_of files) k (inputs_of head) }
+{
+    phrases_are_counted();
+    a_key_is_found_at_its_first_declaration();
+}
+
 /// So a unit is known, as the law of statements asks, where this is known of the phrases that are left: those in UPDATE blocks, references with a path, operands of event
 /// expressions, channels, decimals, TEMPORARY variables and assignments. What is left of its names is that they mean nothing of written templates, that constants have values, and
-/// that units that they mean may be called and declare their parameters.
+/// that units that they mean may be called.
 pub fn units_are_known_where_what_is_left_is()
     ensures { (image : ImageParts) (g : Ground) (u : Bool → Uses) (files : List File) (site : Site) (home : ℕ) → site.set.phrases ≡ phrases_of files → site.set.bodies ≡ bodies_of files site.set.phrases
         → HasConstants site → AsksAll (u false) site → NamesAreLeft (u false) site home → IsHome g site home → HasEvents image site → IsSound rows (phrases_of files) → IsSound type_rows (phrases_of files)
-        → HasFitLiterals (phrases_of files) → ((q : Phrase) → IsAmong q site.set.phrases → q.around.home ≡ home → is_left q ≡ true → PhraseKnown image g u site q) → UnitKnown image g u site home }
+        → HasFitLiterals (phrases_of files) → HaveSizes (phrases_of files) → ((q : Phrase) → IsAmong q site.set.phrases → q.around.home ≡ home → is_left q ≡ true → PhraseKnown image g u site q)
+        → UnitKnown image g u site home }
 {
     phrases_are_counted();
     what_is_meant_declares_the_name();
+    input_parameters_are_declared();
 }
