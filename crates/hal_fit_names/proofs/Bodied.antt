@@ -5,21 +5,22 @@ use Rattle.std.specs.List.{cons_option}
 use Rattle.std.proofs.lemmas.Bool.{eqb-true, eq-eqb}
 use Rattle.hal_grammar.specs.Leaves.{Naming}
 use Rattle.hal_grammar.specs.Declarations.{Declaration}
-use Rattle.hal_grammar.specs.Units.{Head, Block, BlockOf, Elements, NoElements, StatementFirst, BlockFirst, File}
+use Rattle.hal_grammar.specs.Units.{Head, Program, Compool, Task, Procedure, Function, Block, BlockOf, Elements, NoElements, StatementFirst, BlockFirst, File}
 use Rattle.hal_phrases.specs.declared.around.Around.{Around}
 use Rattle.hal_phrases.specs.Surroundings.{in_file, behind, opened}
-use Rattle.hal_phrases.specs.Phrases.{Node, Phrase, phrase, OfUnit, gathered_each}
+use Rattle.hal_phrases.specs.Phrases.{Node, Phrase, phrase, add, OfUnit, OfParameter, gathered_each}
 use Rattle.hal_phrases.specs.GatheredStatements.{gathered_statement}
-use Rattle.hal_phrases.specs.GatheredUnits.{gathered_block, gathered_elements, gathered_file, phrases_of}
+use Rattle.hal_phrases.specs.GatheredUnits.{gathered_parameter, gathered_head, gathered_block, gathered_elements, gathered_file, phrases_of}
 use Rattle.hal_names.specs.Laws.{IsCounted}
 use Rattle.hal_scope.specs.Rules.{IsAmong}
 use Rattle.hal_meaning.specs.Bodies.{Body, body_of, is_unit, units_from, units_within, bodies_from, bodies_of}
+use Rattle.hal_meaning.specs.Calls.{inputs_of}
 use Rattle.hal_meaning.specs.Places.{unit_numbers}
 use Rattle.hal_meaning.specs.Sets.{Set}
 use Rattle.hal_sound_names.proofs.LookingStatements.{statement_goes, close_goes}
 use Rattle.hal_sound_names.proofs.LookingUnits.{declared_numbers, before_others}
 use Rattle.hal_fit_rules.specs.Begun.{AreFirst}
-use Rattle.hal_fit_rules.proofs.Beginning.{then_, there}
+use Rattle.hal_fit_rules.proofs.Beginning.{then_, one, each, there, among}
 use Rattle.hal_fit_rules.proofs.BegunStatements.{close_first}
 use Rattle.hal_fit_rules.proofs.BegunDeclarations.{head_first, declarations_first}
 use Rattle.hal_fit_rules.proofs.BegunUnits.{with_own, with_head, with_declared, elements_first, before_unit, files_first}
@@ -62,10 +63,46 @@ number_later : (o : Option ℕ) (n : ℕ) (ys : List ℕ) → IsAmong n ys → I
 number_later None n ys within = within
 number_later (Some m) n ys within = inr within
 
+-- a phrase of the unit with this number has the name of an input parameter
+pub record IsInput (ps : List Phrase) (k : ℕ) (name : Naming) : Type 0 where
+  pub phrase : Phrase
+  pub within : IsAmong phrase ps
+  pub is : phrase.node ≡ OfParameter name false
+  pub home : phrase.around.home ≡ k
+
+-- each of these names
+abbrev pub AreInputs : List Phrase → ℕ → List Naming → Type 0
+AreInputs ps k [] = Unit {0}
+AreInputs ps k (name ∷ names) = IsInput ps k name × AreInputs ps k names
+
 module _ (ps : List Phrase) where
+  each_input : (a : Around) (d : List Phrase) (names : List Naming) → AreFirst (gathered_each (gathered_parameter a false) d names) ps → AreInputs ps a.home names
+  each_input a d [] begun = tt
+  each_input a d (name ∷ names) begun =
+      let e : List Phrase = add d a (OfParameter name false) in (
+        record {
+          phrase = phrase (length d) a (OfParameter name false);
+          within = among ps d a (OfParameter name false) (then_ (each (gathered_parameter a false) (λ f x. one f a (OfParameter x false)) e names) begun);
+          is = refl;
+          home = refl;
+        },
+        each_input a e names begun,
+      )
+
+  -- the input parameters of a head
+  head_inputs : (a : Around) (d : List Phrase) (head : Head) → AreFirst (gathered_head d a head) ps → AreInputs ps a.home (inputs_of head)
+  unfolding gathered_head
+  head_inputs a d (Program place) begun = tt
+  head_inputs a d (Compool place) begun = tt
+  head_inputs a d (Task place) begun = tt
+  head_inputs a d (Procedure place inputs outputs mode) begun =
+      let e : List Phrase = gathered_each (gathered_parameter a false) d inputs in each_input a d inputs (then_ (each (gathered_parameter a true) (λ f x. one f a (OfParameter x true)) e outputs) begun)
+  head_inputs a d (Function place inputs returns mode) begun =
+      let e : List Phrase = gathered_each (gathered_parameter a false) d inputs in each_input a d inputs (then_ (head_first e a (Function place [] returns mode)) begun)
+
   -- the phrase with this number is that of the unit
   abbrev IsUnitAt : ℕ → Block → Type 0
-  IsUnitAt k (BlockOf name head declarations body close) = (a : Around) × (slice_get ps k ≡ Some (phrase k a (OfUnit name head declarations)))
+  IsUnitAt k (BlockOf name head declarations body close) = (a : Around) × (slice_get ps k ≡ Some (phrase k a (OfUnit name head declarations))) × AreInputs ps k (inputs_of head)
 
   abbrev ArePaired : List ℕ → List Block → Type 0
   ArePaired [] [] = Unit {0}
@@ -113,8 +150,9 @@ module _ (ps : List Phrase) where
           ks = k ∷ inner.ks;
           numbers = (close_goes 0 0 (opened k a) d4 close).units ∙ (inner.numbers ∙ (ap (λ x. x ++ inner.ks) (declared_numbers d a name head declarations) ∙ append_assoc (unit_numbers d) (k ∷ []) inner.ks));
           pairs = λ begun.
-              let body_begun = then_ (close_first (opened k a) d4 close) begun in (
-                (a, there ps d a (OfUnit name head declarations) (then_ (head_first d1 (opened k a) head) (then_ (declarations_first (opened k a) d2 declarations) (then_ (elements_first d3 (opened k a) body) body_begun)))),
+              let body_begun = then_ (close_first (opened k a) d4 close) begun in
+              let head_begun = then_ (declarations_first (opened k a) d2 declarations) (then_ (elements_first d3 (opened k a) body) body_begun) in (
+                (a, there ps d a (OfUnit name head declarations) (then_ (head_first d1 (opened k a) head) head_begun), head_inputs (opened k a) d1 head head_begun),
                 inner.pairs body_begun,
               );
         }
@@ -146,6 +184,15 @@ module _ (ps : List Phrase) where
       body_first k head (body_of qs j (BlockOf name h declarations body close)) (bodies_from qs ks bs) (j == k) refl
       (λ here. same_head h head (sym (ap (λ (o : Option Phrase). head_at o) paired.0.1) ∙ (ap (λ i. head_at (slice_get ps i)) here ∙ is))) (λ other. unit_found qs k head ks bs paired.1 (later_of k j ks other within) is)
 
+  -- and its input parameters
+  unit_inputs : (k : ℕ) (head : Head) (ks : List ℕ) (bs : List Block) → ArePaired ks bs → IsAmong k ks → head_at (slice_get ps k) ≡ Some head → AreInputs ps k (inputs_of head)
+  unit_inputs k head [] bs paired within is = absurd within
+  unit_inputs k head (j ∷ ks) [] paired within is = absurd paired
+  unit_inputs k head (j ∷ ks) (BlockOf name h declarations body close ∷ bs) paired (inl same) is =
+      let heads : h ≡ head = same_head h head (sym (ap (λ (o : Option Phrase). head_at o) paired.0.1) ∙ (ap (λ i. head_at (slice_get ps i)) (sym same) ∙ is)) in
+      subst (λ i. AreInputs ps i (inputs_of head)) (sym same) (subst (λ x. AreInputs ps j (inputs_of x)) heads paired.0.2)
+  unit_inputs k head (j ∷ ks) (BlockOf name h declarations body close ∷ bs) paired (inr later) is = unit_inputs k head ks bs paired.1 later is
+
 -- a unit's number is among those of the units
 unit_among : (xs : List Phrase) (p : Phrase) → IsAmong p xs → is_unit p.node ≡ true → IsAmong p.number (unit_numbers xs)
 unit_among [] p within is = absurd within
@@ -164,3 +211,13 @@ unit_has_body files s k p name head declarations counted whole bodies found is =
     (subst (λ ks. HasBody (bodies_from s.phrases ks trees) k head) (sym numbers)
     (unit_found s.phrases s.phrases k head units.ks trees (units.pairs (record { later = []; whole = whole ∙ sym (append-nil (gathered_each gathered_file [] files)) })) among_
     (ap (λ (o : Option Phrase). head_at o) found ∙ ap head_in is)))
+
+pub unit_has_inputs : (files : List File) (k : ℕ) (p : Phrase) (name : Naming) (head : Head) (declarations : List Declaration) → IsCounted (phrases_of files) → slice_get (phrases_of files) k ≡ Some p
+    → p.node ≡ OfUnit name head declarations → AreInputs (phrases_of files) k (inputs_of head)
+unfolding phrases_of
+unit_has_inputs files k p name head declarations counted found is =
+    let ps = phrases_of files in
+    let units = files_pairs ps [] files in
+    let among_ : IsAmong k units.ks = subst (λ ks. IsAmong k ks) units.numbers (subst (λ n. IsAmong n (unit_numbers ps)) (counted k p found) (unit_among ps p (at_among ps k p found) (ap is_unit is))) in
+    unit_inputs ps k head units.ks (flat_map (λ (f : File). units_from f.block) files) (units.pairs (record { later = []; whole = sym (append-nil (gathered_each gathered_file [] files)) })) among_
+    (ap (λ (o : Option Phrase). head_at o) found ∙ ap head_in is)

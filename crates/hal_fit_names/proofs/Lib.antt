@@ -16,4 +16,6 @@ mod Owning
 mod MeantNames
 mod Bodied
 mod Callable
+mod KindsMeant
+mod Parametered
 mod UnitsKnown

@@ -2,3 +2,4 @@ pub mod Suited
 pub mod Named
 pub mod Bodied
 pub mod Known
+pub mod Used

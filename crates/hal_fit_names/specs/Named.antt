@@ -1,9 +1,9 @@
--- What is left to be known of names of values, besides that no rule is broken.
+-- What is left to be known of what a name means, besides that no rule is broken.
 use Rattle.std.specs.Prelude.{◌≡◌, ℕ, true, false, List, Option, Some, slice_get}
 use Rattle.hal_base.specs.declared.refusal.Place.{Place}
 use Rattle.hal_grammar.specs.Leaves.{Naming}
 use Rattle.hal_grammar.specs.Declarations.{Attribute, Declared, Declaration}
-use Rattle.hal_grammar.specs.Units.{Function, Returns, Mode}
+use Rattle.hal_grammar.specs.Units.{Procedure, Function, Returns, Mode}
 use Rattle.hal_phrases.specs.Phrases.{Phrase, OfUnit, OfItem}
 use Rattle.hal_names.specs.Means.{means}
 use Rattle.hal_values.specs.declared.value.Value.{Value}
@@ -11,12 +11,24 @@ use Rattle.hal_constants.specs.Naming.{is_value_item, value_at}
 use Rattle.hal_agreement.specs.Sites.{Site}
 use Rattle.hal_fit_expr.specs.Uses.{Uses}
 use Rattle.hal_fit_rules.specs.Owned.{IsFunction}
+use Rattle.hal_fit_rules.specs.Passing.{AreParameters, IsProcedure}
 use Rattle.hal_fit_names.specs.Suited.{is_templated}
 
--- names mean nothing of written templates, constants that are their values have one, and FUNCTIONs may be called
-pub record AreLeft (u : Uses) (site : Site) : Type 0 where
-  pub untemplated : (name : List ℕ) (k : ℕ) (p : Phrase) → means site.set.phrases site.block name ≡ Some k → slice_get site.set.phrases k ≡ Some p → is_templated site.set.phrases p p.node ≡ false
-  pub valued : (k : ℕ) (p : Phrase) (common : List Attribute) (item : Declared) → slice_get site.set.phrases k ≡ Some p → p.node ≡ OfItem common item → is_value_item common item ≡ true
-      → (v : Value) × (value_at site.set.constants p.number ≡ Some v)
-  pub called : (k : ℕ) (p : Phrase) (name : Naming) (place : Place) (inputs : List Naming) (returns : Returns) (mode : Option Mode) (declarations : List Declaration) → slice_get site.set.phrases k ≡ Some p
-      → p.node ≡ OfUnit name (Function place inputs returns mode) declarations → IsFunction u site p
+-- it means nothing of written templates, has a value where it means a constant that is its value, and a FUNCTION that it means may be called
+pub record AreLeft (u : Uses) (site : Site) (name : List ℕ) : Type 0 where
+  pub untemplated : (k : ℕ) (p : Phrase) → means site.set.phrases site.block name ≡ Some k → slice_get site.set.phrases k ≡ Some p → is_templated site.set.phrases p p.node ≡ false
+  pub valued : (k : ℕ) (p : Phrase) (common : List Attribute) (item : Declared) → means site.set.phrases site.block name ≡ Some k → slice_get site.set.phrases k ≡ Some p → p.node ≡ OfItem common item
+      → is_value_item common item ≡ true → (v : Value) × (value_at site.set.constants p.number ≡ Some v)
+  pub called : (k : ℕ) (p : Phrase) (unit : Naming) (place : Place) (inputs : List Naming) (returns : Returns) (mode : Option Mode) (declarations : List Declaration)
+      → means site.set.phrases site.block name ≡ Some k → slice_get site.set.phrases k ≡ Some p → p.node ≡ OfUnit unit (Function place inputs returns mode) declarations → IsFunction u site p
+
+-- a FUNCTION that it means has parameters that are known
+abbrev pub FunctionParameters : Uses → Site → List ℕ → Type 0
+FunctionParameters u site name =
+    (k : ℕ) (p : Phrase) → means site.set.phrases site.block name ≡ Some k → slice_get site.set.phrases k ≡ Some p → (is : IsFunction u site p) → AreParameters site p.number is.inputs
+
+-- and a PROCEDURE that it means may be called and has such parameters
+abbrev pub AreProcedures : Uses → Site → List ℕ → Type 0
+AreProcedures u site name =
+    (k : ℕ) (p : Phrase) (unit : Naming) (place : Place) (inputs outputs : List Naming) (mode : Option Mode) (declarations : List Declaration) → means site.set.phrases site.block name ≡ Some k
+    → slice_get site.set.phrases k ≡ Some p → p.node ≡ OfUnit unit (Procedure place inputs outputs mode) declarations → IsProcedure u site p

@@ -28,10 +28,11 @@ ghost use Rattle.hal_constants.specs.Known.{kind_of_type, known};
 ghost use Rattle.hal_constants.specs.Naming.{is_value_item};
 ghost use Rattle.hal_shapes.specs.Arguments.{parameter_of};
 ghost use Rattle.hal_meaning.specs.Bodies.{bodies_of};
+ghost use Rattle.hal_meaning.specs.Calls.{inputs_of};
 ghost use Rattle.hal_meaning.specs.Sets.{Set};
 ghost use Rattle.hal_meaning.specs.Variables.{name_meant};
 ghost use Rattle.hal_code.specs.declared.image.ImageParts.{ImageParts};
-ghost use Rattle.hal_agreement.specs.Sites.{Site, here_at, within_block};
+ghost use Rattle.hal_agreement.specs.Sites.{Site, here_at};
 ghost use Rattle.hal_fitting.specs.Fitting.{Ground};
 ghost use Rattle.hal_fit_expr.specs.Uses.{Uses};
 ghost use Rattle.hal_fit_rules.specs.Agreeing.{FormAgrees, NameAgrees};
@@ -47,10 +48,13 @@ ghost use Rattle.hal_fit_rules.specs.Used.{PhraseKnown, UnitKnown};
 ghost use Rattle.hal_fit_rules.specs.Valued.{HasConstants};
 ghost use Rattle.hal_fit_names.specs.Bodied.{HasBody};
 ghost use Rattle.hal_fit_names.specs.Known.{is_left};
-ghost use Rattle.hal_fit_names.specs.Named.{AreLeft};
+ghost use Rattle.hal_fit_names.specs.Named.{AreLeft, AreProcedures, FunctionParameters};
 ghost use Rattle.hal_fit_names.specs.Suited.{HasFitLiterals, is_templated, Suits};
+ghost use Rattle.hal_fit_names.specs.Used.{AreDeclaredParameters, HaveSizes, IsHome, NamesAreLeft};
 
-use hal_names::{phrases_are_counted, what_is_meant_declares_the_name};
+use hal_names::{
+    a_key_is_found_at_its_first_declaration, phrases_are_counted, what_is_meant_declares_the_name,
+};
 
 /// In a set of files that breaks no rule of names or types, no operand of an expression is wrong where a constant is needed, and a value of it is a right one of
 /// the class of the expression; this is so for each phrase in the block of the expression, before which other constants may stand (language document, Kinds).
@@ -108,12 +112,12 @@ pub fn names_of_no_template_are_own()
 
 /// A name without a path agrees that is used as a value, outside of UPDATE blocks, in a set of files that breaks no rule of names or types, also behind `$`: it means
 /// data, an event, a process, a structure, a constant, a FUNCTION or a built-in function, each of which is for the meaning what it is for the checks. What is left is
-/// that written templates are apart, that constants have values, and that FUNCTIONs may be called (language document, Names).
+/// that it means nothing of a written template, that a constant has a value, and that a FUNCTION may be called (language document, Names).
 pub fn names_of_values_agree()
     ensures reference { (u : Uses) (files : List File) (site : Site) (q : Phrase) (role : Role) (place : Place) (name : List ℕ) (subscript : Subscript) → site.set.phrases ≡ phrases_of files → HasConstants site
-        → AsksAll u site → AreLeft u site → IsSound rows (phrases_of files) → IsSound type_rows (phrases_of files) → HasFitLiterals (phrases_of files) → IsAmong q (phrases_of files)
+        → AsksAll u site → AreLeft u site name → IsSound rows (phrases_of files) → IsSound type_rows (phrases_of files) → HasFitLiterals (phrases_of files) → IsAmong q (phrases_of files)
         → q.node ≡ OfReference role (Refers place name [] subscript) → usage_of role ≡ usage.Value → q.around.block ≡ site.block → NameAgrees u site site.set.phrases site.block name [] }
-    ensures subscript { (u : Uses) (files : List File) (site : Site) (q : Phrase) (name : Naming) → site.set.phrases ≡ phrases_of files → HasConstants site → AsksAll u site → AreLeft u site
+    ensures subscript { (u : Uses) (files : List File) (site : Site) (q : Phrase) (name : Naming) → site.set.phrases ≡ phrases_of files → HasConstants site → AsksAll u site → AreLeft u site name.name
         → IsSound rows (phrases_of files) → IsSound type_rows (phrases_of files) → HasFitLiterals (phrases_of files) → IsAmong q (phrases_of files) → q.node ≡ OfSubscriptName name
         → q.around.block ≡ site.block → NameAgrees u site site.set.phrases site.block name.name [] }
 {
@@ -125,14 +129,14 @@ pub fn names_of_values_agree()
 /// and Calls).
 pub fn names_of_receivers_agree()
     ensures receiver { (u : Uses) (files : List File) (site : Site) (q : Phrase) (place : Place) (name : List ℕ) (subscript : Subscript) → site.set.phrases ≡ phrases_of files → HasConstants site
-        → AsksAll u site → AreLeft u site → IsSound rows (phrases_of files) → IsSound type_rows (phrases_of files) → HasFitLiterals (phrases_of files) → IsAmong q (phrases_of files)
+        → AsksAll u site → AreLeft u site name → IsSound rows (phrases_of files) → IsSound type_rows (phrases_of files) → HasFitLiterals (phrases_of files) → IsAmong q (phrases_of files)
         → q.node ≡ OfReference role.Receiver (Refers place name [] subscript) → q.around.block ≡ site.block
         → CellsAgree site.set.phrases [] (means site.set.phrases site.block name) (name_meant (here_at site) name []) }
     ensures output { (u : Uses) (files : List File) (site : Site) (q : Phrase) (place : Place) (name : List ℕ) (subscript : Subscript) → site.set.phrases ≡ phrases_of files → HasConstants site
-        → AsksAll u site → AreLeft u site → IsSound rows (phrases_of files) → IsSound type_rows (phrases_of files) → HasFitLiterals (phrases_of files) → IsAmong q (phrases_of files)
+        → AsksAll u site → AreLeft u site name → IsSound rows (phrases_of files) → IsSound type_rows (phrases_of files) → HasFitLiterals (phrases_of files) → IsAmong q (phrases_of files)
         → q.node ≡ OfReference role.Output (Refers place name [] subscript) → q.around.block ≡ site.block
         → CellsAgree site.set.phrases [] (means site.set.phrases site.block name) (name_meant (here_at site) name []) }
-    ensures variable { (u : Uses) (files : List File) (site : Site) (q : Phrase) (name : Naming) → site.set.phrases ≡ phrases_of files → HasConstants site → AsksAll u site → AreLeft u site
+    ensures variable { (u : Uses) (files : List File) (site : Site) (q : Phrase) (name : Naming) → site.set.phrases ≡ phrases_of files → HasConstants site → AsksAll u site → AreLeft u site name.name
         → IsSound rows (phrases_of files) → IsSound type_rows (phrases_of files) → HasFitLiterals (phrases_of files) → IsAmong q (phrases_of files) → q.node ≡ OfVariable name → q.around.block ≡ site.block
         → CellsAgree site.set.phrases [] (means site.set.phrases site.block name.name) (name_meant (here_at site) name.name []) }
 {
@@ -142,7 +146,7 @@ pub fn names_of_receivers_agree()
 
 /// An event that is signalled, set or reset is for an image with the set's events what it is for the checks (language document, Events).
 pub fn events_that_are_changed_agree()
-    ensures { (u : Uses) (image : ImageParts) (files : List File) (site : Site) (q : Phrase) (event : Eventful) → site.set.phrases ≡ phrases_of files → HasConstants site → AsksAll u site → AreLeft u site
+    ensures { (u : Uses) (image : ImageParts) (files : List File) (site : Site) (q : Phrase) (event : Eventful) → site.set.phrases ≡ phrases_of files → HasConstants site → AsksAll u site → AreLeft u site event.name.name
         → HasEvents image site → IsSound rows (phrases_of files) → IsSound type_rows (phrases_of files) → HasFitLiterals (phrases_of files) → IsAmong q (phrases_of files) → q.node ≡ OfEvent event
         → q.around.block ≡ site.block → EventAgrees image site site.set.phrases site.block event }
 {
@@ -172,42 +176,46 @@ pub fn units_that_may_be_called_are_known()
     phrases_are_counted();
 }
 
-/// A call form is for the meaning what it is for the checks, where the parameters of FUNCTIONs are known: of a FUNCTION or a built-in function, or the product of data and a
+/// A call form is for the meaning what it is for the checks, where the parameters of the FUNCTION are known: of a FUNCTION or a built-in function, or the product of data and a
 /// parenthesis (language document, Products and Built-in functions).
 pub fn call_forms_agree()
     ensures { (u : Uses) (files : List File) (site : Site) (q : Phrase) (place : Place) (name : List ℕ) (arguments : Expressions) → site.set.phrases ≡ phrases_of files → HasConstants site → AsksAll u site
-        → AreLeft u site → ((k : ℕ) (p : Phrase) → slice_get site.set.phrases k ≡ Some p → (is : IsFunction u site p) → AreParameters site p.number is.inputs) → IsSound rows (phrases_of files)
-        → IsSound type_rows (phrases_of files) → HasFitLiterals (phrases_of files) → IsAmong q (phrases_of files) → q.node ≡ OfCallForm place name arguments → q.around.block ≡ site.block
+        → AreLeft u site name → FunctionParameters u site name → IsSound rows (phrases_of files) → IsSound type_rows (phrases_of files) → HasFitLiterals (phrases_of files) → IsAmong q (phrases_of files) → q.node ≡ OfCallForm place name arguments → q.around.block ≡ site.block
         → FormAgrees u site site.set.phrases site.block name }
 {
     phrases_are_counted();
     what_is_meant_declares_the_name();
 }
 
-/// CALL is of a PROCEDURE that is for the meaning what it is for the checks, where PROCEDUREs are known (language document, Calls).
+/// CALL is of a PROCEDURE that is for the meaning what it is for the checks, where it may be called and its parameters are known (language document, Calls).
 pub fn calls_agree()
     ensures { (u : Uses) (files : List File) (site : Site) (q : Phrase) (name : Naming) (arguments : Expressions) (receivers : List Reference) → site.set.phrases ≡ phrases_of files → HasConstants site
-        → AsksAll u site → AreLeft u site
-        → ((k : ℕ) (p : Phrase) (name : Naming) (place : Place) (inputs outputs : List Naming) (mode : Option Mode) (declarations : List Declaration) → slice_get site.set.phrases k ≡ Some p
-        → p.node ≡ OfUnit name (Procedure place inputs outputs mode) declarations → IsProcedure u site p)
-        → IsSound rows (phrases_of files) → IsSound type_rows (phrases_of files) → HasFitLiterals (phrases_of files) → IsAmong q (phrases_of files) → q.node ≡ OfCall name arguments receivers
+        → AsksAll u site → AreLeft u site name.name → AreProcedures u site name.name → IsSound rows (phrases_of files) → IsSound type_rows (phrases_of files) → HasFitLiterals (phrases_of files) → IsAmong q (phrases_of files) → q.node ≡ OfCall name arguments receivers
         → q.around.block ≡ site.block → ProcedureAgrees u site site.set.phrases site.block name }
 {
     phrases_are_counted();
     what_is_meant_declares_the_name();
 }
 
-/// So a unit is known, as the law of statements asks, where this is known of the phrases that are left: those in UPDATE blocks, references with a path, receivers, operands
-/// of event expressions, literals, channels, TEMPORARY variables, assignments and RETURN.
+/// The input parameters of a unit of such a set are declared in it as data, and are no constants (language document, Units).
+pub fn input_parameters_are_declared()
+    ensures { (files : List File) (k : ℕ) (p : Phrase) (name : Naming) (head : Head) (declarations : List Declaration) → IsSound rows (phrases_of files) → IsSound type_rows (phrases_of files)
+        → HaveSizes (phrases_of files) → slice_get (phrases_of files) k ≡ Some p → p.node ≡ OfUnit name head declarations → AreDeclaredParameters (phrases_of files) k (inputs_of head) }
+{
+    phrases_are_counted();
+    a_key_is_found_at_its_first_declaration();
+}
+
+/// So a unit is known, as the law of statements asks, where this is known of the phrases that are left: those in UPDATE blocks, references with a path, operands of event
+/// expressions, channels, decimals, TEMPORARY variables and assignments. What is left of its names is that they mean nothing of written templates, that constants have values, and
+/// that units that they mean may be called.
 pub fn units_are_known_where_what_is_left_is()
-    ensures { (image : ImageParts) (g : Ground) (u : Bool → Uses) (files : List File) (site : Site) (home : ℕ) → site.set.phrases ≡ phrases_of files → HasConstants site → AsksAll (u false) site
-        → ((block : ℕ) → AreLeft (u false) (within_block block site))
-        → ((block k : ℕ) (p : Phrase) → slice_get site.set.phrases k ≡ Some p → (is : IsFunction (u false) (within_block block site) p) → AreParameters (within_block block site) p.number is.inputs)
-        → ((block k : ℕ) (p : Phrase) (name : Naming) (place : Place) (inputs outputs : List Naming) (mode : Option Mode) (declarations : List Declaration) → slice_get site.set.phrases k ≡ Some p
-        → p.node ≡ OfUnit name (Procedure place inputs outputs mode) declarations → IsProcedure (u false) (within_block block site) p)
-        → HasEvents image site → IsSound rows (phrases_of files) → IsSound type_rows (phrases_of files) → HasFitLiterals (phrases_of files)
-        → ((q : Phrase) → IsAmong q site.set.phrases → q.around.home ≡ home → is_left q ≡ true → PhraseKnown image g u site q) → UnitKnown image g u site home }
+    ensures { (image : ImageParts) (g : Ground) (u : Bool → Uses) (files : List File) (site : Site) (home : ℕ) → site.set.phrases ≡ phrases_of files → site.set.bodies ≡ bodies_of files site.set.phrases
+        → HasConstants site → AsksAll (u false) site → NamesAreLeft (u false) site home → IsHome g site home → HasEvents image site → IsSound rows (phrases_of files) → IsSound type_rows (phrases_of files)
+        → HasFitLiterals (phrases_of files) → HaveSizes (phrases_of files) → ((q : Phrase) → IsAmong q site.set.phrases → q.around.home ≡ home → is_left q ≡ true → PhraseKnown image g u site q)
+        → UnitKnown image g u site home }
 {
     phrases_are_counted();
     what_is_meant_declares_the_name();
+    input_parameters_are_declared();
 }

@@ -12,19 +12,19 @@ pub returns-clause-receiver : goal.returns-clause-receiver
 returns-clause-receiver c u files site q place name subscript whole has asks left named sound literals within is here =
     let counted = c.phrases_are_counted.ensures files in
     receiver_agrees u site (subst (IsSound rows) (sym whole) named) (subst (IsSound type_rows) (sym whole) sound) (subst IsCounted (sym whole) counted)
-    (subst AreDeclared (sym whole) (c.what_is_meant_declares_the_name.ensures files)) (subst HasFitLiterals (sym whole) literals) has asks left
-    (subst (λ (ps : List Phrase). (p : Phrase) → IsAmong p ps → NodePlaced ps p p.node) (sym whole) (items_are_placed files counted)) q place name subscript (subst (λ (ps : List Phrase). IsAmong q ps) (sym whole) within) is here
+    (subst AreDeclared (sym whole) (c.what_is_meant_declares_the_name.ensures files)) (subst HasFitLiterals (sym whole) literals) has asks
+    (subst (λ (ps : List Phrase). (p : Phrase) → IsAmong p ps → NodePlaced ps p p.node) (sym whole) (items_are_placed files counted)) q place name subscript left (subst (λ (ps : List Phrase). IsAmong q ps) (sym whole) within) is here
 
 pub returns-clause-output : goal.returns-clause-output
 returns-clause-output c u files site q place name subscript whole has asks left named sound literals within is here =
     let counted = c.phrases_are_counted.ensures files in
     output_agrees u site (subst (IsSound rows) (sym whole) named) (subst (IsSound type_rows) (sym whole) sound) (subst IsCounted (sym whole) counted)
-    (subst AreDeclared (sym whole) (c.what_is_meant_declares_the_name.ensures files)) (subst HasFitLiterals (sym whole) literals) has asks left
-    (subst (λ (ps : List Phrase). (p : Phrase) → IsAmong p ps → NodePlaced ps p p.node) (sym whole) (items_are_placed files counted)) q place name subscript (subst (λ (ps : List Phrase). IsAmong q ps) (sym whole) within) is here
+    (subst AreDeclared (sym whole) (c.what_is_meant_declares_the_name.ensures files)) (subst HasFitLiterals (sym whole) literals) has asks
+    (subst (λ (ps : List Phrase). (p : Phrase) → IsAmong p ps → NodePlaced ps p p.node) (sym whole) (items_are_placed files counted)) q place name subscript left (subst (λ (ps : List Phrase). IsAmong q ps) (sym whole) within) is here
 
 pub returns-clause-variable : goal.returns-clause-variable
 returns-clause-variable c u files site q name whole has asks left named sound literals within is here =
     let counted = c.phrases_are_counted.ensures files in
     variable_agrees u site (subst (IsSound rows) (sym whole) named) (subst (IsSound type_rows) (sym whole) sound) (subst IsCounted (sym whole) counted)
-    (subst AreDeclared (sym whole) (c.what_is_meant_declares_the_name.ensures files)) (subst HasFitLiterals (sym whole) literals) has asks left
-    (subst (λ (ps : List Phrase). (p : Phrase) → IsAmong p ps → NodePlaced ps p p.node) (sym whole) (items_are_placed files counted)) q name (subst (λ (ps : List Phrase). IsAmong q ps) (sym whole) within) is here
+    (subst AreDeclared (sym whole) (c.what_is_meant_declares_the_name.ensures files)) (subst HasFitLiterals (sym whole) literals) has asks
+    (subst (λ (ps : List Phrase). (p : Phrase) → IsAmong p ps → NodePlaced ps p p.node) (sym whole) (items_are_placed files counted)) q name left (subst (λ (ps : List Phrase). IsAmong q ps) (sym whole) within) is here
