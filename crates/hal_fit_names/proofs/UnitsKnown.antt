@@ -31,6 +31,7 @@ use Rattle.hal_fit_rules.specs.Passing.{IsParameter, AreParameters}
 use Rattle.hal_fit_rules.specs.Signalled.{HasEvents}
 use Rattle.hal_fit_rules.specs.Used.{LeafKnown, ChannelKnown, ReturnKnown, NodeKnown, ReferenceKnown, PhraseKnown, UnitKnown}
 use Rattle.hal_fit_rules.specs.Valued.{HasConstants}
+use Rattle.hal_fit_rules.proofs.Constants.{among_found}
 use Rattle.hal_fit_names.specs.Bodied.{HasBody}
 use Rattle.hal_fit_names.specs.Known.{is_channel, is_decimal, is_left_node, is_left}
 use Rattle.hal_fit_names.specs.Named.{AreLeft, AreProcedures, FunctionParameters}
@@ -41,6 +42,7 @@ use Rattle.hal_fit_names.proofs.Declaring.{parameter_known}
 use Rattle.hal_fit_names.proofs.KindsMeant.{name_ranged}
 use Rattle.hal_fit_names.proofs.MeantNames.{item_typed, value_agrees, subscript_agrees, receiver_agrees, output_agrees, variable_agrees, changed_agrees, form_agrees, call_agrees}
 use Rattle.hal_fit_names.proofs.Placing.{NodePlaced, at_among}
+use Rattle.hal_fit_names.proofs.Temporary.{temporary_sorted}
 
 neither : (a b : Bool) → (a || b) ≡ false → (a ≡ false) × (b ≡ false)
 neither false false is = (refl, refl)
@@ -61,7 +63,8 @@ module _ (image : ImageParts) (g : Ground) (u : Bool → Uses) (site : Site) (ho
     (placed : (p : Phrase) → IsAmong p site.set.phrases → NodePlaced site.set.phrases p p.node)
     (bodied : (k : ℕ) (p : Phrase) (name : Naming) (head : Head) (declarations : List Declaration) → slice_get site.set.phrases k ≡ Some p → p.node ≡ OfUnit name head declarations → HasBody site.set.bodies k head)
     (inputs_known : (k : ℕ) (p : Phrase) (name : Naming) (head : Head) (declarations : List Declaration) → slice_get site.set.phrases k ≡ Some p → p.node ≡ OfUnit name head declarations
-    → AreDeclaredParameters site.set.phrases k (inputs_of head)) (events : HasEvents image site) where
+    → AreDeclaredParameters site.set.phrases k (inputs_of head)) (events : HasEvents image site)
+    (temporaries : (k : ℕ) (p : Phrase) (labels : List Naming) (variable : Naming) → slice_get site.set.phrases k ≡ Some p → p.node ≡ OfTemporaryGroup labels variable → means site.set.phrases k variable.name ≡ Some k) where
   asks_in : (block : ℕ) → AsksAll (u false) (within_block block site)
   asks_in block = record { asks = asks.asks; all = asks.all }
 
@@ -170,7 +173,9 @@ module _ (image : ImageParts) (g : Ground) (u : Bool → Uses) (site : Site) (ho
   node_known q (OfExpression r tree) within here outside is plain =
       let both = neither (is_channel r) (is_decimal tree) plain in (leaf_known r tree both.1 (subst NodeIsFit is (literals q within)), channel_known q r tree both.0)
   node_known q (OfReference r (Refers place name path x)) within here outside is plain = reference_known q r place name path x within here outside is plain
-  node_known q (OfTemporaryGroup labels variable) within here outside is plain = absurd (cc)
+  node_known q (OfTemporaryGroup labels variable) within here outside is plain =
+      let at_ = among_found q site.set.phrases within in
+      temporary_sorted (u false) (within_block q.around.block site) at_.0 q labels variable counted at_.1 is (temporaries at_.0 q labels variable at_.1 is)
   node_known q (OfAssignment receivers value) within here outside is plain = absurd (cc)
   node_known q (OfReturn place value) within here outside is plain = return_known q value here
   node_known q (OfSubscriptName name) within here outside is plain =

@@ -5,7 +5,7 @@ use Rattle.hal_grammar.specs.Leaves.{Naming}
 use Rattle.hal_grammar.specs.Expressions.{Expression, Decimal, Refers}
 use Rattle.hal_phrases.specs.declared.role.Role.{Role}
 use Rattle.hal_phrases.specs.declared.role.Role.TheVariants as role
-use Rattle.hal_phrases.specs.Phrases.{Node, Phrase, OfExpression, OfReference, OfTemporaryGroup, OfAssignment}
+use Rattle.hal_phrases.specs.Phrases.{Node, Phrase, OfExpression, OfReference, OfAssignment}
 use Rattle.hal_scope.specs.Uses.{is_nil}
 
 -- channels
@@ -24,11 +24,10 @@ is_left_reference role.Event path = true
 is_left_reference role.EventOrTime path = true
 is_left_reference other path = not (is_nil path)
 
--- these, channels and decimals, TEMPORARY variables and assignments
+-- these, channels and decimals, and assignments
 abbrev pub is_left_node : Node → Bool
 is_left_node (OfExpression r tree) = is_channel r || is_decimal tree
 is_left_node (OfReference r (Refers place name path subscript)) = is_left_reference r path
-is_left_node (OfTemporaryGroup labels variable) = true
 is_left_node (OfAssignment receivers value) = true
 is_left_node other = false
 
