@@ -215,8 +215,8 @@ pub fn temporary_variables_mean_themselves()
     a_key_is_found_at_its_first_declaration();
 }
 
-/// So a unit is known, as the law of statements asks, where this is known of the phrases that are left: those in UPDATE blocks, references with a path, operands of event
-/// expressions, channels, decimals and assignments. What is left of its names is that they mean nothing of written templates, that constants have values, and
+/// So a unit is known, as the law of statements asks, where this is known of the phrases that are left: values and calls in UPDATE blocks, references with a path, operands of
+/// event expressions, channels, decimals and assignments. What is left of its names is that they mean nothing of written templates, that constants have values, and
 /// that units that they mean may be called.
 pub fn units_are_known_where_what_is_left_is()
     ensures { (image : ImageParts) (g : Ground) (u : Bool → Uses) (files : List File) (site : Site) (home : ℕ) → site.set.phrases ≡ phrases_of files → site.set.bodies ≡ bodies_of files site.set.phrases
