@@ -18,4 +18,6 @@ mod Bodied
 mod Callable
 mod KindsMeant
 mod Parametered
+mod Homing
+mod Temporary
 mod UnitsKnown

@@ -73,7 +73,7 @@ alone_form form.Listed is fits = absurd (cc)
 alone_form form.Arrayed is fits = absurd (cc)
 
 -- the space of a key
-abbrev space_of : Option Key → Option Space
+abbrev pub space_of : Option Key → Option Space
 space_of None = None
 space_of (Some k) = Some k.space
 

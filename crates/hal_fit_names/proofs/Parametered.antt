@@ -47,7 +47,7 @@ no_constant false false true true is = absurd (cc)
 no_constant false false false true is = absurd (cc)
 
 -- the owner of a key, and its name
-abbrev owner_of : Option Key → ℕ
+abbrev pub owner_of : Option Key → ℕ
 owner_of None = 0
 owner_of (Some k) = k.owner
 

@@ -18,7 +18,7 @@ use Rattle.hal_fit_rules.proofs.BegunStatements.{close_first, statement_first}
 use Rattle.hal_fit_rules.proofs.BegunDeclarations.{attributes_first, parts_first, head_first}
 use Rattle.hal_fit_rules.proofs.Constants.{among_found}
 use Rattle.hal_fit_names.proofs.Plain as plainly
-use Rattle.hal_fit_names.proofs.Plain.{is_item, IsPlain, no_step, then_, one}
+use Rattle.hal_fit_names.proofs.Plain.{is_item, IsPart, IsPlain, no_step, then_, one}
 use Rattle.hal_fit_names.proofs.PlainStatements.{close_plain, statement_plain}
 use Rattle.hal_fit_names.proofs.PlainDeclarations.{attribute_plain, attributes_plain, parts_plain, head_plain}
 
@@ -102,34 +102,34 @@ module _ (ps : List Phrase) (counted : IsCounted ps) where
   each_more step steps d (x ∷ xs) = more (steps d x) (each_more step steps (step d x) xs)
 
   -- one more item that is placed
-  one_placed : (q p : Phrase) (e d : List Phrase) → IsAmong q d ⊎ (is_item q.node ≡ false) → (IsAmong q d → IsAmong q e ⊎ (q ≡ p)) → NodePlaced ps p p.node → IsAmong q e ⊎ NodePlaced ps q q.node
-  one_placed q p e d (inr single) ends placed = inr (none_placed ps q q.node single)
-  one_placed q p e d (inl within) ends placed = by (ends within) where
+  one_placed : (home : ℕ) (q p : Phrase) (e d : List Phrase) → IsAmong q d ⊎ IsPart home q → (IsAmong q d → IsAmong q e ⊎ (q ≡ p)) → NodePlaced ps p p.node → IsAmong q e ⊎ NodePlaced ps q q.node
+  one_placed home q p e d (inr part) ends placed = inr (none_placed ps q q.node part.single)
+  one_placed home q p e d (inl within) ends placed = by (ends within) where
     by : IsAmong q e ⊎ (q ≡ p) → IsAmong q e ⊎ NodePlaced ps q q.node
     by (inl before) = inl before
     by (inr same) = inr (subst (λ (x : Phrase). NodePlaced ps x x.node) (sym same) placed)
 
   -- phrases that are no items
-  plain : (d e : List Phrase) → AreFirst d e → IsPlain d e → Places d e
-  plain d e first none = record { first = first; each_ = λ whole p within. by p (none.each_ p within) } where
-    by : (p : Phrase) → IsAmong p d ⊎ (is_item p.node ≡ false) → IsAmong p d ⊎ NodePlaced ps p p.node
+  plain : {home : ℕ} (d e : List Phrase) → AreFirst d e → IsPlain home d e → Places d e
+  plain {home = home} d e first none = record { first = first; each_ = λ whole p within. by p (none.each_ p within) } where
+    by : (p : Phrase) → IsAmong p d ⊎ IsPart home p → IsAmong p d ⊎ NodePlaced ps p p.node
     by p (inl within) = inl within
-    by p (inr single) = inr (none_placed ps p p.node single)
+    by p (inr part) = inr (none_placed ps p p.node part.single)
 
   -- the items up to the end of an item's own attributes
-  beside_own : (a : Around) (common : List Attribute) (item : Declared) (e f : List Phrase) → AreFirst f ps → AreFirst e ps → IsPlain (add e a (OfItem common item)) f → (k : ℕ) (r : Phrase) → slice_get ps k ≡ Some r
+  beside_own : (a : Around) (common : List Attribute) (item : Declared) (e f : List Phrase) → AreFirst f ps → AreFirst e ps → IsPlain a.home (add e a (OfItem common item)) f → (k : ℕ) (r : Phrase) → slice_get ps k ≡ Some r
       → is_item r.node ≡ true → r.number < length f → (r.number < length e) ⊎ (r ≡ phrase (length e) a (OfItem common item))
   beside_own a common item e f whole start none k r there is low = by_plain (none.each_ r (number_among f k r whole there low)) where
     by_end : IsAmong r e ⊎ (r ≡ phrase (length e) a (OfItem common item)) → (r.number < length e) ⊎ (r ≡ phrase (length e) a (OfItem common item))
     by_end (inl within) = inl (number_low e r start within)
     by_end (inr same) = inr same
 
-    by_plain : IsAmong r (add e a (OfItem common item)) ⊎ (is_item r.node ≡ false) → (r.number < length e) ⊎ (r ≡ phrase (length e) a (OfItem common item))
+    by_plain : IsAmong r (add e a (OfItem common item)) ⊎ IsPart a.home r → (r.number < length e) ⊎ (r ≡ phrase (length e) a (OfItem common item))
     by_plain (inl within) = by_end (plainly.behind r (phrase (length e) a (OfItem common item)) e within)
-    by_plain (inr single) = let other : true ≡ false = sym is ∙ single in absurd (cc)
+    by_plain (inr part) = let other : true ≡ false = sym is ∙ part.single in absurd (cc)
 
   -- its own attributes
-  own_placed : (a : Around) (common : List Attribute) (item : Declared) (e : List Phrase) (xs : List Attribute) (d : List Phrase) → AreFirst e ps → IsPlain (add e a (OfItem common item)) d
+  own_placed : (a : Around) (common : List Attribute) (item : Declared) (e : List Phrase) (xs : List Attribute) (d : List Phrase) → AreFirst e ps → IsPlain a.home (add e a (OfItem common item)) d
       → AreFirst (gathered_each (gathered_attribute (below e a)) d xs) ps → ArePlaced ps (phrase (length e) a (OfItem common item)) xs
   own_placed a common item e [] d start none whole = tt
   own_placed a common item e (x ∷ xs) d start none whole =
@@ -159,7 +159,7 @@ module _ (ps : List Phrase) (counted : IsCounted ps) where
         first = begun.then_ (begun.one e a (OfItem common item)) (attributes_first (below e a) d item.attributes);
         each_ = λ whole q within.
             let start = begun.then_ (begun.one e a (OfItem common item)) (begun.then_ (attributes_first (below e a) d item.attributes) whole) in
-            one_placed q p e d ((attributes_plain (below e a) d item.attributes).each_ q within) (λ among_. plainly.behind q p e among_) (own_placed a common item e item.attributes d start (no_step d) whole, given start);
+            one_placed a.home q p e d ((attributes_plain (below e a) d item.attributes).each_ q within) (λ among_. plainly.behind q p e among_) (own_placed a common item e item.attributes d start (no_step d) whole, given start);
       }
 
   items_placed : (b : Around) (common : List Attribute) (d : List Phrase) (items : List Declared) (e : List Phrase) → AreFirst (gathered_each (gathered_attribute b) d common) e → Places e (gathered_each (gathered_item b common) e items)

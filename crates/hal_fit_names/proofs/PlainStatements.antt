@@ -1,5 +1,5 @@
 -- The phrases of a statement are no items.
-use Rattle.std.proofs.Common.{Bool, true, false, List, length, Option, refl}
+use Rattle.std.proofs.Common.{◌≡◌, ℕ, Bool, true, false, List, length, Option, refl, subst}
 use Rattle.hal_grammar.specs.Leaves.{Naming}
 use Rattle.hal_grammar.specs.Expressions.{Expression, Reference}
 use Rattle.hal_grammar.specs.Statements.{Guard, While, Until, Span, Stepped, Listed, Eventful, Start, StartAt, StartIn, StartOn, Cycle, Cyclic, CyclicEvery, CyclicAfter, Schedule, Statement, Labelled, Basic, Null, Assignment, If, Do, DoCase, DoLoop, DoFor, Exit, Repeat, Return, Call, Read, Write, Update, Scheduled, Cancel, Terminate, Wait, WaitUntil, WaitForDependent, WaitFor, Event, UpdatePriority, OnErrorStatement, OnErrorResponse, OffError, SendError, Alternative, NoAlternative, Otherwise, Group, Groups, Statements, NoStatements, MoreStatements}
@@ -13,83 +13,92 @@ use Rattle.hal_phrases.specs.GatheredStatements.{gathered_label, gathered_close,
 use Rattle.hal_fit_names.proofs.Plain.{IsPlain, no_step, then_, one, each, any}
 use Rattle.hal_fit_names.proofs.PlainExpressions.{expression_plain, expressions_plain, reference_plain}
 
-labels_plain : (a : Around) (d : List Phrase) (xs : List Naming) → IsPlain d (gathered_each (gathered_label a) d xs)
+labels_plain : (a : Around) (d : List Phrase) (xs : List Naming) → IsPlain a.home d (gathered_each (gathered_label a) d xs)
 labels_plain a d xs = each (gathered_label a) (λ e x. one e a (OfLabel x) refl) d xs
 
-pub close_plain : (a : Around) (d : List Phrase) (o : Option Naming) → IsPlain d (gathered_any (gathered_close a) d o)
+pub close_plain : (a : Around) (d : List Phrase) (o : Option Naming) → IsPlain a.home d (gathered_any (gathered_close a) d o)
 close_plain a d o = any (gathered_close a) (λ e x. one e a (OfClose x) refl) d o
 
-pub processes_plain : (a : Around) (d : List Phrase) (xs : List Naming) → IsPlain d (gathered_each (gathered_process a) d xs)
+pub processes_plain : (a : Around) (d : List Phrase) (xs : List Naming) → IsPlain a.home d (gathered_each (gathered_process a) d xs)
 processes_plain a d xs = each (gathered_process a) (λ e x. one e a (OfProcess x) refl) d xs
 
-pub process_plain : (a : Around) (d : List Phrase) (o : Option Naming) → IsPlain d (gathered_any (gathered_process a) d o)
+pub process_plain : (a : Around) (d : List Phrase) (o : Option Naming) → IsPlain a.home d (gathered_any (gathered_process a) d o)
 process_plain a d o = any (gathered_process a) (λ e x. one e a (OfProcess x) refl) d o
 
-event_plain : (a : Around) (d : List Phrase) (o : Option Eventful) → IsPlain d (gathered_any (gathered_event a) d o)
+event_plain : (a : Around) (d : List Phrase) (o : Option Eventful) → IsPlain a.home d (gathered_any (gathered_event a) d o)
 event_plain a d o = any (gathered_event a) (λ e x. one e a (OfEvent x) refl) d o
 
-pub receivers_plain : (a : Around) (r : Role) (d : List Phrase) (xs : List Reference) → IsPlain d (gathered_each (gathered_receiver a r) d xs)
+pub receivers_plain : (a : Around) (r : Role) (d : List Phrase) (xs : List Reference) → IsPlain a.home d (gathered_each (gathered_receiver a r) d xs)
 receivers_plain a r d xs = each (gathered_receiver a r) (λ e x. reference_plain e a r x) d xs
 
-pub optional_plain : (d : List Phrase) (a : Around) (r : Role) (o : Option Expression) → IsPlain d (gathered_optional d a r o)
+pub optional_plain : (d : List Phrase) (a : Around) (r : Role) (o : Option Expression) → IsPlain a.home d (gathered_optional d a r o)
 optional_plain d a r o = any (λ e t. gathered e a r t) (λ e t. expression_plain e a r t) d o
 
-pub guard_plain : (a : Around) (d : List Phrase) (x : Guard) → IsPlain d (gathered_guard a d x)
+pub guard_plain : (a : Around) (d : List Phrase) (x : Guard) → IsPlain a.home d (gathered_guard a d x)
 unfolding gathered_guard
 guard_plain a d (While p condition) = expression_plain d a _ condition
 guard_plain a d (Until p condition) = expression_plain d a _ condition
 
-pub any_guard_plain : (a : Around) (d : List Phrase) (o : Option Guard) → IsPlain d (gathered_any (gathered_guard a) d o)
+pub any_guard_plain : (a : Around) (d : List Phrase) (o : Option Guard) → IsPlain a.home d (gathered_any (gathered_guard a) d o)
 any_guard_plain a d o = any (gathered_guard a) (guard_plain a) d o
 
-pub span_plain : (d : List Phrase) (a : Around) (x : Span) → IsPlain d (gathered_span d a x)
+pub span_plain : (d : List Phrase) (a : Around) (x : Span) → IsPlain a.home d (gathered_span d a x)
 unfolding gathered_span
 span_plain d a (Stepped first last step) = then_ (expression_plain d a _ first) (then_ (expression_plain _ a _ last) (optional_plain _ a _ step))
 span_plain d a (Listed values) = expressions_plain d a _ values
 
-start_plain : (a : Around) (d : List Phrase) (x : Start) → IsPlain d (gathered_start a d x)
+start_plain : (a : Around) (d : List Phrase) (x : Start) → IsPlain a.home d (gathered_start a d x)
 unfolding gathered_start
 start_plain a d (StartAt p time) = expression_plain d a _ time
 start_plain a d (StartIn p time) = expression_plain d a _ time
 start_plain a d (StartOn p event) = expression_plain d a _ event
 
-pub any_start_plain : (a : Around) (d : List Phrase) (o : Option Start) → IsPlain d (gathered_any (gathered_start a) d o)
+pub any_start_plain : (a : Around) (d : List Phrase) (o : Option Start) → IsPlain a.home d (gathered_any (gathered_start a) d o)
 any_start_plain a d o = any (gathered_start a) (start_plain a) d o
 
-cycle_plain : (a : Around) (d : List Phrase) (x : Cycle) → IsPlain d (gathered_cycle a d x)
+cycle_plain : (a : Around) (d : List Phrase) (x : Cycle) → IsPlain a.home d (gathered_cycle a d x)
 unfolding gathered_cycle
 cycle_plain a d (Cyclic p) = no_step d
 cycle_plain a d (CyclicEvery p time) = expression_plain d a _ time
 cycle_plain a d (CyclicAfter p time) = expression_plain d a _ time
 
-pub any_cycle_plain : (a : Around) (d : List Phrase) (o : Option Cycle) → IsPlain d (gathered_any (gathered_cycle a) d o)
+pub any_cycle_plain : (a : Around) (d : List Phrase) (o : Option Cycle) → IsPlain a.home d (gathered_any (gathered_cycle a) d o)
 any_cycle_plain a d o = any (gathered_cycle a) (cycle_plain a) d o
 
-limit_plain : (a : Around) (d : List Phrase) (x : Guard) → IsPlain d (gathered_limit a d x)
+limit_plain : (a : Around) (d : List Phrase) (x : Guard) → IsPlain a.home d (gathered_limit a d x)
 unfolding gathered_limit
 limit_plain a d (While p condition) = expression_plain d a _ condition
 limit_plain a d (Until p condition) = expression_plain d a _ condition
 
-pub any_limit_plain : (a : Around) (d : List Phrase) (o : Option Guard) → IsPlain d (gathered_any (gathered_limit a) d o)
+pub any_limit_plain : (a : Around) (d : List Phrase) (o : Option Guard) → IsPlain a.home d (gathered_any (gathered_limit a) d o)
 any_limit_plain a d o = any (gathered_limit a) (limit_plain a) d o
 
-pub schedule_plain : (d : List Phrase) (a : Around) (s : Schedule) → IsPlain d (gathered_schedule d a s)
+pub schedule_plain : (d : List Phrase) (a : Around) (s : Schedule) → IsPlain a.home d (gathered_schedule d a s)
 unfolding gathered_schedule
 schedule_plain d a s =
     then_ (one d a (OfProcess s.name) refl) (then_ (any_start_plain a _ s.start) (then_ (optional_plain _ a _ s.priority) (then_ (any_cycle_plain a _ s.cycle) (any_limit_plain a _ s.guard))))
 
-pub for_plain : (d : List Phrase) (a : Around) (labels : List Naming) (temporary : Bool) (variable : Naming) → IsPlain d (begun_for d a labels temporary variable)
+pub for_plain : (d : List Phrase) (a : Around) (labels : List Naming) (temporary : Bool) (variable : Naming) → IsPlain a.home d (begun_for d a labels temporary variable)
 unfolding begun_for
 for_plain d a labels true variable = one d a (OfTemporaryGroup labels variable) refl
 for_plain d a labels false variable = then_ (one d a (OfGroup labels true) refl) (one _ (below d a) (OfVariable variable) refl)
 
+-- a DO FOR group stands in its unit
+for_home : (d : List Phrase) (a : Around) (temporary : Bool) → (around_for d a temporary).home ≡ a.home
+unfolding around_for
+for_home d a true = refl
+for_home d a false = refl
+
+at_home : {d e : List Phrase} (home one : ℕ) → home ≡ one → IsPlain home d e → IsPlain one d e
+at_home {d = d} {e = e} home one same plain = subst (λ h. IsPlain h d e) same plain
+
 mutual
   unfolding gathered_statement gathered_basic gathered_alternative gathered_group gathered_statements
 
-  pub statement_plain : (d : List Phrase) (a : Around) (x : Statement) → IsPlain d (gathered_statement d a x)
+  pub statement_plain : (d : List Phrase) (a : Around) (x : Statement) → IsPlain a.home d (gathered_statement d a x)
   statement_plain d a (Labelled labels basic) = then_ (labels_plain a d labels) (basic_plain _ a labels basic)
 
-  basic_plain : (d : List Phrase) (a : Around) (labels : List Naming) (x : Basic) → IsPlain d (gathered_basic d a labels x)
+  basic_plain : (d : List Phrase) (a : Around) (labels : List Naming) (x : Basic) → IsPlain a.home d (gathered_basic d a labels x)
   basic_plain d a labels (Null p) = no_step d
   basic_plain d a labels (Assignment p receivers value) = then_ (one d a (OfAssignment receivers value) refl) (then_ (receivers_plain (below d a) _ _ receivers) (expression_plain _ (below d a) _ value))
   basic_plain d a labels (If p condition consequence alternative) =
@@ -99,8 +108,8 @@ mutual
       then_ (one d a (OfGroup labels false) refl) (then_ (expression_plain _ (below d a) _ selector) (then_ (alternative_plain _ (grouped (length d) a) alternative) (group_plain _ (grouped (length d) a) group)))
   basic_plain d a labels (DoLoop p guard group) = then_ (one d a (OfGroup labels true) refl) (then_ (guard_plain (below d a) _ guard) (group_plain _ (grouped (length d) a) group))
   basic_plain d a labels (DoFor p temporary variable span guard group) =
-      then_ (for_plain d a labels temporary variable) (then_ (span_plain _ (around_for d a temporary) span)
-      (then_ (any_guard_plain (around_for d a temporary) _ guard) (group_plain _ (around_for d a temporary) group)))
+      then_ (for_plain d a labels temporary variable)
+      (at_home _ _ (for_home d a temporary) (then_ (span_plain _ (around_for d a temporary) span) (then_ (any_guard_plain (around_for d a temporary) _ guard) (group_plain _ (around_for d a temporary) group))))
   basic_plain d a labels (Exit p label) = one d a (OfExit p label) refl
   basic_plain d a labels (Repeat p label) = one d a (OfRepeat p label) refl
   basic_plain d a labels (Return p value) = then_ (one d a (OfReturn p value) refl) (optional_plain _ (below d a) _ value)
@@ -122,13 +131,13 @@ mutual
   basic_plain d a labels (OffError p selector) = one d a (OfOffError p selector) refl
   basic_plain d a labels (SendError p group_at group number_at number) = one d a (OfSendError group_at group number_at number) refl
 
-  pub alternative_plain : (d : List Phrase) (a : Around) (x : Alternative) → IsPlain d (gathered_alternative d a x)
+  pub alternative_plain : (d : List Phrase) (a : Around) (x : Alternative) → IsPlain a.home d (gathered_alternative d a x)
   alternative_plain d a NoAlternative = no_step d
   alternative_plain d a (Otherwise statement) = statement_plain d a statement
 
-  pub group_plain : (d : List Phrase) (a : Around) (x : Group) → IsPlain d (gathered_group d a x)
+  pub group_plain : (d : List Phrase) (a : Around) (x : Group) → IsPlain a.home d (gathered_group d a x)
   group_plain d a (Groups statements end) = then_ (statements_plain d a statements) (close_plain a _ end)
 
-  pub statements_plain : (d : List Phrase) (a : Around) (x : Statements) → IsPlain d (gathered_statements d a x)
+  pub statements_plain : (d : List Phrase) (a : Around) (x : Statements) → IsPlain a.home d (gathered_statements d a x)
   statements_plain d a NoStatements = no_step d
   statements_plain d a (MoreStatements first others) = then_ (statement_plain d a first) (statements_plain _ a others)

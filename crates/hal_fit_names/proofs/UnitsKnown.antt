@@ -1,5 +1,5 @@
 -- What is known of a unit, where it is known of the phrases that are left.
-use Rattle.std.proofs.Common.{◌≡◌, ℕ, Bool, true, false, ◌||◌, List, [], ◌∷◌, Option, Some, None, slice_get, refl, sym, ap, ◌∙◌, subst}
+use Rattle.std.proofs.Common.{◌≡◌, ℕ, Bool, true, false, ◌&&◌, ◌||◌, List, [], ◌∷◌, Option, Some, None, slice_get, refl, sym, ap, ◌∙◌, subst}
 use Rattle.std.specs.Option.{option_and_then, is_some}
 use Rattle.hal_base.specs.declared.refusal.Place.{Place}
 use Rattle.hal_grammar.specs.Leaves.{Naming}
@@ -31,8 +31,9 @@ use Rattle.hal_fit_rules.specs.Passing.{IsParameter, AreParameters}
 use Rattle.hal_fit_rules.specs.Signalled.{HasEvents}
 use Rattle.hal_fit_rules.specs.Used.{LeafKnown, ChannelKnown, ReturnKnown, NodeKnown, ReferenceKnown, PhraseKnown, UnitKnown}
 use Rattle.hal_fit_rules.specs.Valued.{HasConstants}
+use Rattle.hal_fit_rules.proofs.Constants.{among_found}
 use Rattle.hal_fit_names.specs.Bodied.{HasBody}
-use Rattle.hal_fit_names.specs.Known.{is_channel, is_decimal, is_left_node, is_left}
+use Rattle.hal_fit_names.specs.Known.{is_channel, is_decimal, is_left_node, is_using_role, is_using, is_left}
 use Rattle.hal_fit_names.specs.Named.{AreLeft, AreProcedures, FunctionParameters}
 use Rattle.hal_fit_names.specs.Suited.{NodeIsFit, HasFitLiterals, AreDeclared}
 use Rattle.hal_fit_names.specs.Used.{IsUsed, IsDeclaredParameter, AreDeclaredParameters, NamesAreLeft, IsHome}
@@ -41,6 +42,7 @@ use Rattle.hal_fit_names.proofs.Declaring.{parameter_known}
 use Rattle.hal_fit_names.proofs.KindsMeant.{name_ranged}
 use Rattle.hal_fit_names.proofs.MeantNames.{item_typed, value_agrees, subscript_agrees, receiver_agrees, output_agrees, variable_agrees, changed_agrees, form_agrees, call_agrees}
 use Rattle.hal_fit_names.proofs.Placing.{NodePlaced, at_among}
+use Rattle.hal_fit_names.proofs.Temporary.{temporary_sorted}
 
 neither : (a b : Bool) → (a || b) ≡ false → (a ≡ false) × (b ≡ false)
 neither false false is = (refl, refl)
@@ -61,7 +63,8 @@ module _ (image : ImageParts) (g : Ground) (u : Bool → Uses) (site : Site) (ho
     (placed : (p : Phrase) → IsAmong p site.set.phrases → NodePlaced site.set.phrases p p.node)
     (bodied : (k : ℕ) (p : Phrase) (name : Naming) (head : Head) (declarations : List Declaration) → slice_get site.set.phrases k ≡ Some p → p.node ≡ OfUnit name head declarations → HasBody site.set.bodies k head)
     (inputs_known : (k : ℕ) (p : Phrase) (name : Naming) (head : Head) (declarations : List Declaration) → slice_get site.set.phrases k ≡ Some p → p.node ≡ OfUnit name head declarations
-    → AreDeclaredParameters site.set.phrases k (inputs_of head)) (events : HasEvents image site) where
+    → AreDeclaredParameters site.set.phrases k (inputs_of head)) (events : HasEvents image site)
+    (temporaries : (k : ℕ) (p : Phrase) (labels : List Naming) (variable : Naming) → slice_get site.set.phrases k ≡ Some p → p.node ≡ OfTemporaryGroup labels variable → means site.set.phrases k variable.name ≡ Some k) where
   asks_in : (block : ℕ) → AsksAll (u false) (within_block block site)
   asks_in block = record { asks = asks.asks; all = asks.all }
 
@@ -89,9 +92,9 @@ module _ (image : ImageParts) (g : Ground) (u : Bool → Uses) (site : Site) (ho
   numbered_inputs k p name head declarations there is = subst (λ n. AreDeclaredParameters site.set.phrases n (inputs_of head)) (sym (counted k p there)) (inputs_known k p name head declarations there is)
 
   -- the phrase uses a name of the unit
-  module _ (q : Phrase) (within : IsAmong q site.set.phrases) (here : q.around.home ≡ home) (outside : is_some q.around.update ≡ false) (v : Use) (uses : used q.node ≡ Some v) where
+  module _ (q : Phrase) (within : IsAmong q site.set.phrases) (here : q.around.home ≡ home) (v : Use) (uses : used q.node ≡ Some v) where
     meaning : (k : ℕ) (p : Phrase) → means site.set.phrases q.around.block v.name ≡ Some k → slice_get site.set.phrases k ≡ Some p → IsUsed site home q v k p
-    meaning k p meant there = record { within = within; here = here; outside = outside; uses = uses; meant = meant; there = there }
+    meaning k p meant there = record { within = within; here = here; uses = uses; meant = meant; there = there }
 
     name_left : AreLeft (u false) (within_block q.around.block site) v.name
     name_left = record {
@@ -143,60 +146,65 @@ module _ (image : ImageParts) (g : Ground) (u : Bool → Uses) (site : Site) (ho
   channel_known q other tree plain = tt
 
   -- a reference
-  reference_known : (q : Phrase) (r : Role) (place : Place) (name : List ℕ) (path : List Naming) (x : Subscript) → IsAmong q site.set.phrases → q.around.home ≡ home → is_some q.around.update ≡ false
+  reference_known : (b : Bool) (q : Phrase) (r : Role) (place : Place) (name : List ℕ) (path : List Naming) (x : Subscript) → IsAmong q site.set.phrases → q.around.home ≡ home → (b && is_using_role r) ≡ false
       → q.node ≡ OfReference r (Refers place name path x) → is_left_node (OfReference r (Refers place name path x)) ≡ false
-      → ReferenceKnown (u false) (within_block q.around.block site) site.set.phrases q.around.block r (Refers place name path x)
+      → ReferenceKnown (u b) (within_block q.around.block site) site.set.phrases q.around.block r (Refers place name path x)
   unfolding is_nil usage_of used use_of_reference
-  reference_known q role.Receiver place name [] x within here outside is plain = (
+  reference_known b q role.Receiver place name [] x within here free is plain = (
     receiver_agrees (u false) (within_block q.around.block site) named sound counted declared literals has (asks_in q.around.block) placed q place name x
-        (name_left q within here outside (use_of place name usage.Receiver) (ap used is)) within is refl,
+        (name_left q within here (use_of place name usage.Receiver) (ap used is)) within is refl,
     name_ranged (here_at (within_block q.around.block site)) [] [] name,
   )
-  reference_known q role.Receiver place name (n ∷ path) x within here outside is plain = absurd (cc)
-  reference_known q role.Event place name path x within here outside is plain = absurd (cc)
-  reference_known q role.EventOrTime place name path x within here outside is plain = absurd (cc)
-  reference_known q role.Output place name [] x within here outside is plain =
+  reference_known b q role.Receiver place name (n ∷ path) x within here free is plain = absurd (cc)
+  reference_known b q role.Event place name path x within here free is plain = absurd (cc)
+  reference_known b q role.EventOrTime place name path x within here free is plain = absurd (cc)
+  reference_known b q role.Output place name [] x within here free is plain =
       output_agrees (u false) (within_block q.around.block site) named sound counted declared literals has (asks_in q.around.block) placed q place name x
-      (name_left q within here outside (use_of place name usage.Output) (ap used is)) within is refl
-  reference_known q role.Output place name (n ∷ path) x within here outside is plain = absurd (cc)
-  reference_known q other place name [] x within here outside is plain =
+      (name_left q within here (use_of place name usage.Output) (ap used is)) within is refl
+  reference_known b q role.Output place name (n ∷ path) x within here free is plain = absurd (cc)
+  reference_known false q other place name [] x within here free is plain =
       value_agrees (u false) (within_block q.around.block site) named sound counted declared literals has (asks_in q.around.block) placed q other place name x
-      (name_left q within here outside (use_of place name usage.Value) (ap used is)) within is refl refl
-  reference_known q other place name (n ∷ path) x within here outside is plain = absurd (cc)
+      (name_left q within here (use_of place name usage.Value) (ap used is)) within is refl refl
+  reference_known true q other place name [] x within here free is plain = absurd (cc)
+  reference_known b q other place name (n ∷ path) x within here free is plain = absurd (cc)
 
-  node_known : (q : Phrase) (n : Node) → IsAmong q site.set.phrases → q.around.home ≡ home → is_some q.around.update ≡ false → q.node ≡ n → is_left_node n ≡ false
-      → NodeKnown image g (u false) (within_block q.around.block site) site.set.phrases q n
+  node_known : (b : Bool) (q : Phrase) (n : Node) → IsAmong q site.set.phrases → q.around.home ≡ home → (b && is_using n) ≡ false → q.node ≡ n → is_left_node n ≡ false
+      → NodeKnown image g (u b) (within_block q.around.block site) site.set.phrases q n
   unfolding used
-  node_known q (OfExpression r tree) within here outside is plain =
+  node_known b q (OfExpression r tree) within here free is plain =
       let both = neither (is_channel r) (is_decimal tree) plain in (leaf_known r tree both.1 (subst NodeIsFit is (literals q within)), channel_known q r tree both.0)
-  node_known q (OfReference r (Refers place name path x)) within here outside is plain = reference_known q r place name path x within here outside is plain
-  node_known q (OfTemporaryGroup labels variable) within here outside is plain = absurd (cc)
-  node_known q (OfAssignment receivers value) within here outside is plain = absurd (cc)
-  node_known q (OfReturn place value) within here outside is plain = return_known q value here
-  node_known q (OfSubscriptName name) within here outside is plain =
+  node_known b q (OfReference r (Refers place name path x)) within here free is plain = reference_known b q r place name path x within here free is plain
+  node_known b q (OfTemporaryGroup labels variable) within here free is plain =
+      let at_ = among_found q site.set.phrases within in
+      temporary_sorted (u b) (within_block q.around.block site) at_.0 q labels variable counted at_.1 is (temporaries at_.0 q labels variable at_.1 is)
+  node_known b q (OfAssignment receivers value) within here free is plain = absurd (cc)
+  node_known b q (OfReturn place value) within here free is plain = return_known q value here
+  node_known true q (OfSubscriptName name) within here free is plain = absurd (cc)
+  node_known false q (OfSubscriptName name) within here free is plain =
       subscript_agrees (u false) (within_block q.around.block site) named sound counted declared literals has (asks_in q.around.block) placed q name
-      (name_left q within here outside (use_of name.place name.name usage.Value) (ap used is)) within is refl
-  node_known q (OfCallForm place name arguments) within here outside is plain =
+      (name_left q within here (use_of name.place name.name usage.Value) (ap used is)) within is refl
+  node_known true q (OfCallForm place name arguments) within here free is plain = absurd (cc)
+  node_known false q (OfCallForm place name arguments) within here free is plain =
       let v : Use = use_of place name usage.CallForm in
       form_agrees (u false) (within_block q.around.block site) named sound counted declared literals has (asks_in q.around.block) placed q place name arguments
-      (name_left q within here outside v (ap used is)) (function_parameters q within here outside v (ap used is)) within is refl
-  node_known q (OfVariable name) within here outside is plain =
+      (name_left q within here v (ap used is)) (function_parameters q within here v (ap used is)) within is refl
+  node_known b q (OfVariable name) within here free is plain =
       variable_agrees (u false) (within_block q.around.block site) named sound counted declared literals has (asks_in q.around.block) placed q name
-      (name_left q within here outside (use_of name.place name.name usage.Variable) (ap used is)) within is refl
-  node_known q (OfCall name arguments receivers) within here outside is plain =
+      (name_left q within here (use_of name.place name.name usage.Variable) (ap used is)) within is refl
+  node_known true q (OfCall name arguments receivers) within here free is plain = absurd (cc)
+  node_known false q (OfCall name arguments receivers) within here free is plain =
       let v : Use = use_of name.place name.name usage.Called in
       call_agrees (u false) (within_block q.around.block site) named sound counted declared literals has (asks_in q.around.block) placed q name arguments receivers
-      (name_left q within here outside v (ap used is)) (procedures q within here outside v (ap used is)) within is refl
-  node_known q (OfEvent event) within here outside is plain =
+      (name_left q within here v (ap used is)) (procedures q within here v (ap used is)) within is refl
+  node_known b q (OfEvent event) within here free is plain =
       changed_agrees (u false) (within_block q.around.block site) named sound counted declared literals has (asks_in q.around.block) placed image q event
-      (name_left q within here outside (use_of event.name.place event.name.name usage.Event) (ap used is)) (events_in q.around.block) within is refl
-  node_known q other within here outside is plain = tt
+      (name_left q within here (use_of event.name.place event.name.name usage.Event) (ap used is)) (events_in q.around.block) within is refl
+  node_known b q other within here free is plain = tt
 
   phrase_known : (q : Phrase) (b : Bool) → is_left q ≡ b → IsAmong q site.set.phrases → q.around.home ≡ home → (is_left q ≡ true → PhraseKnown image g u site q) → PhraseKnown image g u site q
   phrase_known q true is within here rest = rest is
   phrase_known q false is within here rest =
-      let both = neither (is_some q.around.update) (is_left_node q.node) is in
-      subst (λ b. NodeKnown image g (u b) (within_block q.around.block site) site.set.phrases q q.node) (sym both.0) (node_known q q.node within here both.0 refl both.1)
+      let both = neither (is_some q.around.update && is_using q.node) (is_left_node q.node) is in node_known (is_some q.around.update) q q.node within here both.0 refl both.1
 
   pub unit_known : ((q : Phrase) → IsAmong q site.set.phrases → q.around.home ≡ home → is_left q ≡ true → PhraseKnown image g u site q) → UnitKnown image g u site home
   unit_known rest = λ q within here. phrase_known q (is_left q) refl within here (λ is. rest q within here is)

@@ -1,6 +1,5 @@
--- What is left to be known of the names that a unit uses outside of UPDATE blocks, and of the unit itself.
+-- What is left to be known of the names that a unit uses, and of the unit itself.
 use Rattle.std.specs.Prelude.{◌≡◌, ℕ, Bool, true, false, List, [], ◌∷◌, Some, slice_get}
-use Rattle.std.specs.Option.{is_some}
 use Rattle.hal_grammar.specs.Leaves.{Naming}
 use Rattle.hal_grammar.specs.Declarations.{Attribute, Declared, Declaration}
 use Rattle.hal_grammar.specs.Expressions.{NoExpressions}
@@ -21,11 +20,10 @@ use Rattle.hal_fitting.specs.Fitting.{Ground}
 use Rattle.hal_fit_expr.specs.Uses.{Uses}
 use Rattle.hal_fit_names.specs.Suited.{is_templated}
 
--- a phrase of the unit with this number, outside of UPDATE blocks, uses a name that means the phrase with the second number there
+-- a phrase of the unit with this number uses a name that means the phrase with the second number there
 pub record IsUsed (site : Site) (home : ℕ) (q : Phrase) (v : Use) (k : ℕ) (p : Phrase) : Type 0 where
   pub within : IsAmong q site.set.phrases
   pub here : q.around.home ≡ home
-  pub outside : is_some q.around.update ≡ false
   pub uses : used q.node ≡ Some v
   pub meant : means site.set.phrases q.around.block v.name ≡ Some k
   pub there : slice_get site.set.phrases k ≡ Some p

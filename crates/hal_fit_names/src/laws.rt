@@ -12,7 +12,7 @@ ghost use Rattle.hal_phrases.specs.declared.role.Role.{Role};
 ghost use Rattle.hal_phrases.specs.declared.role.Role.TheVariants as role;
 ghost use Rattle.hal_phrases.specs.GatheredExpressions.{gathered};
 ghost use Rattle.hal_phrases.specs.GatheredUnits.{phrases_of};
-ghost use Rattle.hal_phrases.specs.Phrases.{OfCall, OfCallForm, OfEvent, OfItem, OfReference, OfSubscriptName, OfUnit, OfVariable, Phrase};
+ghost use Rattle.hal_phrases.specs.Phrases.{OfCall, OfCallForm, OfEvent, OfItem, OfReference, OfSubscriptName, OfTemporaryGroup, OfUnit, OfVariable, Phrase};
 ghost use Rattle.hal_names.specs.Means.{means};
 ghost use Rattle.hal_scope.specs.Rules.{IsAmong, IsSound, rows};
 ghost use Rattle.hal_scope.specs.declared.usage.Usage.TheVariants as usage;
@@ -206,8 +206,17 @@ pub fn input_parameters_are_declared()
     a_key_is_found_at_its_first_declaration();
 }
 
-/// So a unit is known, as the law of statements asks, where this is known of the phrases that are left: those in UPDATE blocks, references with a path, operands of event
-/// expressions, channels, decimals, TEMPORARY variables and assignments. What is left of its names is that they mean nothing of written templates, that constants have values, and
+/// The TEMPORARY variable of a DO FOR group is what its name means in the group (language document, Names).
+pub fn temporary_variables_mean_themselves()
+    ensures { (files : List File) (k : ℕ) (p : Phrase) (labels : List Naming) (variable : Naming) → slice_get (phrases_of files) k ≡ Some p → p.node ≡ OfTemporaryGroup labels variable
+        → means (phrases_of files) k variable.name ≡ Some k }
+{
+    phrases_are_counted();
+    a_key_is_found_at_its_first_declaration();
+}
+
+/// So a unit is known, as the law of statements asks, where this is known of the phrases that are left: values and calls in UPDATE blocks, references with a path, operands of
+/// event expressions, channels, decimals and assignments. What is left of its names is that they mean nothing of written templates, that constants have values, and
 /// that units that they mean may be called.
 pub fn units_are_known_where_what_is_left_is()
     ensures { (image : ImageParts) (g : Ground) (u : Bool → Uses) (files : List File) (site : Site) (home : ℕ) → site.set.phrases ≡ phrases_of files → site.set.bodies ≡ bodies_of files site.set.phrases
@@ -218,4 +227,5 @@ pub fn units_are_known_where_what_is_left_is()
     phrases_are_counted();
     what_is_meant_declares_the_name();
     input_parameters_are_declared();
+    temporary_variables_mean_themselves();
 }

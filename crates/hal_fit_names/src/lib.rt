@@ -9,5 +9,6 @@ pub use laws::{
     constant_expressions_suit_their_classes, declared_data_are_known,
     events_that_are_changed_agree, input_parameters_are_declared, kinds_of_cells_are_known,
     names_of_no_template_are_own, names_of_receivers_agree, names_of_values_agree,
-    units_are_known_where_what_is_left_is, units_have_bodies, units_that_may_be_called_are_known,
+    temporary_variables_mean_themselves, units_are_known_where_what_is_left_is, units_have_bodies,
+    units_that_may_be_called_are_known,
 };

@@ -2,8 +2,9 @@ use Rattle.std.proofs.Common.{◌≡◌, ℕ, List, Some, slice_get, sym, subst}
 use Rattle.hal_grammar.specs.Leaves.{Naming}
 use Rattle.hal_grammar.specs.Declarations.{Declaration}
 use Rattle.hal_grammar.specs.Units.{Head}
-use Rattle.hal_phrases.specs.Phrases.{Phrase, OfUnit}
+use Rattle.hal_phrases.specs.Phrases.{Phrase, OfUnit, OfTemporaryGroup}
 use Rattle.hal_names.specs.Laws.{IsCounted}
+use Rattle.hal_names.specs.Means.{means}
 use Rattle.hal_scope.specs.Rules.{IsAmong, IsSound, rows}
 use Rattle.hal_types.specs.Rules.{type_rows}
 use Rattle.hal_meaning.specs.Calls.{inputs_of}
@@ -22,4 +23,6 @@ returns c image g u files site home whole bodies has asks left stands events nam
     (subst HasFitLiterals (sym whole) literals) has asks left stands (subst (λ (ps : List Phrase). (p : Phrase) → IsAmong p ps → NodePlaced ps p p.node) (sym whole) (items_are_placed files counted))
     (λ k p name head declarations found is. unit_has_body files site.set k p name head declarations each_counted whole bodies found is)
     (subst (λ (ps : List Phrase). (k : ℕ) (p : Phrase) (name : Naming) (head : Head) (declarations : List Declaration) → slice_get ps k ≡ Some p → p.node ≡ OfUnit name head declarations → AreDeclaredParameters ps k (inputs_of head))
-    (sym whole) (λ k p name head declarations found is. c.input_parameters_are_declared.ensures files k p name head declarations named sound sizes found is)) events rest
+    (sym whole) (λ k p name head declarations found is. c.input_parameters_are_declared.ensures files k p name head declarations named sound sizes found is)) events
+    (subst (λ (ps : List Phrase). (k : ℕ) (p : Phrase) (labels : List Naming) (variable : Naming) → slice_get ps k ≡ Some p → p.node ≡ OfTemporaryGroup labels variable → means ps k variable.name ≡ Some k) (sym whole)
+    (c.temporary_variables_mean_themselves.ensures files)) rest
