@@ -33,8 +33,9 @@ use Rattle.hal_fit_rules.specs.Used.{LeafKnown, ChannelKnown, ReturnKnown, NodeK
 use Rattle.hal_fit_rules.specs.Valued.{HasConstants}
 use Rattle.hal_fit_rules.proofs.Constants.{among_found}
 use Rattle.hal_fit_names.specs.Bodied.{HasBody}
-use Rattle.hal_fit_names.specs.Known.{is_channel, is_decimal, is_left_node, is_using_role, is_using, is_left}
+use Rattle.hal_fit_names.specs.Known.{is_channel, is_left_node, is_using_role, is_using, is_left}
 use Rattle.hal_fit_names.specs.Named.{AreLeft, AreProcedures, FunctionParameters}
+use Rattle.hal_fit_names.specs.Spelled.{AreSpelled}
 use Rattle.hal_fit_names.specs.Suited.{NodeIsFit, HasFitLiterals, AreDeclared}
 use Rattle.hal_fit_names.specs.Used.{IsUsed, IsDeclaredParameter, AreDeclaredParameters, NamesAreLeft, IsHome}
 use Rattle.hal_fit_names.proofs.Callable.{function_known, procedure_known}
@@ -59,7 +60,7 @@ unfolding parameter_of
 parameter_among ps unit name r is = found_in ps r (own ps (key space.Declared unit name.name)) is
 
 module _ (image : ImageParts) (g : Ground) (u : Bool → Uses) (site : Site) (home : ℕ) (named : IsSound rows site.set.phrases) (sound : IsSound type_rows site.set.phrases) (counted : IsCounted site.set.phrases)
-    (declared : AreDeclared site.set.phrases) (literals : HasFitLiterals site.set.phrases) (has : HasConstants site) (asks : AsksAll (u false) site) (left : NamesAreLeft (u false) site home) (stands : IsHome g site home)
+    (declared : AreDeclared site.set.phrases) (literals : HasFitLiterals site.set.phrases) (spelled : AreSpelled site.set.phrases) (has : HasConstants site) (asks : AsksAll (u false) site) (left : NamesAreLeft (u false) site home) (stands : IsHome g site home)
     (placed : (p : Phrase) → IsAmong p site.set.phrases → NodePlaced site.set.phrases p p.node)
     (bodied : (k : ℕ) (p : Phrase) (name : Naming) (head : Head) (declarations : List Declaration) → slice_get site.set.phrases k ≡ Some p → p.node ≡ OfUnit name head declarations → HasBody site.set.bodies k head)
     (inputs_known : (k : ℕ) (p : Phrase) (name : Naming) (head : Head) (declarations : List Declaration) → slice_get site.set.phrases k ≡ Some p → p.node ≡ OfUnit name head declarations
@@ -134,13 +135,13 @@ module _ (image : ImageParts) (g : Ground) (u : Bool → Uses) (site : Site) (ho
         gives = stands.gives;
       }
 
-  -- an expression that is no decimal
-  leaf_known : (r : Role) (tree : Expression) → is_decimal tree ≡ false → NodeIsFit (OfExpression r tree) → LeafKnown tree
-  leaf_known r (Literal place literal) plain fit = fit
-  leaf_known r (Decimal place number) plain fit = absurd (cc)
-  leaf_known r other plain fit = tt
+  -- an expression
+  leaf_known : (q : Phrase) (r : Role) (tree : Expression) → IsAmong q site.set.phrases → q.node ≡ OfExpression r tree → NodeIsFit (OfExpression r tree) → LeafKnown tree
+  leaf_known q r (Literal place literal) within is fit = fit
+  leaf_known q r (Decimal place number) within is fit = spelled.times q r place number within is
+  leaf_known q r other within is fit = tt
 
-  -- and no channel
+  -- one that is no channel
   channel_known : (q : Phrase) (r : Role) (tree : Expression) → is_channel r ≡ false → ChannelKnown (within_block q.around.block site) site.set.phrases q r tree
   channel_known q role.Channel tree plain = absurd (cc)
   channel_known q other tree plain = tt
@@ -172,12 +173,12 @@ module _ (image : ImageParts) (g : Ground) (u : Bool → Uses) (site : Site) (ho
       → NodeKnown image g (u b) (within_block q.around.block site) site.set.phrases q n
   unfolding used
   node_known b q (OfExpression r tree) within here free is plain =
-      let both = neither (is_channel r) (is_decimal tree) plain in (leaf_known r tree both.1 (subst NodeIsFit is (literals q within)), channel_known q r tree both.0)
+      (leaf_known q r tree within is (subst NodeIsFit is (literals q within)), channel_known q r tree plain)
   node_known b q (OfReference r (Refers place name path x)) within here free is plain = reference_known b q r place name path x within here free is plain
   node_known b q (OfTemporaryGroup labels variable) within here free is plain =
       let at_ = among_found q site.set.phrases within in
       temporary_sorted (u b) (within_block q.around.block site) at_.0 q labels variable counted at_.1 is (temporaries at_.0 q labels variable at_.1 is)
-  node_known b q (OfAssignment receivers value) within here free is plain = absurd (cc)
+  node_known b q (OfAssignment receivers value) within here free is plain = spelled.receivers q receivers value within is
   node_known b q (OfReturn place value) within here free is plain = return_known q value here
   node_known true q (OfSubscriptName name) within here free is plain = absurd (cc)
   node_known false q (OfSubscriptName name) within here free is plain =

@@ -2,10 +2,10 @@
 use Rattle.std.specs.Prelude.{Bool, true, false, not, ◌&&◌, ◌||◌, List}
 use Rattle.std.specs.Option.{is_some}
 use Rattle.hal_grammar.specs.Leaves.{Naming}
-use Rattle.hal_grammar.specs.Expressions.{Expression, Decimal, Refers}
+use Rattle.hal_grammar.specs.Expressions.{Refers}
 use Rattle.hal_phrases.specs.declared.role.Role.{Role}
 use Rattle.hal_phrases.specs.declared.role.Role.TheVariants as role
-use Rattle.hal_phrases.specs.Phrases.{Node, Phrase, OfExpression, OfReference, OfSubscriptName, OfCallForm, OfCall, OfAssignment}
+use Rattle.hal_phrases.specs.Phrases.{Node, Phrase, OfExpression, OfReference, OfSubscriptName, OfCallForm, OfCall}
 use Rattle.hal_scope.specs.Uses.{is_nil}
 
 -- channels
@@ -13,22 +13,16 @@ abbrev pub is_channel : Role → Bool
 is_channel role.Channel = true
 is_channel other = false
 
--- decimals, which are times
-abbrev pub is_decimal : Expression → Bool
-is_decimal (Decimal place number) = true
-is_decimal other = false
-
 -- references with a path, and operands of event expressions
 abbrev pub is_left_reference : Role → List Naming → Bool
 is_left_reference role.Event path = true
 is_left_reference role.EventOrTime path = true
 is_left_reference other path = not (is_nil path)
 
--- these, channels and decimals, and assignments
+-- these and channels
 abbrev pub is_left_node : Node → Bool
-is_left_node (OfExpression r tree) = is_channel r || is_decimal tree
+is_left_node (OfExpression r tree) = is_channel r
 is_left_node (OfReference r (Refers place name path subscript)) = is_left_reference r path
-is_left_node (OfAssignment receivers value) = true
 is_left_node other = false
 
 -- values, call forms and CALL, for which it matters what may be used

@@ -3,3 +3,4 @@ pub mod Named
 pub mod Bodied
 pub mod Known
 pub mod Used
+pub mod Spelled

@@ -49,6 +49,7 @@ ghost use Rattle.hal_fit_rules.specs.Valued.{HasConstants};
 ghost use Rattle.hal_fit_names.specs.Bodied.{HasBody};
 ghost use Rattle.hal_fit_names.specs.Known.{is_left};
 ghost use Rattle.hal_fit_names.specs.Named.{AreLeft, AreProcedures, FunctionParameters};
+ghost use Rattle.hal_fit_names.specs.Spelled.{AreSpelled};
 ghost use Rattle.hal_fit_names.specs.Suited.{HasFitLiterals, is_templated, Suits};
 ghost use Rattle.hal_fit_names.specs.Used.{AreDeclaredParameters, HaveSizes, IsHome, NamesAreLeft};
 
@@ -216,12 +217,12 @@ pub fn temporary_variables_mean_themselves()
 }
 
 /// So a unit is known, as the law of statements asks, where this is known of the phrases that are left: values and calls in UPDATE blocks, references with a path, operands of
-/// event expressions, channels, decimals and assignments. What is left of its names is that they mean nothing of written templates, that constants have values, and
+/// event expressions, and channels. What is left of its names is that they mean nothing of written templates, that constants have values, and
 /// that units that they mean may be called.
 pub fn units_are_known_where_what_is_left_is()
     ensures { (image : ImageParts) (g : Ground) (u : Bool → Uses) (files : List File) (site : Site) (home : ℕ) → site.set.phrases ≡ phrases_of files → site.set.bodies ≡ bodies_of files site.set.phrases
         → HasConstants site → AsksAll (u false) site → NamesAreLeft (u false) site home → IsHome g site home → HasEvents image site → IsSound rows (phrases_of files) → IsSound type_rows (phrases_of files)
-        → HasFitLiterals (phrases_of files) → HaveSizes (phrases_of files) → ((q : Phrase) → IsAmong q site.set.phrases → q.around.home ≡ home → is_left q ≡ true → PhraseKnown image g u site q)
+        → HasFitLiterals (phrases_of files) → AreSpelled (phrases_of files) → ((q : Phrase) → IsAmong q site.set.phrases → q.around.home ≡ home → is_left q ≡ true → PhraseKnown image g u site q)
         → UnitKnown image g u site home }
 {
     phrases_are_counted();
