@@ -97,7 +97,7 @@ impl Known {
     {
         match (self.values.get(number), value) {
             (Some(None), None) => true,
-            (Some(Some(noted)), Some(value)) => is_same(noted, value),
+            (Some(Some(noted)), Some(value)) => **noted == *value,
             _ => false,
         }
     }
@@ -134,24 +134,6 @@ impl Known {
             None => Constant::Open,
             Some(value) => Constant::Worth(value.copy()),
         }
-    }
-}
-
-/// Whether two values are the same.
-fn is_same(one: &Value, other: &Value) -> bool
-    ensures { IsTrue result → one.now ≡ other.now }
-{
-    match (one, other) {
-        (Value::Int(one), Value::Int(other)) => one == other,
-        (
-            Value::Bits { len: one, word },
-            Value::Bits {
-                len: other,
-                word: bits,
-            },
-        ) => { one == other && word == bits }
-        (Value::Text(one), Value::Text(other)) => one.bytes() == other.bytes(),
-        _ => false,
     }
 }
 

@@ -1,6 +1,7 @@
 //! The operations by their table.
 
-ghost use Rattle.std.specs.Prelude.{◌≡◌};
+ghost use Rattle.std.specs.Prelude.{◌≡◌, Ok};
+ghost use Rattle.hal_values.specs.declared.value.Value.TheVariants as value;
 ghost use Rattle.hal_operations.specs.Integers.{integer};
 ghost use Rattle.hal_operations.specs.Operands.{IsString, Takes, TakesBoth};
 ghost use Rattle.hal_operations.specs.Strings.{bits_of};
@@ -10,7 +11,7 @@ use crate::conversions::{bits_text, decimal, from_two_complement, read, two_comp
 use crate::errors::RANGE_ERROR;
 use crate::integers::{left_shift, modulus, power, quotient, ranged, remainder, right_shift};
 use crate::operation::{Op1, Op2};
-use crate::strings::{and, are_equal, joined as joined_bits, not, one_bit, or, xor};
+use crate::strings::{BitString, and, are_equal, joined as joined_bits, not, one_bit, or, xor};
 use crate::texts::{
     index, is_before, is_width, joined, left_justified, right_justified, trimmed, width,
 };
@@ -34,7 +35,7 @@ fn of_integer(op: Op1, a: i32) -> Result<Value, ErrNo>
         Op1::Minus => integer(ranged(-i64::from(a))),
         Op1::Abs => integer(ranged(i64::from(a).abs())),
         Op1::Signum => Ok(Value::Int(a.signum())),
-        Op1::Odd => Ok(one_bit(a.unsigned_abs() % 2 == 1)),
+        Op1::Odd => Ok(one_bit(a.unsigned_abs() % 2 == 1).value()),
         Op1::Character => Ok(Value::Text(decimal(a))),
         Op1::Bit => Ok(Value::Bits {
             len: 32,
@@ -111,8 +112,9 @@ fn is_comparison(op: Op2) -> bool
     )
 }
 
-/// The integer that two integers give.
-fn computed(op: Op2, a: i32, b: i32) -> Result<i32, ErrNo>
+/// The integer that two integers give, or the error that the operation raises; of a comparison, the left operand. It makes no value,
+/// which has the room of a text. The table is in docs/LANGUAGE.md, "Operations".
+pub fn integer_of_two(op: Op2, a: i32, b: i32) -> Result<i32, ErrNo>
     ensures { result ≡ computed op a b }
 {
     match op {
@@ -134,26 +136,27 @@ fn of_integers(op: Op2, a: i32, b: i32) -> Result<Value, ErrNo>
     ensures { result ≡ of_integers op a b }
 {
     if is_comparison(op) {
-        return Ok(one_bit(compared(op, a < b, b < a)));
+        return Ok(one_bit(compared(op, a < b, b < a)).value());
     }
-    integer(computed(op, a, b))
+    integer(integer_of_two(op, a, b))
 }
 
-/// Of two strings of bits.
+/// The string of bits that two strings give, of a comparison one bit. It makes no value, which has the room of a text. The table is in
+/// docs/LANGUAGE.md, "Operations".
 #[tactic(auto, using(crate::proofs::BitWords::bits_string))]
-fn of_strings(op: Op2, m: u8, x: u32, n: u8, y: u32) -> Result<Value, ErrNo>
+pub fn string_of_two(op: Op2, m: u8, x: u32, n: u8, y: u32) -> BitString
     requires left { IsString m x }
     requires right { IsString n y }
-    ensures { result ≡ of_strings op (bits_of m x) (bits_of n y) }
+    ensures { of_strings op (bits_of m x) (bits_of n y) ≡ Ok (value.Bits result.len result.word) }
 {
     match op {
-        Op2::And => Ok(and(m, x, n, y)),
-        Op2::Or => Ok(or(m, x, n, y)),
-        Op2::Xor => Ok(xor(m, x, n, y)),
-        Op2::Cat => Ok(joined_bits(m, x, n, y)),
-        Op2::Equal => Ok(one_bit(are_equal(m, x, n, y))),
-        Op2::NotEqual => Ok(one_bit(!are_equal(m, x, n, y))),
-        _ => Ok(Value::Bits { len: m, word: x }),
+        Op2::And => and(m, x, n, y),
+        Op2::Or => or(m, x, n, y),
+        Op2::Xor => xor(m, x, n, y),
+        Op2::Cat => joined_bits(m, x, n, y),
+        Op2::Equal => one_bit(are_equal(m, x, n, y)),
+        Op2::NotEqual => one_bit(!are_equal(m, x, n, y)),
+        _ => BitString { len: m, word: x },
     }
 }
 
@@ -165,7 +168,7 @@ fn of_texts(op: Op2, x: &Text, y: &Text) -> Result<Value, ErrNo>
     match op {
         Op2::Cat => Ok(Value::Text(joined(x, y))),
         Op2::Index => Ok(Value::Int(index(x, y))),
-        _ => Ok(one_bit(compared(op, is_before(x, y), is_before(y, x)))),
+        _ => Ok(one_bit(compared(op, is_before(x, y), is_before(y, x))).value()),
     }
 }
 
@@ -202,7 +205,7 @@ pub fn apply2(op: Op2, a: &Value, b: &Value) -> Result<Value, ErrNo>
     match (a, b) {
         (Value::Int(a), Value::Int(b)) => of_integers(op, *a, *b),
         (Value::Bits { len: m, word: x }, Value::Bits { len: n, word: y }) => {
-            of_strings(op, *m, *x, *n, *y)
+            Ok(string_of_two(op, *m, *x, *n, *y).value())
         }
         (Value::Text(x), Value::Text(y)) => of_texts(op, x, y),
         (Value::Text(x), Value::Int(b)) => of_text_and_integer(op, x, *b),

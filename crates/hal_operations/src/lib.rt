@@ -16,7 +16,7 @@ mod stores;
 mod strings;
 mod texts;
 
-pub use apply::{apply1, apply2};
+pub use apply::{apply1, apply2, integer_of_two, string_of_two};
 pub use laws::{
     a_replaced_part_is_chosen, bits_come_back, bitwise_operations_are_symmetric,
     comparisons_order_texts, divisions_fit_together, shifts_come_back,
@@ -26,3 +26,5 @@ pub use operation::{Op1, Op2};
 pub use part::Part;
 pub use parts::{mend_patch, mend_pick, patch, pick, place_count};
 pub use stores::{fit, mend_fit};
+pub use strings::{BitString, fit_string};
+pub use texts::append;

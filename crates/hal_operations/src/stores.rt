@@ -7,7 +7,7 @@ ghost use Rattle.hal_operations.specs.Stores.{stored_integer, stored, nearest_si
 
 use crate::conversions::decimal;
 use crate::errors::RANGE_ERROR;
-use crate::strings::fitted;
+use crate::strings::fit_string;
 use crate::texts::front;
 use hal_values::{ErrNo, Kind, Value};
 
@@ -40,7 +40,10 @@ pub fn fit(kind: Kind, a: &Value) -> Result<Value, ErrNo>
 {
     match (kind, a) {
         (kind, Value::Int(a)) => stored_integer(kind, *a),
-        (Kind::Bits(n), Value::Bits { len, word }) => Ok(fitted(n, *len, *word)),
+        (Kind::Bits(n), Value::Bits { len, word }) => Ok(Value::Bits {
+            len: n,
+            word: fit_string(n, *len, *word),
+        }),
         (Kind::Text(n), Value::Text(text)) => Ok(Value::Text(front(n, text.bytes()))),
         _ => Ok(a.copy()),
     }

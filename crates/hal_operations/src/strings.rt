@@ -1,17 +1,37 @@
 //! Strings of bits as words. A string of `len` bits is a word below 2 to the power `len`.
 
 ghost use Rattle.std.specs.Prelude.{◌≡◌, ◌≤◌, ◌<◌, ◌-◌, ◌^◌, ◌%◌, ◌&&◌, ◌||◌, not, map};
+ghost use Rattle.hal_values.specs.declared.value.Value.TheVariants as value;
 ghost use Rattle.hal_operations.specs.Operands.{IsString};
 ghost use Rattle.hal_operations.specs.Strings.{bits_of, string, one_bit, bitwise, differ, are_equal, joined, fitted_string};
 ghost use Rattle.hal_operations.specs.Parts.{taken, patched_string};
 
 use hal_values::Value;
 
+/// A string of bits: the last `len` bits of a word whose other bits are zeros.
+#[derive(Clone, Copy)]
+pub struct BitString {
+    pub len: u8,
+    pub word: u32,
+}
+
+impl BitString {
+    /// The string as a value.
+    pub(crate) fn value(self) -> Value
+        ensures { result ≡ value.Bits self.len self.word }
+    {
+        Value::Bits {
+            len: self.len,
+            word: self.word,
+        }
+    }
+}
+
 /// One bit.
-pub(crate) fn one_bit(bit: bool) -> Value
-    ensures { result ≡ one_bit bit }
+pub(crate) fn one_bit(bit: bool) -> BitString
+    ensures { value.Bits result.len result.word ≡ one_bit bit }
 {
-    Value::Bits {
+    BitString {
         len: 1,
         word: u32::from(bit),
     }
@@ -39,12 +59,12 @@ pub(crate) fn not(len: u8, word: u32) -> Value
 
 /// The bits that both have.
 #[tactic(auto, using(crate::proofs::BitWords::and_string))]
-pub(crate) fn and(m: u8, x: u32, n: u8, y: u32) -> Value
+pub(crate) fn and(m: u8, x: u32, n: u8, y: u32) -> BitString
     requires left { IsString m x }
     requires right { IsString n y }
-    ensures { result ≡ string (bitwise (λ a b. a && b) (bits_of m x) (bits_of n y)) }
+    ensures { value.Bits result.len result.word ≡ string (bitwise (λ a b. a && b) (bits_of m x) (bits_of n y)) }
 {
-    Value::Bits {
+    BitString {
         len: m.max(n),
         word: x & y,
     }
@@ -52,12 +72,12 @@ pub(crate) fn and(m: u8, x: u32, n: u8, y: u32) -> Value
 
 /// The bits that one of them has.
 #[tactic(auto, using(crate::proofs::BitWords::or_string))]
-pub(crate) fn or(m: u8, x: u32, n: u8, y: u32) -> Value
+pub(crate) fn or(m: u8, x: u32, n: u8, y: u32) -> BitString
     requires left { IsString m x }
     requires right { IsString n y }
-    ensures { result ≡ string (bitwise (λ a b. a || b) (bits_of m x) (bits_of n y)) }
+    ensures { value.Bits result.len result.word ≡ string (bitwise (λ a b. a || b) (bits_of m x) (bits_of n y)) }
 {
-    Value::Bits {
+    BitString {
         len: m.max(n),
         word: x | y,
     }
@@ -65,12 +85,12 @@ pub(crate) fn or(m: u8, x: u32, n: u8, y: u32) -> Value
 
 /// The bits that one of them has, and not both.
 #[tactic(auto, using(crate::proofs::BitWords::xor_string))]
-pub(crate) fn xor(m: u8, x: u32, n: u8, y: u32) -> Value
+pub(crate) fn xor(m: u8, x: u32, n: u8, y: u32) -> BitString
     requires left { IsString m x }
     requires right { IsString n y }
-    ensures { result ≡ string (bitwise differ (bits_of m x) (bits_of n y)) }
+    ensures { value.Bits result.len result.word ≡ string (bitwise differ (bits_of m x) (bits_of n y)) }
 {
-    Value::Bits {
+    BitString {
         len: m.max(n),
         word: x ^ y,
     }
@@ -97,31 +117,28 @@ fn low_bits(word: u64, len: u8) -> u32
 
 /// The two joined, of which the last 32 bits are kept.
 #[tactic(auto, using(crate::proofs::BitWords::joined_string))]
-pub(crate) fn joined(m: u8, x: u32, n: u8, y: u32) -> Value
+pub(crate) fn joined(m: u8, x: u32, n: u8, y: u32) -> BitString
     requires left { IsString m x }
     requires right { IsString n y }
-    ensures { result ≡ string (joined (bits_of m x) (bits_of n y)) }
+    ensures { value.Bits result.len result.word ≡ string (joined (bits_of m x) (bits_of n y)) }
 {
     let len = (m + n).min(32);
     let whole = (u64::from(x) << n) + u64::from(y);
-    Value::Bits {
+    BitString {
         len,
         word: low_bits(whole, len),
     }
 }
 
-/// A word with `n` bits: cut on its left, or filled with zeros there.
+/// What a string is as a word of `n` bits: cut on its left, or filled with zeros there. See docs/LANGUAGE.md, "Operations", on stores.
 #[tactic(auto, using(crate::proofs::BitWords::fitted_word))]
-pub(crate) fn fitted(n: u8, len: u8, word: u32) -> Value
+pub fn fit_string(n: u8, len: u8, word: u32) -> u32
     requires room { n ≤ 32 }
     requires string { IsString len word }
-    ensures { result ≡ string (fitted_string n (bits_of len word)) }
+    ensures { value.Bits n result ≡ string (fitted_string n (bits_of len word)) }
 {
     let _length = len;
-    Value::Bits {
-        len: n,
-        word: low_bits(u64::from(word), n),
-    }
+    low_bits(u64::from(word), n)
 }
 
 /// The bits of a part.

@@ -22,15 +22,23 @@ fn blanks(n: u8) -> Text
     front(n, &[b' '; 255])
 }
 
-/// Two texts joined, of which the first 255 bytes are kept.
+/// Joins bytes to a text, of which the first 255 are kept then. See docs/LANGUAGE.md, "Operations".
 #[tactic(auto, using(crate::proofs::TextLists::joined_text_is))]
+pub fn append(text: &mut Text, bytes: &[u8])
+    ensures { text.new ≡ joined_text text.old bytes.now }
+{
+    let room = 255 - text.bytes().len();
+    text.extend(bytes.split_at(room.min(bytes.len())).0);
+}
+
+/// Two texts joined, of which the first 255 bytes are kept.
 pub(crate) fn joined(x: &[u8], y: &[u8]) -> Text
     requires { length x.now ≤ 255 }
     ensures { result ≡ joined_text x.now y.now }
 {
     let mut text = Text::new();
     text.extend(x);
-    text.extend(y.split_at((255 - x.len()).min(y.len())).0);
+    append(&mut text, y);
     text
 }
 
