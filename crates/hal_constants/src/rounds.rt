@@ -97,7 +97,7 @@ impl Known {
     {
         match (self.values.get(number), value) {
             (Some(None), None) => true,
-            (Some(Some(noted)), Some(value)) => **noted == *value,
+            (Some(Some(noted)), Some(value)) => is_same(noted, value),
             _ => false,
         }
     }
@@ -135,6 +135,13 @@ impl Known {
             Some(value) => Constant::Worth(value.copy()),
         }
     }
+}
+
+/// Whether two values are the same.
+fn is_same(one: &Value, other: &Value) -> bool
+    ensures { IsTrue result → one.now ≡ other.now }
+{
+    one == other
 }
 
 /// A value on the heap, where there is one.
