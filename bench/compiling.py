@@ -5,7 +5,9 @@ The proved program builds sets of units, of 16 KiB to 1 MiB of source: a PROGRAM
 conditions, expressions, subscripts and texts. The first table has a row for each size: the processor time of `build` (the least of three), the megabytes a second, and the ratio
 to half the size. 1 MiB is to be built at 2 MB a second at least, and no ratio is to be above 2.5. A size that takes longer than 10 seconds ends the table.
 
-The second table says which share each stage has of the set of 32 KiB, which is given a fault in its last statement, which a
+The second table is the same of one PROGRAM alone, with such statements of data of its own, up to 128 KiB: of a PROGRAM's data it is asked whether a TASK of it shares them. Its ratios have the same bar.
+
+The third table says which share each stage has of the set of 32 KiB, which is given a fault in its last statement, which a
 stage finds when it has done all its work, so that no later stage begins. A row is a stage: the time until the set is refused by it, and the time that it adds to the one before.
 
 It ends with status 1 where a bar isn't met.
@@ -20,6 +22,7 @@ ROOT = pathlib.Path(__file__).resolve().parent.parent
 PROGRAM = ROOT / 'crates/hal_cli/out/hal_cli'
 KIB = 1024
 SIZES = (16 * KIB, 32 * KIB, 64 * KIB, 128 * KIB, 256 * KIB, 512 * KIB, 1024 * KIB)
+PROGRAM_SIZES = SIZES[:4]
 SHARED = 32 * KIB
 LEAST, HIGHEST, LONGEST = 2.0, 2.5, 10.0
 # A unit keeps below the limit of words.
@@ -34,8 +37,7 @@ STAGES = (
     ('limits and calls', 'CALL LAST{unit}(VELOCITY) ASSIGN(VELOCITY);', 901),
 )
 
-DECLARED = """ LAST{unit}: PROCEDURE(CORRECTION) ASSIGN(SMOOTHED);
-  DECLARE CORRECTION INTEGER DOUBLE, SMOOTHED INTEGER DOUBLE;
+DECLARED = """  DECLARE CORRECTION INTEGER DOUBLE, SMOOTHED INTEGER DOUBLE;
   DECLARE VELOCITY INTEGER DOUBLE, SAMPLE_POINT INTEGER, GYRO_READINGS ARRAY(100) INTEGER, DOWNLINK CHARACTER(40), SENSOR_BITS BIT(16);
 """
 # Statements of many kinds; those of a number have a name of their own. A set of 1 MiB of them has fewer words than a set may have.
@@ -47,14 +49,26 @@ STATEMENTS = """  VELOCITY = VELOCITY + SAMPLE_POINT CORRECTION - {one} ABS(SMOO
 """
 
 
-def unit_of(unit, size, last):
-    """A PROCEDURE of so many bytes, with this statement at its end."""
-    parts, length, one = [DECLARED.format(unit=unit)], 0, 0
+def body_of(size):
+    """Declarations, and statements of so many bytes."""
+    parts, length, one = [DECLARED], 0, 0
     while length < size:
         one += 1
         parts.append(STATEMENTS.format(one=one % 10_000))
         length += len(parts[-1])
-    return ''.join(parts) + f'  {last.format(unit=unit)}\n CLOSE LAST{unit};\n'
+    return ''.join(parts)
+
+
+def unit_of(unit, size, last):
+    """A PROCEDURE of so many bytes, with this statement at its end."""
+    return f' LAST{unit}: PROCEDURE(CORRECTION) ASSIGN(SMOOTHED);\n{body_of(size)}  {last.format(unit=unit)}\n CLOSE LAST{unit};\n'
+
+
+def program_of(folder, size):
+    """The path of a PROGRAM of so many bytes."""
+    path = folder / 'program.hal'
+    path.write_text(f' MAIN: PROGRAM;\n{body_of(size)} CLOSE MAIN;\n')
+    return [path]
 
 
 def set_of(folder, size, last=';'):
@@ -85,19 +99,19 @@ def build(paths):
     return least, child.returncode, said
 
 
-def growing(folder):
-    """Whether the set is built fast enough, in a time that grows as its length does."""
+def growing(folder, paths_of, sizes, least):
+    """Whether sets of these sizes are built in a time that grows as their length does, and the last one at so many megabytes a second."""
     print(f'{"bytes":>10}{"seconds":>10}{"MB/s":>8}{"ratio":>8}')
     half, met = None, True
-    for size in SIZES:
-        paths = set_of(folder, size)
+    for size in sizes:
+        paths = paths_of(folder, size)
         length = sum(path.stat().st_size for path in paths)
         took, status, said = build(paths)
         if status != 0:
             sys.exit(f'a set of {length} bytes: status {status}, {said[:200]!r}')
         ratio = '' if half is None else f'{took / half:.2f}'
         print(f'{length:10}{took:10.3f}{length / took / 1e6:8.2f}{ratio:>8}', flush=True)
-        met = met and (half is None or took / half <= HIGHEST) and (size < SIZES[-1] or length / took / 1e6 >= LEAST)
+        met = met and (half is None or took / half <= HIGHEST) and (size < sizes[-1] or length / took / 1e6 >= least)
         half = took
         if took > LONGEST:
             return False
@@ -123,9 +137,9 @@ def main():
         sys.exit(f'{PROGRAM} is missing: ./hal --prove builds it')
     with tempfile.TemporaryDirectory() as name:
         folder = pathlib.Path(name)
-        met = growing(folder)
+        met = [growing(folder, set_of, SIZES, LEAST), growing(folder, program_of, PROGRAM_SIZES, 0)]
         shares(folder)
-    sys.exit(0 if met else 1)
+    sys.exit(0 if all(met) else 1)
 
 
 if __name__ == '__main__':

@@ -4,3 +4,4 @@ pub mod Celled
 pub mod Chosen
 pub mod Behind
 pub mod Noted
+pub mod Stored

@@ -1,19 +1,25 @@
 //! The shapes of stored data.
 
-ghost use Rattle.std.specs.Prelude.{◌≡◌, IfOk};
+ghost use Rattle.std.specs.Prelude.{◌≡◌, map, IfOk};
+ghost use Rattle.hal_tree.specs.SeenDeclarations.{seen_attribute, seen_declared};
+ghost use Rattle.hal_phrases.specs.Phrases.{OfItem};
 ghost use Rattle.hal_phrases.specs.SeenPhrases.{seen_phrase};
 ghost use Rattle.hal_names.specs.SeenNames.{seen_names};
 ghost use Rattle.hal_constants.specs.SeenKnown.{seen_known};
-ghost use Rattle.hal_storage.specs.cells.SeenStoring.{seen_storing};
+ghost use Rattle.hal_constants.specs.Known as facts;
+ghost use Rattle.hal_meaning.specs.Places.{storing};
 ghost use Rattle.hal_storage.specs.elements.SeenComponents.{seen_shape};
 ghost use Rattle.hal_views.specs.Views as views;
 ghost use Rattle.hal_limits.specs.Behind.{one_integer};
 
-use hal_constants::Known;
+use hal_constants::{Known, is_value_item};
+use hal_kinds::is_event_type;
 use hal_names::Names;
 use hal_phrases::{Node, Phrase};
-use hal_storage::cells::{Storing, storing_of};
+use hal_scope::type_of;
+use hal_storage::cells::{is_in_unit, parameter};
 use hal_storage::elements::{Component, Shape, shape_of};
+use hal_tree::{Attribute, Declared};
 use hal_values::Kind;
 use std::alloc::{AllocError, Global};
 
@@ -48,25 +54,32 @@ pub(crate) fn shape_at(
     }
 }
 
-/// Whether data have cells or places.
-fn is_stored(storing: Storing) -> bool
-    ensures { result ≡ views.is_stored (seen_storing storing) }
+/// Whether what an item declares has cells or places: as a parameter, or where it is no event and no constant that is its value. How it is stored isn't asked, for which
+/// all phrases would be looked through for a TASK.
+#[tactic(auto, using(crate::proofs::Stored::parameters_are_stored, crate::proofs::Stored::others_are_stored))]
+fn stores_item(
+    names: &Names<'_>,
+    phrase: &Phrase<'_>,
+    common: &[Attribute],
+    item: &Declared,
+) -> bool
+    ensures { (vs : facts.Known) → result ≡ views.is_stored (storing (seen_names names.now) vs (seen_phrase phrase.now) (OfItem (map seen_attribute common.now) (seen_declared item.now))) }
 {
-    match storing {
-        Storing::InCells(_) => true,
-        Storing::InPlaces => true,
-        Storing::ByReference => true,
-        Storing::Unstored => false,
+    if !is_in_unit(names, phrase.around.home) {
+        return false;
+    }
+    match parameter(names, phrase.around.home, &item.name.name) {
+        Some(_) => true,
+        None => !is_event_type(type_of(common, item)) && !is_value_item(common, item),
     }
 }
 
 /// Whether a phrase declares stored data (language document, Views).
-pub(crate) fn declares_stored(names: &Names<'_>, known: &Known, phrase: &Phrase<'_>) -> bool
-    ensures { result ≡ views.declares_stored (seen_names names.now) (seen_known known.now) (seen_phrase phrase.now) (seen_phrase phrase.now).node }
+pub(crate) fn declares_stored(names: &Names<'_>, phrase: &Phrase<'_>) -> bool
+    ensures { (vs : facts.Known) → result ≡ views.declares_stored (seen_names names.now) vs (seen_phrase phrase.now) (seen_phrase phrase.now).node }
 {
-    let storing = storing_of(names, known, phrase);
     match phrase.node {
-        Node::Item { common: _, item: _ } => is_stored(storing),
+        Node::Item { common, item } => stores_item(names, phrase, common, item),
         Node::TemporaryGroup {
             labels: _,
             variable: _,

@@ -103,7 +103,7 @@ fn view_in(
 ) -> Result<Option<View>, AllocError>
     ensures { IfOk result (λ found. noting.listed (option_map seen_view found) ≡ noting.views_in (seen_names names.now) (seen_known known.now) (seen_phrase phrase.now) (map seen_name path.now) (seen_subscript subscript.now) (seen_phrase declared.now)) }
 {
-    if !declares_stored(names, known, declared) {
+    if !declares_stored(names, declared) {
         return Ok(None);
     }
     let shape = shape_at(alloc, names, known, declared)?;

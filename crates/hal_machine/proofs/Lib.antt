@@ -1,3 +1,4 @@
+mod Backs
 mod InStep
 mod Cutting
 mod Mapping

@@ -99,8 +99,8 @@ impl Machine {
         match self.operands.slots.pop() {
             Some(Slot::Int(_)) => Ok(self.branch(setting, false, target)),
             Some(Slot::Bits { len: _, word }) => Ok(self.branch(setting, 0 < word, target)),
-            Some(Slot::Text) => {
-                self.operands.texts.pop();
+            Some(Slot::Text(len)) => {
+                self.operands.drop_bytes(len);
                 Ok(self.branch(setting, false, target))
             }
             Some(Slot::At { place, kind }) => {

@@ -41,7 +41,7 @@ impl Machine {
         ensures does { Does setting.now.image.now result self.new (pushed (value.Text text.now) (stack_seen self.old.operands) (core_seen self.old)) }
         ensures room { self.new.blocks.room ≡ self.old.blocks.room }
     {
-        self.operands.push_text(text.copy())?;
+        self.operands.push_text(text.bytes())?;
         self.at += 1;
         Ok(Stepped::Moves)
     }
@@ -73,9 +73,7 @@ impl Machine {
         match self.operands.slots.pop() {
             Some(Slot::Int(_)) => {}
             Some(Slot::Bits { .. }) => {}
-            Some(Slot::Text) => {
-                self.operands.texts.pop();
-            }
+            Some(Slot::Text(len)) => self.operands.drop_bytes(len),
             Some(Slot::At { place, kind }) => {
                 self.operands.push_address(place, kind)?;
                 return Ok(self.stuck(setting));
