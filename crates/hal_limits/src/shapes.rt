@@ -56,7 +56,6 @@ pub(crate) fn shape_at(
 
 /// Whether what an item declares has cells or places: as a parameter, or where it is no event and no constant that is its value. How it is stored isn't asked, for which
 /// all phrases would be looked through for a TASK.
-#[tactic(auto, using(crate::proofs::Stored::parameters_are_stored, crate::proofs::Stored::others_are_stored))]
 fn stores_item(
     names: &Names<'_>,
     phrase: &Phrase<'_>,
