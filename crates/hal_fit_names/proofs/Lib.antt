@@ -13,6 +13,7 @@ mod Placing
 mod Sizing
 mod Declaring
 mod Owning
+mod Asking
 mod MeantNames
 mod Bodied
 mod Callable
