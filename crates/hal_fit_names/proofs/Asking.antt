@@ -9,7 +9,7 @@ use Rattle.hal_scope.specs.declared.builtin.Builtin.{Builtin}
 use Rattle.hal_scope.specs.declared.builtin.Builtin.TheVariants as builtin
 use Rattle.hal_scope.specs.Builtins.{builtin_named}
 use Rattle.hal_scope.specs.Sorts.{type_of, sort_of, sort_of_type}
-use Rattle.hal_scope.specs.Uses.{is_eventful, sort_at, unless}
+use Rattle.hal_scope.specs.Uses.{is_eventful, means_event, sort_at, unless}
 use Rattle.hal_kinds.specs.Data.{is_event_type}
 use Rattle.hal_locks.specs.Barred.{barred, is_asked, is_runtime}
 use Rattle.hal_locks.specs.Callees.{is_barred}
@@ -66,8 +66,16 @@ none_asked false place updating is = refl
 none_asked true place false is = absurd (cc)
 none_asked true place true is = absurd (cc)
 
--- a phrase that reads a name and does nothing that an UPDATE block may not do names none of these
-pub unasked : (ps : List Phrase) (q : Phrase) (n : Node) (name : List ℕ) (place : Place) → q.node ≡ n → barred ps q.around.block n ≡ unless (not (is_asked ps q.around.block true name)) place → is_barred ps q ≡ false
-    → is_asked ps q.around.block true name ≡ false
-unasked ps q n name place is so free =
-    none_asked (is_asked ps q.around.block true name) place (is_some (updating q.node)) (ap (λ o. is_some (updating q.node) || is_some o) (sym (ap (barred ps q.around.block) is ∙ so)) ∙ free)
+-- a phrase that does nothing that an UPDATE block may not do names none of these, where it reads a name
+pub unasked : (ps : List Phrase) (q : Phrase) (n : Node) (reading : Bool) (name : List ℕ) (place : Place) → q.node ≡ n → barred ps q.around.block n ≡ unless (not (is_asked ps q.around.block reading name)) place
+    → is_barred ps q ≡ false → is_asked ps q.around.block reading name ≡ false
+unasked ps q n reading name place is so free =
+    none_asked (is_asked ps q.around.block reading name) place (is_some (updating q.node)) (ap (λ o. is_some (updating q.node) || is_some o) (sym (ap (barred ps q.around.block) is ∙ so)) ∙ free)
+
+-- nor where it doesn't, and the name means no event and no process
+pub unasked_otherwise : (ps : List Phrase) (block : ℕ) (name : List ℕ) → is_asked ps block false name ≡ false → means_event ps block name ≡ false → is_asked ps block true name ≡ false
+unasked_otherwise ps block name unread eventless = by (means ps block name) unread eventless where
+  by : (o : Option ℕ) → elim o [ None ↦ is_runtime (builtin_named name) | Some k ↦ false ] ≡ false → is_eventful (option_and_then (sort_at ps) o) ≡ false
+      → elim o [ None ↦ is_runtime (builtin_named name) | Some k ↦ is_eventful (sort_at ps k) ] ≡ false
+  by None is none = is
+  by (Some k) is none = none

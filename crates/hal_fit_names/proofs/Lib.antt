@@ -16,6 +16,7 @@ mod Owning
 mod Asking
 mod MeantNames
 mod Bodied
+mod UnitPhrases
 mod Callable
 mod KindsMeant
 mod Parametered

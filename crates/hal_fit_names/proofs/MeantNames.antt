@@ -20,12 +20,13 @@ use Rattle.hal_names.specs.Means.{means}
 use Rattle.hal_scope.specs.declared.builtin.Builtin.{Builtin}
 use Rattle.hal_scope.specs.declared.builtin.Form.{Form}
 use Rattle.hal_scope.specs.declared.builtin.Form.TheVariants as form
+use Rattle.hal_scope.specs.declared.sort.Sort.{Sort}
 use Rattle.hal_scope.specs.declared.usage.Usage.TheVariants as usage
 use Rattle.hal_scope.specs.declared.used.Use.{Use}
 use Rattle.hal_scope.specs.Builtins.{builtin_named, form_of}
 use Rattle.hal_scope.specs.Rules.{Row, IsAmong, IsSound, rows, ruled}
-use Rattle.hal_scope.specs.Sorts.{type_of, sort_of, sort_of_type, sort_of_head, usage_of, use_of, use_of_reference, used, is_known, fits_builtin}
-use Rattle.hal_scope.specs.Uses.{is_nil, unless, sort_at, is_eventful, is_known_builtin, is_known_use, unknown, fits_declared, fits_named, fits_use, misused}
+use Rattle.hal_scope.specs.Sorts.{type_of, sort_of, sort_of_type, sort_of_head, usage_of, use_of, use_of_reference, used, is_known, is_operand, fits_builtin}
+use Rattle.hal_scope.specs.Uses.{is_in_event, is_nil, unless, sort_at, is_eventful, is_known_builtin, is_known_use, unknown, fits_declared, fits_named, fits_use, misused}
 use Rattle.hal_kinds.specs.declared.class.Class.TheVariants as class
 use Rattle.hal_kinds.specs.declared.data.Data.{Data}
 use Rattle.hal_kinds.specs.Attributes as attributes
@@ -196,6 +197,37 @@ in_unit : (b : Bool) → not b ≡ false → b ≡ true
 in_unit true is = refl
 in_unit false is = absurd (cc)
 
+-- a name that is known and fits behind UNTIL of SCHEDULE, where no event stands, is known and fits as a value
+known_same : (o : Option Builtin) → ◌≡◌ {A = Bool} (elim o [ None ↦ false | Some b ↦ is_known usage.EventOrTime (form_of b) ]) (elim o [ None ↦ false | Some b ↦ is_known usage.Value (form_of b) ])
+known_same None = refl
+known_same (Some b) = by (form_of b) where
+  by : (f : Form) → is_known usage.EventOrTime f ≡ is_known usage.Value f
+  by form.Alone = refl
+  by form.Listed = refl
+  by form.Arrayed = refl
+
+fits_same : (o : Option Builtin) → ◌≡◌ {A = Bool} (elim o [ None ↦ true | Some b ↦ not (is_known usage.EventOrTime (form_of b)) || fits_builtin usage.EventOrTime (form_of b) ])
+    (elim o [ None ↦ true | Some b ↦ not (is_known usage.Value (form_of b)) || fits_builtin usage.Value (form_of b) ])
+fits_same None = refl
+fits_same (Some b) = by (form_of b) where
+  by : (f : Form) → (not (is_known usage.EventOrTime f) || fits_builtin usage.EventOrTime f) ≡ (not (is_known usage.Value f) || fits_builtin usage.Value f)
+  by form.Alone = refl
+  by form.Listed = refl
+  by form.Arrayed = refl
+
+or_none : (b : Bool) → (b || false) ≡ b
+or_none true = refl
+or_none false = refl
+
+declared_same : (ps : List Phrase) (q : Phrase) (o : Option Sort) → is_in_event ps q ≡ false → fits_declared ps q usage.EventOrTime o ≡ fits_declared ps q usage.Value o
+declared_same ps q None calm = refl
+declared_same ps q (Some s) calm = ap (λ b. is_operand s || b) calm ∙ or_none (is_operand s)
+
+limit_fits : (ps : List Phrase) (q : Phrase) (name : List ℕ) (o : Option ℕ) → is_in_event ps q ≡ false
+    → ◌≡◌ {A = Bool} (elim o [ None ↦ fits_named name usage.EventOrTime | Some k ↦ fits_declared ps q usage.EventOrTime (sort_at ps k) ]) (elim o [ None ↦ fits_named name usage.Value | Some k ↦ fits_declared ps q usage.Value (sort_at ps k) ])
+limit_fits ps q name None calm = fits_same (builtin_named name)
+limit_fits ps q name (Some k) calm = declared_same ps q (sort_at ps k) calm
+
 module _ (u : Uses) (site : Site) (named : IsSound rows site.set.phrases) (sound : IsSound type_rows site.set.phrases) (counted : IsCounted site.set.phrases) (declared : AreDeclared site.set.phrases) (literals : HasFitLiterals site.set.phrases)
     (has : HasConstants site) (placed : (p : Phrase) → IsAmong p site.set.phrases → NodePlaced site.set.phrases p p.node) where
   -- each item has a type
@@ -318,6 +350,25 @@ module _ (u : Uses) (site : Site) (named : IsSound rows site.set.phrases) (sound
   pub subscript_agrees : (q : Phrase) (name : Naming) → AreLeft site name.name → MayAsk u site name.name → AreFunctions u site name.name → IsAmong q site.set.phrases → q.node ≡ OfSubscriptName name → q.around.block ≡ site.block → NameAgrees u site site.set.phrases site.block name.name []
   unfolding used
   subscript_agrees q name left may functions within is here = used_agrees q name.place name.name left may functions within (ap used is) here
+
+  -- and the one of an operand behind UNTIL of SCHEDULE, where no event stands
+  pub limit_agrees : (q : Phrase) (place : Place) (name : List ℕ) (x : Subscript) → AreLeft site name → MayAsk u site name → AreFunctions u site name → IsAmong q site.set.phrases
+      → q.node ≡ OfReference role.EventOrTime (Refers place name [] x) → q.around.block ≡ site.block → is_in_event site.set.phrases q ≡ false → NameAgrees u site site.set.phrases site.block name []
+  unfolding unknown misused used use_of_reference usage_of
+  limit_agrees q place name x left may functions within is here calm =
+      let ps : List Phrase = site.set.phrases in
+      let block : ℕ = q.around.block in
+      let no_unknown = ruled_none 601 (unknown ps q) (unbroken rows ps named q within (λ qs o. ruled 601 (unknown qs o)) (inl refl)) in
+      let no_misuse = ruled_none 603 (misused ps q) (unbroken rows ps named q within (λ qs o. ruled 603 (misused qs o)) (inr (inr (inl refl)))) in
+      let known_ : (is_some (means ps block name) || is_known_builtin name usage.EventOrTime) ≡ true = unless_true (is_some (means ps block name) || is_known_builtin name usage.EventOrTime) place
+      (ap (λ n. option_and_then (λ (v : Use). unless (is_known_use ps block v) v.place) (used n)) (sym is) ∙ no_unknown) in
+      let fits : elim (means ps block name) [ None ↦ fits_named name usage.EventOrTime | Some k ↦ fits_declared ps q usage.EventOrTime (sort_at ps k) ] ≡ true =
+      unless_true (elim (means ps block name) [ None ↦ fits_named name usage.EventOrTime | Some k ↦ fits_declared ps q usage.EventOrTime (sort_at ps k) ]) place
+      (ap (λ n. option_and_then (λ (v : Use). unless (fits_use ps q v) v.place) (used n)) (sym is) ∙ no_misuse) in
+      meant_by_name name left may functions q (means ps site.block name) refl
+      (ap (λ b. is_some (means ps site.block name) || b) (sym (known_same (builtin_named name))) ∙ (ap (λ b. is_some (means ps b name) || is_known_builtin name usage.EventOrTime) (sym here) ∙ known_))
+      (sym (limit_fits ps q name (means ps site.block name) calm)
+      ∙ (ap (λ b. elim (means ps b name) [ None ↦ fits_named name usage.EventOrTime | Some k ↦ fits_declared ps q usage.EventOrTime (sort_at ps k) ]) (sym here) ∙ fits))
 
   -- data that may take a value
   cells_by : (name : List ℕ) (own : IsOwn site name) (common : List Attribute) (item : Declared) (t : Kind) (structured : Bool) → own.phrase.node ≡ OfItem common item → IsAmong own.phrase site.set.phrases → type_of common item ≡ Some t

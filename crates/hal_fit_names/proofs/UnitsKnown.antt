@@ -24,12 +24,13 @@ use Rattle.hal_shapes.specs.Arguments.{parameter_of}
 use Rattle.hal_values.specs.declared.tables.EventStart.{EventStart}
 use Rattle.hal_values.specs.declared.tables.Tables.{Tables}
 use Rattle.hal_meaning.specs.Bodies as bodies
-use Rattle.hal_meaning.specs.Bodies.{callee_at, called_block, is_called, processes_of, standing_for}
+use Rattle.hal_meaning.specs.Bodies.{Body, callee_at, called_block, is_called, processes_of, standing_for}
 use Rattle.hal_meaning.specs.Calls.{inputs_of}
 use Rattle.hal_meaning.specs.Events as starts
 use Rattle.hal_meaning.specs.Events.{declared_events}
 use Rattle.hal_meaning.specs.Sets.{Set, body_at}
 use Rattle.hal_locks.specs.Barred.{barred, is_asked, is_read, is_reading}
+use Rattle.hal_locks.specs.Callees.{is_barred}
 use Rattle.hal_code.specs.declared.image.ImageParts.{ImageParts}
 use Rattle.hal_code.specs.declared.row.Process.{Process}
 use Rattle.hal_code.specs.Images.{start_of}
@@ -41,18 +42,18 @@ use Rattle.hal_fit_rules.specs.Signalled.{HasEvents}
 use Rattle.hal_fit_rules.specs.Used.{LeafKnown, ChannelKnown, ReturnKnown, NodeKnown, ReferenceKnown, PhraseKnown, UnitKnown}
 use Rattle.hal_fit_rules.specs.Valued.{HasConstants}
 use Rattle.hal_fit_rules.proofs.Constants.{among_found}
-use Rattle.hal_fit_names.specs.Bodied.{HasBody}
+use Rattle.hal_fit_names.specs.Bodied.{HasBody, IsUnitOf}
 use Rattle.hal_fit_names.specs.Known.{is_channel, is_left_node}
 use Rattle.hal_fit_names.specs.Named.{AreFunctions, AreLeft, AreProcedures, FunctionParameters}
 use Rattle.hal_fit_names.specs.Serving.{AsksNothing, MayAsk, ServesUnit}
 use Rattle.hal_fit_names.specs.Spelled.{AreSpelled}
 use Rattle.hal_fit_names.specs.Suited.{NodeIsFit, HasFitLiterals, AreDeclared}
 use Rattle.hal_fit_names.specs.Used.{IsUsed, IsDeclaredParameter, AreDeclaredParameters, HaveValues, IsHome, NamesAreOwn}
-use Rattle.hal_fit_names.proofs.Asking.{unasked}
+use Rattle.hal_fit_names.proofs.Asking.{unasked, unasked_otherwise}
 use Rattle.hal_fit_names.proofs.Callable.{function_known, procedure_known}
 use Rattle.hal_fit_names.proofs.Declaring.{parameter_known}
 use Rattle.hal_fit_names.proofs.KindsMeant.{name_ranged}
-use Rattle.hal_fit_names.proofs.MeantNames.{item_typed, value_agrees, subscript_agrees, receiver_agrees, output_agrees, variable_agrees, changed_agrees, form_agrees, call_agrees}
+use Rattle.hal_fit_names.proofs.MeantNames.{item_typed, value_agrees, subscript_agrees, limit_agrees, receiver_agrees, output_agrees, variable_agrees, changed_agrees, form_agrees, call_agrees}
 use Rattle.hal_fit_names.proofs.Owning.{own_number}
 use Rattle.hal_fit_names.proofs.Placing.{NodePlaced, at_among}
 use Rattle.hal_fit_names.proofs.Temporary.{temporary_sorted}
@@ -78,6 +79,7 @@ module _ (image : ImageParts) (g : Ground) (u : Bool → Uses) (site : Site) (ho
     (declared : AreDeclared site.set.phrases) (literals : HasFitLiterals site.set.phrases) (spelled : AreSpelled site.set.phrases) (has : HasConstants site) (serves : ServesUnit site.set image u home)
     (owned : NamesAreOwn site.set.phrases) (valued : HaveValues site.set) (stands : IsHome g site home) (placed : (p : Phrase) → IsAmong p site.set.phrases → NodePlaced site.set.phrases p p.node)
     (bodied : (k : ℕ) (p : Phrase) (name : Naming) (head : Head) (declarations : List Declaration) → slice_get site.set.phrases k ≡ Some p → p.node ≡ OfUnit name head declarations → HasBody site.set.bodies k head)
+    (united : (k : ℕ) (b : Body) → body_at site.set k ≡ Some b → IsUnitOf site.set.phrases k b)
     (inputs_known : (k : ℕ) (p : Phrase) (name : Naming) (head : Head) (declarations : List Declaration) → slice_get site.set.phrases k ≡ Some p → p.node ≡ OfUnit name head declarations
     → AreDeclaredParameters site.set.phrases k (inputs_of head)) (events : HasEvents image site)
     (temporaries : (k : ℕ) (p : Phrase) (labels : List Naming) (variable : Naming) → slice_get site.set.phrases k ≡ Some p → p.node ≡ OfTemporaryGroup labels variable → means site.set.phrases k variable.name ≡ Some k) where
@@ -150,28 +152,34 @@ module _ (image : ImageParts) (g : Ground) (u : Bool → Uses) (site : Site) (ho
         declared_parameters q.around.block p.number is.inputs
         (numbered_inputs k p is.name (Function is.place is.inputs is.returns is.mode) is.declarations there is.declares)
 
-    -- a name that it reads may be asked
-    may_ask : (n : Node) (name : List ℕ) (place : Place) → q.node ≡ n → barred site.set.phrases q.around.block n ≡ unless (not (is_asked site.set.phrases q.around.block true name)) place → MayAsk (u (is_some q.around.update)) (within_block q.around.block site) name
-    may_ask n name place is so = record { all = all_there (is_some q.around.update); asks = by (serves.asks (is_some q.around.update)) } where
-      by : ((u (is_some q.around.update)).asks ≡ true) ⊎ AsksNothing site.set.phrases home (is_some q.around.update) → ((u (is_some q.around.update)).asks ≡ true) ⊎ (is_asked site.set.phrases q.around.block true name ≡ false)
+    -- a name may be asked that the phrase doesn't ask where it does nothing that an UPDATE block may not do
+    may_ask : (name : List ℕ) → (is_barred site.set.phrases q ≡ false → is_asked site.set.phrases q.around.block true name ≡ false) → MayAsk (u (is_some q.around.update)) (within_block q.around.block site) name
+    may_ask name so = record { all = all_there (is_some q.around.update); asks = by (serves.asks (is_some q.around.update)) } where
+      by : ((u (is_some q.around.update)).asks ≡ true) ⊎ AsksNothing site.set.phrases home (is_some q.around.update)
+          → ((u (is_some q.around.update)).asks ≡ true) ⊎ (is_asked site.set.phrases q.around.block true name ≡ false)
       by (inl asks) = inl asks
-      by (inr nothing) = inr (unasked site.set.phrases q n name place is so (nothing q within here refl))
+      by (inr nothing) = inr (so (nothing q within here refl))
+
+    -- as one that it reads
+    may_read : (n : Node) (name : List ℕ) (place : Place) → q.node ≡ n → barred site.set.phrases q.around.block n ≡ unless (not (is_asked site.set.phrases q.around.block true name)) place
+        → MayAsk (u (is_some q.around.update)) (within_block q.around.block site) name
+    may_read n name place is so = may_ask name (unasked site.set.phrases q n true name place is so)
 
   -- RETURN
   return_known : (q : Phrase) (value : Option Expression) → q.around.home ≡ home → ReturnKnown image g (within_block q.around.block site) site.set.phrases q.around.home value
   return_known q None here = tt
   return_known q (Some tree) here =
-      let body = bodied home stands.phrase stands.name stands.head stands.declarations stands.there stands.declares in
+      let unit = united home stands.body stands.found in
       record {
-        phrase = stands.phrase;
-        there = ap (slice_get site.set.phrases) here ∙ stands.there;
-        name = stands.name;
-        head = stands.head;
-        declarations = stands.declarations;
-        declares = stands.declares;
-        body = body.body;
-        found = ap (body_at site.set) stands.unit ∙ body.found;
-        same = body.same;
+        phrase = unit.phrase;
+        there = ap (slice_get site.set.phrases) here ∙ unit.there;
+        name = unit.name;
+        head = stands.body.head;
+        declarations = unit.declarations;
+        declares = unit.declares;
+        body = stands.body;
+        found = ap (body_at site.set) stands.unit ∙ stands.found;
+        same = refl;
         gives = stands.gives;
       }
 
@@ -189,7 +197,7 @@ module _ (image : ImageParts) (g : Ground) (u : Bool → Uses) (site : Site) (ho
   -- a reference
   reference_known : (q : Phrase) (r : Role) (place : Place) (name : List ℕ) (path : List Naming) (x : Subscript) → IsAmong q site.set.phrases → q.around.home ≡ home → q.node ≡ OfReference r (Refers place name path x)
       → is_left_node (OfReference r (Refers place name path x)) ≡ false
-      → ReferenceKnown (u (is_some q.around.update)) (within_block q.around.block site) site.set.phrases q.around.block r (Refers place name path x)
+      → ReferenceKnown (u (is_some q.around.update)) (within_block q.around.block site) site.set.phrases q r (Refers place name path x)
   unfolding is_nil usage_of used use_of_reference barred is_reading is_read
   reference_known q role.Receiver place name [] x within here is plain = (
     receiver_agrees (u (is_some q.around.update)) (within_block q.around.block site) named sound counted declared literals has placed q place name x
@@ -197,8 +205,16 @@ module _ (image : ImageParts) (g : Ground) (u : Bool → Uses) (site : Site) (ho
     name_ranged (here_at (within_block q.around.block site)) [] [] name,
   )
   reference_known q role.Receiver place name (n ∷ path) x within here is plain = absurd (cc)
-  reference_known q role.Event place name path x within here is plain = absurd (cc)
-  reference_known q role.EventOrTime place name path x within here is plain = absurd (cc)
+  reference_known q role.Event place name path x within here is plain = tt
+  reference_known q role.EventOrTime place name [] x within here is plain =
+      λ calm eventless.
+      let v : Use = use_of place name usage.EventOrTime in
+      limit_agrees (u (is_some q.around.update)) (within_block q.around.block site) named sound counted declared literals has placed q place name x
+      (name_left q within here v (ap used is))
+      (may_ask q within here name
+      (λ free. unasked_otherwise site.set.phrases q.around.block name (unasked site.set.phrases q (OfReference role.EventOrTime (Refers place name [] x)) false name place is refl free) eventless))
+      (functions q within here v (ap used is) (ap (callee_at site.set.phrases q.around.block) is)) within is refl calm
+  reference_known q role.EventOrTime place name (n ∷ path) x within here is plain = absurd (cc)
   reference_known q role.Output place name [] x within here is plain =
       output_agrees (u (is_some q.around.update)) (within_block q.around.block site) named sound counted declared literals has placed q place name x
       (name_left q within here (use_of place name usage.Output) (ap used is)) within is refl
@@ -206,7 +222,7 @@ module _ (image : ImageParts) (g : Ground) (u : Bool → Uses) (site : Site) (ho
   reference_known q other place name [] x within here is plain =
       let v : Use = use_of place name usage.Value in
       value_agrees (u (is_some q.around.update)) (within_block q.around.block site) named sound counted declared literals has placed q other place name x
-      (name_left q within here v (ap used is)) (may_ask q within here (OfReference other (Refers place name [] x)) name place is refl)
+      (name_left q within here v (ap used is)) (may_read q within here (OfReference other (Refers place name [] x)) name place is refl)
       (functions q within here v (ap used is) (ap (callee_at site.set.phrases q.around.block) is)) within is refl refl
   reference_known q other place name (n ∷ path) x within here is plain = absurd (cc)
 
@@ -224,7 +240,7 @@ module _ (image : ImageParts) (g : Ground) (u : Bool → Uses) (site : Site) (ho
   node_known q (OfSubscriptName name) within here is plain =
       let v : Use = use_of name.place name.name usage.Value in
       subscript_agrees (u (is_some q.around.update)) (within_block q.around.block site) named sound counted declared literals has placed q name
-      (name_left q within here v (ap used is)) (may_ask q within here (OfSubscriptName name) name.name name.place is refl)
+      (name_left q within here v (ap used is)) (may_read q within here (OfSubscriptName name) name.name name.place is refl)
       (functions q within here v (ap used is) (ap (callee_at site.set.phrases q.around.block) is)) within is refl
   node_known q (OfCallForm place name arguments) within here is plain =
       let v : Use = use_of place name usage.CallForm in

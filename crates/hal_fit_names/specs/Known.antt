@@ -12,10 +12,9 @@ abbrev pub is_channel : Role → Bool
 is_channel role.Channel = true
 is_channel other = false
 
--- references with a path, and operands of event expressions
+-- references with a path, but for operands of event expressions
 abbrev pub is_left_reference : Role → List Naming → Bool
-is_left_reference role.Event path = true
-is_left_reference role.EventOrTime path = true
+is_left_reference role.Event path = false
 is_left_reference other path = not (is_nil path)
 
 -- these and channels

@@ -1,10 +1,9 @@
 -- What is left to be known of the names that a unit uses, and of the unit itself.
 use Rattle.std.specs.Prelude.{◌≡◌, ℕ, true, false, List, [], ◌∷◌, Some, slice_get}
 use Rattle.hal_grammar.specs.Leaves.{Naming}
-use Rattle.hal_grammar.specs.Declarations.{Attribute, Declared, Declaration}
+use Rattle.hal_grammar.specs.Declarations.{Attribute, Declared}
 use Rattle.hal_grammar.specs.Expressions.{NoExpressions}
-use Rattle.hal_grammar.specs.Units.{Head}
-use Rattle.hal_phrases.specs.Phrases.{Phrase, OfUnit, OfItem}
+use Rattle.hal_phrases.specs.Phrases.{Phrase, OfItem}
 use Rattle.hal_names.specs.Means.{means}
 use Rattle.hal_scope.specs.Rules.{IsAmong}
 use Rattle.hal_scope.specs.Sorts.{used}
@@ -13,8 +12,9 @@ use Rattle.hal_kinds.specs.Attributes.{sizes_of}
 use Rattle.hal_values.specs.declared.value.Value.{Value}
 use Rattle.hal_constants.specs.Naming.{is_value_item, value_at}
 use Rattle.hal_shapes.specs.Arguments.{parameter_of}
+use Rattle.hal_meaning.specs.Bodies.{Body}
 use Rattle.hal_meaning.specs.Calls.{is_function, zero_of}
-use Rattle.hal_meaning.specs.Sets.{Set}
+use Rattle.hal_meaning.specs.Sets.{Set, body_at}
 use Rattle.hal_code.specs.Controlling as machine
 use Rattle.hal_agreement.specs.Sites.{Site}
 use Rattle.hal_fitting.specs.Fitting.{Ground}
@@ -57,11 +57,7 @@ HaveValues s =
 
 -- the site is that of the unit with this number, which gives back what its code does
 pub record IsHome (g : Ground) (site : Site) (home : ℕ) : Type 0 where
-  pub phrase : Phrase
-  pub there : slice_get site.set.phrases home ≡ Some phrase
-  pub name : Naming
-  pub head : Head
-  pub declarations : List Declaration
-  pub declares : phrase.node ≡ OfUnit name head declarations
+  pub body : Body
+  pub found : body_at site.set home ≡ Some body
   pub unit : site.unit ≡ home
-  pub gives : is_function head ≡ true → machine.zero_of g.block.result ≡ Some (zero_of head)
+  pub gives : is_function body.head ≡ true → machine.zero_of g.block.result ≡ Some (zero_of body.head)

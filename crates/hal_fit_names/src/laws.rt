@@ -27,9 +27,9 @@ ghost use Rattle.hal_constants.specs.Constants.{constant_of};
 ghost use Rattle.hal_constants.specs.Known.{kind_of_type, known};
 ghost use Rattle.hal_constants.specs.Naming.{is_value_item};
 ghost use Rattle.hal_shapes.specs.Arguments.{parameter_of};
-ghost use Rattle.hal_meaning.specs.Bodies.{bodies_of};
+ghost use Rattle.hal_meaning.specs.Bodies.{bodies_of, Body};
 ghost use Rattle.hal_meaning.specs.Calls.{inputs_of};
-ghost use Rattle.hal_meaning.specs.Sets.{Set};
+ghost use Rattle.hal_meaning.specs.Sets.{body_at, Set};
 ghost use Rattle.hal_meaning.specs.Variables.{name_meant};
 ghost use Rattle.hal_code.specs.declared.image.ImageParts.{ImageParts};
 ghost use Rattle.hal_agreement.specs.Sites.{Site, here_at};
@@ -45,7 +45,7 @@ ghost use Rattle.hal_fit_rules.specs.Received.{CellsAgree};
 ghost use Rattle.hal_fit_rules.specs.Signalled.{EventAgrees, HasEvents};
 ghost use Rattle.hal_fit_rules.specs.Used.{PhraseKnown, UnitKnown};
 ghost use Rattle.hal_fit_rules.specs.Valued.{HasConstants};
-ghost use Rattle.hal_fit_names.specs.Bodied.{HasBody};
+ghost use Rattle.hal_fit_names.specs.Bodied.{HasBody, IsUnitOf};
 ghost use Rattle.hal_fit_names.specs.Known.{is_left_node};
 ghost use Rattle.hal_fit_names.specs.Named.{AreFunctions, AreLeft, AreProcedures, FunctionParameters};
 ghost use Rattle.hal_fit_names.specs.Serving.{MayAsk, ServesUnit};
@@ -155,10 +155,11 @@ pub fn events_that_are_changed_agree()
     what_is_meant_declares_the_name();
 }
 
-/// Each unit of a set of files has its body, which has the head of the unit's phrase (language document, Units).
+/// Each unit of a set of files has its body, which has the head of the unit's phrase; and each body is that of such a unit (language document, Units).
 pub fn units_have_bodies()
-    ensures { (files : List File) (s : Set) (k : ℕ) (p : Phrase) (name : Naming) (head : Head) (declarations : List Declaration) → s.phrases ≡ phrases_of files → s.bodies ≡ bodies_of files s.phrases
+    ensures body { (files : List File) (s : Set) (k : ℕ) (p : Phrase) (name : Naming) (head : Head) (declarations : List Declaration) → s.phrases ≡ phrases_of files → s.bodies ≡ bodies_of files s.phrases
         → slice_get s.phrases k ≡ Some p → p.node ≡ OfUnit name head declarations → HasBody s.bodies k head }
+    ensures unit { (files : List File) (s : Set) (k : ℕ) (b : Body) → s.phrases ≡ phrases_of files → s.bodies ≡ bodies_of files s.phrases → body_at s k ≡ Some b → IsUnitOf s.phrases k b }
 {
     phrases_are_counted();
 }
@@ -216,8 +217,8 @@ pub fn temporary_variables_mean_themselves()
     a_key_is_found_at_its_first_declaration();
 }
 
-/// So a unit is known, as the law of statements asks, by all that serves it, where this is known of the phrases that are left: references with a path, operands of event
-/// expressions, and channels. What is left of its names is that they mean nothing of written templates, and that constants have values.
+/// So a unit is known, as the law of statements asks, by all that serves it, where this is known of the phrases that are left: references with a path, but for operands of
+/// event expressions, and channels. What is left of its names is that they mean nothing of written templates, and that constants have values.
 pub fn units_are_known_where_what_is_left_is()
     ensures { (image : ImageParts) (g : Ground) (u : Bool → Uses) (files : List File) (site : Site) (home : ℕ) → site.set.phrases ≡ phrases_of files → site.set.bodies ≡ bodies_of files site.set.phrases
         → HasConstants site → ServesUnit site.set image u home → NamesAreOwn site.set.phrases → HaveValues site.set → IsHome g site home → HasEvents image site → IsSound rows (phrases_of files)
