@@ -15,7 +15,7 @@ use Rattle.hal_fit_names.specs.Known.{is_left_node}
 use Rattle.hal_fit_names.specs.Serving.{ServesUnit}
 use Rattle.hal_fit_names.specs.Spelled.{AreSpelled}
 use Rattle.hal_fit_names.specs.Suited.{HasFitLiterals}
-use Rattle.hal_fit_names.specs.Used.{HaveValues, NamesAreOwn}
+use Rattle.hal_fit_names.specs.Used.{NamesAreOwn}
 use Rattle.hal_fit_images.specs.Blocks.{ground_of}
 
 -- what phrases of a unit name that are left is known in the block with this number and row, by all that serves the unit
@@ -30,9 +30,7 @@ pub record AreLeft (s : Set) (image : ImageParts) : Type 0 where
   pub spelled : AreSpelled s.phrases
   -- no name means something of a written template
   pub owned : NamesAreOwn s.phrases
-  -- constants that are their values have values
-  pub valued : HaveValues s
-  -- references with a path and channels are known
+  -- references with a path are known
   pub known : (number unit : ℕ) (row : Block) (b : Body) → slice_get image.blocks number ≡ Some row → body_at s unit ≡ Some b → LeftIsKnown s image number row b
   -- views lie in memory
   pub lie : views_lie image 0 image.views ≡ true

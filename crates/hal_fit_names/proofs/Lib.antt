@@ -10,11 +10,15 @@ mod PlainExpressions
 mod PlainStatements
 mod PlainDeclarations
 mod Placing
+mod Growing
+mod Rounds
 mod Sizing
 mod Declaring
 mod Owning
 mod Asking
 mod MeantNames
+mod Clashing
+mod Counts
 mod Bodied
 mod UnitPhrases
 mod Callable
@@ -22,4 +26,6 @@ mod KindsMeant
 mod Parametered
 mod Homing
 mod Temporary
+mod Worth
+mod Channelled
 mod UnitsKnown

@@ -21,8 +21,12 @@ use Rattle.hal_scope.specs.Sorts.{type_of, usage_of, use_of, use_of_reference, u
 use Rattle.hal_scope.specs.Uses.{is_nil, unless}
 use Rattle.hal_types.specs.Rules.{type_rows}
 use Rattle.hal_shapes.specs.Arguments.{parameter_of}
+use Rattle.hal_values.specs.declared.value.Value.{Value}
 use Rattle.hal_values.specs.declared.tables.EventStart.{EventStart}
 use Rattle.hal_values.specs.declared.tables.Tables.{Tables}
+use Rattle.hal_constants.specs.declared.constant.Constant.TheVariants as constant
+use Rattle.hal_constants.specs.Constants.{constant_of}
+use Rattle.hal_constants.specs.Known.{Known}
 use Rattle.hal_meaning.specs.Bodies as bodies
 use Rattle.hal_meaning.specs.Bodies.{Body, callee_at, called_block, is_called, processes_of, standing_for}
 use Rattle.hal_meaning.specs.Calls.{inputs_of}
@@ -34,23 +38,26 @@ use Rattle.hal_locks.specs.Callees.{is_barred}
 use Rattle.hal_code.specs.declared.image.ImageParts.{ImageParts}
 use Rattle.hal_code.specs.declared.row.Process.{Process}
 use Rattle.hal_code.specs.Images.{start_of}
+use Rattle.hal_agreement.specs.Constants.{IsConstant}
 use Rattle.hal_agreement.specs.Sites.{Site, here_at, within_block}
 use Rattle.hal_fitting.specs.Fitting.{Ground}
 use Rattle.hal_fit_expr.specs.Uses.{Uses}
+use Rattle.hal_fit_constants.specs.Names.{NamesAgree}
 use Rattle.hal_fit_rules.specs.Passing.{IsParameter, AreParameters}
 use Rattle.hal_fit_rules.specs.Signalled.{HasEvents}
 use Rattle.hal_fit_rules.specs.Used.{LeafKnown, ChannelKnown, ReturnKnown, NodeKnown, ReferenceKnown, PhraseKnown, UnitKnown}
 use Rattle.hal_fit_rules.specs.Valued.{HasConstants}
 use Rattle.hal_fit_rules.proofs.Constants.{among_found}
 use Rattle.hal_fit_names.specs.Bodied.{HasBody, IsUnitOf}
-use Rattle.hal_fit_names.specs.Known.{is_channel, is_left_node}
+use Rattle.hal_fit_names.specs.Known.{is_left_node}
 use Rattle.hal_fit_names.specs.Named.{AreFunctions, AreLeft, AreProcedures, FunctionParameters}
 use Rattle.hal_fit_names.specs.Serving.{AsksNothing, MayAsk, ServesUnit}
 use Rattle.hal_fit_names.specs.Spelled.{AreSpelled}
 use Rattle.hal_fit_names.specs.Suited.{NodeIsFit, HasFitLiterals, AreDeclared}
-use Rattle.hal_fit_names.specs.Used.{IsUsed, IsDeclaredParameter, AreDeclaredParameters, HaveValues, IsHome, NamesAreOwn}
+use Rattle.hal_fit_names.specs.Used.{IsDeclaredParameter, AreDeclaredParameters, HaveValues, IsHome, NamesAreOwn}
 use Rattle.hal_fit_names.proofs.Asking.{unasked, unasked_otherwise}
 use Rattle.hal_fit_names.proofs.Callable.{function_known, procedure_known}
+use Rattle.hal_fit_names.proofs.Channelled.{channel_agrees}
 use Rattle.hal_fit_names.proofs.Declaring.{parameter_known}
 use Rattle.hal_fit_names.proofs.KindsMeant.{name_ranged}
 use Rattle.hal_fit_names.proofs.MeantNames.{item_typed, value_agrees, subscript_agrees, limit_agrees, receiver_agrees, output_agrees, variable_agrees, changed_agrees, form_agrees, call_agrees}
@@ -82,6 +89,7 @@ module _ (image : ImageParts) (g : Ground) (u : Bool → Uses) (site : Site) (ho
     (united : (k : ℕ) (b : Body) → body_at site.set k ≡ Some b → IsUnitOf site.set.phrases k b)
     (inputs_known : (k : ℕ) (p : Phrase) (name : Naming) (head : Head) (declarations : List Declaration) → slice_get site.set.phrases k ≡ Some p → p.node ≡ OfUnit name head declarations
     → AreDeclaredParameters site.set.phrases k (inputs_of head)) (events : HasEvents image site)
+    (constants : (here : Site) (vs : Known) (p : Phrase) (tree : Expression) (v : Value) → NamesAgree here vs p → constant_of here.set.phrases vs p tree ≡ constant.Worth v → IsConstant here tree v)
     (temporaries : (k : ℕ) (p : Phrase) (labels : List Naming) (variable : Naming) → slice_get site.set.phrases k ≡ Some p → p.node ≡ OfTemporaryGroup labels variable → means site.set.phrases k variable.name ≡ Some k) where
   -- what is used has all events
   all_there : (b : Bool) → length (processes_of site.set.phrases) + length (declared_events site.set.phrases) ≤ (u b).events
@@ -120,12 +128,9 @@ module _ (image : ImageParts) (g : Ground) (u : Bool → Uses) (site : Site) (ho
   -- the phrase uses a name of the unit
   module _ (q : Phrase) (within : IsAmong q site.set.phrases) (here : q.around.home ≡ home) where
     module _ (v : Use) (uses : used q.node ≡ Some v) where
-      meaning : (k : ℕ) (p : Phrase) → means site.set.phrases q.around.block v.name ≡ Some k → slice_get site.set.phrases k ≡ Some p → IsUsed site.set.phrases q v k p
-      meaning k p meant there = record { within = within; uses = uses; meant = meant; there = there }
-
       name_left : AreLeft (within_block q.around.block site) v.name
       name_left = record {
-        untemplated = λ k p meant there. owned q v k p (meaning k p meant there);
+        untemplated = λ k p meant there. owned q.around.block v.name k p meant there;
         valued = λ k p common item meant there is value_item. valued p common item (at_among site.set.phrases k p there) is value_item;
       }
 
@@ -135,7 +140,7 @@ module _ (image : ImageParts) (g : Ground) (u : Bool → Uses) (site : Site) (ho
         may_call k p is there called =
             serves.calls q p.number within here
             (calling
-            ∙ unit_called site.set.phrases k p (means site.set.phrases q.around.block v.name) is there (own_number site.set.phrases k p there (owned q v k p (meaning k p is there))) called)
+            ∙ unit_called site.set.phrases k p (means site.set.phrases q.around.block v.name) is there (own_number site.set.phrases k p there (owned q.around.block v.name k p is there)) called)
 
         functions : AreFunctions (u (is_some q.around.update)) (within_block q.around.block site) v.name
         functions k p unit place inputs returns mode declarations is there declares =
@@ -189,10 +194,10 @@ module _ (image : ImageParts) (g : Ground) (u : Bool → Uses) (site : Site) (ho
   leaf_known q r (Decimal place number) within is fit = spelled.times q r place number within is
   leaf_known q r other within is fit = tt
 
-  -- one that is no channel
-  channel_known : (q : Phrase) (r : Role) (tree : Expression) → is_channel r ≡ false → ChannelKnown (within_block q.around.block site) site.set.phrases q r tree
-  channel_known q role.Channel tree plain = absurd (cc)
-  channel_known q other tree plain = tt
+  -- a channel
+  channel_known : (q : Phrase) (r : Role) (tree : Expression) → ChannelKnown (within_block q.around.block site) site.set.phrases q r tree
+  channel_known q role.Channel tree = λ d begun. channel_agrees site named sound counted declared literals has owned placed q constants tree d begun
+  channel_known q other tree = tt
 
   -- a reference
   reference_known : (q : Phrase) (r : Role) (place : Place) (name : List ℕ) (path : List Naming) (x : Subscript) → IsAmong q site.set.phrases → q.around.home ≡ home → q.node ≡ OfReference r (Refers place name path x)
@@ -230,7 +235,7 @@ module _ (image : ImageParts) (g : Ground) (u : Bool → Uses) (site : Site) (ho
       → NodeKnown image g (u (is_some q.around.update)) (within_block q.around.block site) site.set.phrases q n
   unfolding used barred is_reading
   node_known q (OfExpression r tree) within here is plain =
-      (leaf_known q r tree within is (subst NodeIsFit is (literals q within)), channel_known q r tree plain)
+      (leaf_known q r tree within is (subst NodeIsFit is (literals q within)), channel_known q r tree)
   node_known q (OfReference r (Refers place name path x)) within here is plain = reference_known q r place name path x within here is plain
   node_known q (OfTemporaryGroup labels variable) within here is plain =
       let at_ = among_found q site.set.phrases within in

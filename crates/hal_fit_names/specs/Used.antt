@@ -1,4 +1,4 @@
--- What is left to be known of the names that a unit uses, and of the unit itself.
+-- What is left to be known of the names of a set, and of a unit.
 use Rattle.std.specs.Prelude.{◌≡◌, ℕ, true, false, List, [], ◌∷◌, Some, slice_get}
 use Rattle.hal_grammar.specs.Leaves.{Naming}
 use Rattle.hal_grammar.specs.Declarations.{Attribute, Declared}
@@ -6,8 +6,6 @@ use Rattle.hal_grammar.specs.Expressions.{NoExpressions}
 use Rattle.hal_phrases.specs.Phrases.{Phrase, OfItem}
 use Rattle.hal_names.specs.Means.{means}
 use Rattle.hal_scope.specs.Rules.{IsAmong}
-use Rattle.hal_scope.specs.Sorts.{used}
-use Rattle.hal_scope.specs.declared.used.Use.{Use}
 use Rattle.hal_kinds.specs.Attributes.{sizes_of}
 use Rattle.hal_values.specs.declared.value.Value.{Value}
 use Rattle.hal_constants.specs.Naming.{is_value_item, value_at}
@@ -19,13 +17,6 @@ use Rattle.hal_code.specs.Controlling as machine
 use Rattle.hal_agreement.specs.Sites.{Site}
 use Rattle.hal_fitting.specs.Fitting.{Ground}
 use Rattle.hal_fit_names.specs.Suited.{is_templated}
-
--- a phrase of a set uses a name that means the phrase with this number there
-pub record IsUsed (ps : List Phrase) (q : Phrase) (v : Use) (k : ℕ) (p : Phrase) : Type 0 where
-  pub within : IsAmong q ps
-  pub uses : used q.node ≡ Some v
-  pub meant : means ps q.around.block v.name ≡ Some k
-  pub there : slice_get ps k ≡ Some p
 
 -- the unit with this number declares a parameter of this name as data, not as a constant; an array has a size
 pub record IsDeclaredParameter (ps : List Phrase) (unit : ℕ) (name : Naming) : Type 0 where
@@ -46,9 +37,9 @@ abbrev pub AreDeclaredParameters : List Phrase → ℕ → List Naming → Type 
 AreDeclaredParameters ps unit [] = Unit {0}
 AreDeclaredParameters ps unit (name ∷ names) = IsDeclaredParameter ps unit name × AreDeclaredParameters ps unit names
 
--- names that a set uses mean nothing of written templates
+-- no name means something of a written template
 abbrev pub NamesAreOwn : List Phrase → Type 0
-NamesAreOwn ps = (q : Phrase) (v : Use) (k : ℕ) (p : Phrase) → IsUsed ps q v k p → is_templated ps p p.node ≡ false
+NamesAreOwn ps = (block : ℕ) (name : List ℕ) (k : ℕ) (p : Phrase) → means ps block name ≡ Some k → slice_get ps k ≡ Some p → is_templated ps p p.node ≡ false
 
 -- constants of a set that are their values have values
 abbrev pub HaveValues : Set → Type 0

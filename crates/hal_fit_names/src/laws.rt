@@ -53,6 +53,7 @@ ghost use Rattle.hal_fit_names.specs.Spelled.{AreSpelled};
 ghost use Rattle.hal_fit_names.specs.Suited.{HasFitLiterals, is_templated, Suits};
 ghost use Rattle.hal_fit_names.specs.Used.{AreDeclaredParameters, HaveSizes, HaveValues, IsHome, NamesAreOwn};
 
+use hal_fit_constants::what_the_checks_know_is_constant;
 use hal_names::{
     a_key_is_found_at_its_first_declaration, phrases_are_counted, what_is_meant_declares_the_name,
 };
@@ -217,11 +218,21 @@ pub fn temporary_variables_mean_themselves()
     a_key_is_found_at_its_first_declaration();
 }
 
+/// A constant that is its value has one, in a set of files that breaks no rule of names or types and that words spell: one more round tells none that isn't known, and the
+/// value that it is given is one that cells of its type hold (language document, Constants).
+pub fn constants_have_values()
+    ensures { (files : List File) (s : Set) → s.phrases ≡ phrases_of files → s.constants ≡ known s.phrases → IsSound rows (phrases_of files) → IsSound type_rows (phrases_of files)
+        → HasFitLiterals (phrases_of files) → AreSpelled (phrases_of files) → HaveValues s }
+{
+    phrases_are_counted();
+    what_is_meant_declares_the_name();
+}
+
 /// So a unit is known, as the law of statements asks, by all that serves it, where this is known of the phrases that are left: references with a path, but for operands of
-/// event expressions, and channels. What is left of its names is that they mean nothing of written templates, and that constants have values.
+/// event expressions. What is left of names is that they mean nothing of written templates.
 pub fn units_are_known_where_what_is_left_is()
     ensures { (image : ImageParts) (g : Ground) (u : Bool → Uses) (files : List File) (site : Site) (home : ℕ) → site.set.phrases ≡ phrases_of files → site.set.bodies ≡ bodies_of files site.set.phrases
-        → HasConstants site → ServesUnit site.set image u home → NamesAreOwn site.set.phrases → HaveValues site.set → IsHome g site home → HasEvents image site → IsSound rows (phrases_of files)
+        → HasConstants site → ServesUnit site.set image u home → NamesAreOwn site.set.phrases → IsHome g site home → HasEvents image site → IsSound rows (phrases_of files)
         → IsSound type_rows (phrases_of files) → HasFitLiterals (phrases_of files) → AreSpelled (phrases_of files)
         → ((q : Phrase) → IsAmong q site.set.phrases → q.around.home ≡ home → is_left_node q.node ≡ true → PhraseKnown image g u site q) → UnitKnown image g u site home }
 {
@@ -229,4 +240,6 @@ pub fn units_are_known_where_what_is_left_is()
     what_is_meant_declares_the_name();
     input_parameters_are_declared();
     temporary_variables_mean_themselves();
+    what_the_checks_know_is_constant();
+    constants_have_values();
 }

@@ -267,14 +267,16 @@ module _ (image : ImageParts) (g : Ground) (u : Bool → Uses) (site : Site) (ho
           }
       basic_agrees m d a labels (Read p channel receivers) here counts begun =
           let e : List Phrase = add d a (OfRead p) in
-          let f : List Phrase = gathered e (below d a) role.Channel channel in (
-            (node_known image g u site home known e (below d a) (OfExpression role.Channel channel) here (then_ (own_first e (below d a) role.Channel channel) (then_ (receivers_first (below d a) role.Receiver f receivers) begun))).1,
+          let f : List Phrase = gathered e (below d a) role.Channel channel in
+          let channel_begun = then_ (receivers_first (below d a) role.Receiver f receivers) begun in (
+            (node_known image g u site home known e (below d a) (OfExpression role.Channel channel) here (then_ (own_first e (below d a) role.Channel channel) channel_begun)).1 e channel_begun,
             reads_agree f (below d a) receivers here begun,
           )
       basic_agrees m d a labels (Write p channel items) here counts begun =
           let e : List Phrase = add d a (OfWrite p) in
-          let f : List Phrase = gathered e (below d a) role.Channel channel in (
-            (node_known image g u site home known e (below d a) (OfExpression role.Channel channel) here (then_ (own_first e (below d a) role.Channel channel) (then_ (expressions_first f (below d a) role.Item items) begun))).1,
+          let f : List Phrase = gathered e (below d a) role.Channel channel in
+          let channel_begun = then_ (expressions_first f (below d a) role.Item items) begun in (
+            (node_known image g u site home known e (below d a) (OfExpression role.Channel channel) here (then_ (own_first e (below d a) role.Channel channel) channel_begun)).1 e channel_begun,
             trees_agree image g u site home known f (below d a) role.Item items refl tt here begun,
           )
       basic_agrees m d a labels (Update p body close) here counts begun =

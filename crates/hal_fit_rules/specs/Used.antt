@@ -6,6 +6,7 @@ use Rattle.hal_grammar.specs.Expressions.{Expression, Literal, Decimal, Referenc
 use Rattle.hal_phrases.specs.declared.role.Role.{Role}
 use Rattle.hal_phrases.specs.declared.role.Role.TheVariants as role
 use Rattle.hal_phrases.specs.Phrases.{Node, Phrase, OfExpression, OfReference, OfSubscriptName, OfCallForm, OfTemporaryGroup, OfVariable, OfAssignment, OfReturn, OfCall, OfEvent}
+use Rattle.hal_phrases.specs.GatheredExpressions.{gathered}
 use Rattle.hal_names.specs.Means.{means}
 use Rattle.hal_scope.specs.Rules.{IsAmong}
 use Rattle.hal_scope.specs.Uses.{is_in_event, is_nil, means_event}
@@ -20,6 +21,7 @@ use Rattle.hal_fitting.specs.Fitting.{Ground}
 use Rattle.hal_fit_expr.specs.Uses.{Uses}
 use Rattle.hal_fit_expr.specs.Sorted.{sort_of_name}
 use Rattle.hal_fit_classes.specs.Kinded.{IsFitLiteral}
+use Rattle.hal_fit_rules.specs.Begun.{AreFirst}
 use Rattle.hal_fit_rules.specs.Agreeing.{NameAgrees, FormAgrees}
 use Rattle.hal_fit_rules.specs.Received.{CellsAgree}
 use Rattle.hal_fit_rules.specs.Passed.{ProcedureAgrees}
@@ -52,8 +54,9 @@ LeafKnown (Literal place literal) = IsFitLiteral literal
 LeafKnown (Decimal place number) = is_time (time.Milliseconds number) ≡ true
 LeafKnown other = Unit {0}
 
+-- a channel, whose phrases stand behind these
 abbrev pub ChannelKnown : Site → List Phrase → Phrase → Role → Expression → Type 0
-ChannelKnown site ps p role.Channel tree = ChannelAgrees site ps p tree
+ChannelKnown site ps p role.Channel tree = (d : List Phrase) → AreFirst (gathered d p.around role.Channel tree) ps → ChannelAgrees site ps p tree
 ChannelKnown site ps p other tree = Unit {0}
 
 -- an assignment has a receiver
