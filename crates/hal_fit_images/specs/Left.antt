@@ -13,8 +13,6 @@ use Rattle.hal_fit_expr.specs.Uses.{Uses}
 use Rattle.hal_fit_rules.specs.Used.{PhraseKnown}
 use Rattle.hal_fit_names.specs.Known.{is_left_node}
 use Rattle.hal_fit_names.specs.Serving.{ServesUnit}
-use Rattle.hal_fit_names.specs.Spelled.{AreSpelled}
-use Rattle.hal_fit_names.specs.Suited.{HasFitLiterals}
 use Rattle.hal_fit_names.specs.Used.{NamesAreOwn}
 use Rattle.hal_fit_images.specs.Blocks.{ground_of}
 
@@ -25,9 +23,6 @@ LeftIsKnown s image number row b =
     → PhraseKnown image (ground_of image number row) u (unit_site s (places_of_process s row.process) b) q
 
 pub record AreLeft (s : Set) (image : ImageParts) : Type 0 where
-  -- what words spell: no more bits than places, no empty lists, and times within their limit
-  pub literals : HasFitLiterals s.phrases
-  pub spelled : AreSpelled s.phrases
   -- no name means something of a written template
   pub owned : NamesAreOwn s.phrases
   -- references with a path are known

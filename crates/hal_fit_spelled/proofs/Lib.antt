@@ -1,0 +1,6 @@
+mod Adding
+mod SpelledExpressions
+mod SpelledDeclarations
+mod SpelledStatements
+mod SpelledFiles
+mod Fitting
