@@ -4,3 +4,6 @@ mod SpelledDeclarations
 mod SpelledStatements
 mod SpelledFiles
 mod Fitting
+mod Chosen
+mod RightNumbers
+mod RightWords
