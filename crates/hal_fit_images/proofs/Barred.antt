@@ -8,7 +8,7 @@ use Rattle.hal_scope.specs.Rules.{IsAmong, IsSound, ruled}
 use Rattle.hal_locks.specs.Barred.{barred, barred_within}
 use Rattle.hal_locks.specs.Rules.{lock_rows}
 use Rattle.hal_locks.specs.Updates.{nested, updating}
-use Rattle.hal_fit_images.specs.Left.{AsksNothing}
+use Rattle.hal_fit_names.specs.Serving.{AsksNothing}
 
 -- a rule that isn't broken
 unbroken_by : (rule : ℕ) (o : Option Place) → ((place : Place) → ruled rule o ≡ Some (rule, place) → ⊥) → o ≡ None

@@ -44,10 +44,11 @@ use Rattle.hal_fit_rows.proofs.Alone.{AreKept, shapes_kept}
 use Rattle.hal_fit_rows.proofs.Made.{image_is}
 use Rattle.hal_fit_rows.proofs.Referred.{HasShape, have_outputs, refer_all}
 use Rattle.hal_fit_images.specs.Blocks.{AllFit, IsFit, ParametersFit, ProcessFits, UnitFits, ground_of, reached, uses_of}
-use Rattle.hal_fit_images.specs.Left.{AreLeft, ServesUnit}
+use Rattle.hal_fit_names.specs.Serving.{ServesUnit}
 use Rattle.hal_fit_images.proofs.Reaching.{reached_reaches}
 use Rattle.hal_fit_images.proofs.Serving.{AreGiven, serves_process, serves_unit}
 use Rattle.hal_fit_images.proofs.Supporting.{gives}
+use Rattle.hal_fit_images.proofs.Units.{UnitsAreKnown}
 
 module _ (s : Set) (counted : IsCounted s.phrases) (views : List View) (image : ImageParts) (is : image_of s views ≡ Ok image) (few : length s.tables.processes ≤ PROCESS_LIMIT)
     (inputs : (unit : ℕ) → AreStored s unit (inputs_at s unit) InPlaces) (outputs : (unit : ℕ) → AreStored s unit (outputs_at s unit) ByReference) (kept : spread_kept image ≡ true) where
@@ -88,7 +89,7 @@ module _ (s : Set) (counted : IsCounted s.phrases) (views : List View) (image : 
     parameters_fit : ParametersFit s image number row
     parameters_fit = record { wholes = λ inside unit is. wholes_there inside unit (reaches_it unit is); references = λ unit is. references_there unit (reaches_it unit is) }
 
-  module _ (given : AreGiven s views image) (left : AreLeft s image) where
+  module _ (given : AreGiven s views image) (left : UnitsAreKnown s image) where
     module _ (number : ℕ) (row : Block) (low : row.process < length s.tables.processes) (o : Outline) (there : slice_get (outlines_of s) row.process ≡ Some o) where
       its_parameters : (n : ℕ) (other : Block) → other.process ≡ row.process → ParametersFit s image n other
       its_parameters n other same =

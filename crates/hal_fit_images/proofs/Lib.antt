@@ -2,5 +2,6 @@ mod Reaching
 mod Supporting
 mod Righting
 mod Barred
+mod Units
 mod Serving
 mod Knowing

@@ -39,11 +39,12 @@ use Rattle.hal_fit_layout.proofs.Called.{called_reaches, from_called}
 use Rattle.hal_fit_layout.proofs.Ordered.{numbered, stands_before}
 use Rattle.hal_fit_layout.proofs.Outlining.{called_are, numbered_reaches, unit_is}
 use Rattle.hal_fit_images.specs.Blocks.{ParametersFit, ground_of, may_use, reached, uses_of}
-use Rattle.hal_fit_images.specs.Left.{AreLeft, AsksNothing, ServesUnit}
+use Rattle.hal_fit_names.specs.Serving.{AsksNothing, ServesUnit}
 use Rattle.hal_fit_images.proofs.Barred.{asks_nothing}
 use Rattle.hal_fit_images.proofs.Reaching.{called_reached, has_callee, own_reached, reached_on, reached_unit}
 use Rattle.hal_fit_images.proofs.Righting.{ends_there}
 use Rattle.hal_fit_images.proofs.Supporting.{gives, own_block, supports_inside}
+use Rattle.hal_fit_images.proofs.Units.{UnitsAreKnown}
 
 -- a body that is found has the number looked for
 found_number : (k : ℕ) (bs : List Body) (b : Body) → find (λ (x : Body). x.number == k) bs ≡ Some b → b.number ≡ k
@@ -89,7 +90,7 @@ may_call_any : (image : ImageParts) (number : ℕ) (inside : Bool) (o : Option �
 may_call_any image number inside None so = refl
 may_call_any image number inside (Some callee) so = let its = so callee refl in may_call image number callee inside its.0 its.1
 
-module _ (s : Set) (views : List View) (image : ImageParts) (given : AreGiven s views image) (left : AreLeft s image) (process : ℕ) (within : process < length s.tables.processes) (o : Outline)
+module _ (s : Set) (views : List View) (image : ImageParts) (given : AreGiven s views image) (left : UnitsAreKnown s image) (process : ℕ) (within : process < length s.tables.processes) (o : Outline)
     (there : slice_get (outlines_of s) process ≡ Some o)
     (parameters : (number : ℕ) (row : Block) → row.process ≡ process → ParametersFit s image number row) where
   -- its unit is that of its outline

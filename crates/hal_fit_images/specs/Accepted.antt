@@ -11,15 +11,15 @@ use Rattle.hal_calls.specs.Rules.{call_rows}
 use Rattle.hal_limits.specs.Limits.{IsWithin}
 use Rattle.hal_code.specs.declared.image.ImageParts.{ImageParts}
 use Rattle.hal_verify.specs.Limits.{spread_kept}
-use Rattle.hal_fit_rows.specs.Parts.{HaveParts}
+use Rattle.hal_fit_spelled.specs.Words.{AreAllSpelled}
 
--- no rule of names, types, locks, calls or limits is broken, each STRUCTURE has a part, and the image's shapes and views have few enough cells
+-- right words spell the files, no rule of names, types, locks, calls or limits is broken, and the image's shapes and views have few enough cells
 pub record IsAccepted (files : List File) (image : ImageParts) : Type 0 where
+  pub spelled : AreAllSpelled files
   pub named : IsSound rows (phrases_of files)
   pub typed : IsSound type_rows (phrases_of files)
   pub locked : IsSound lock_rows (phrases_of files)
   pub called : IsSound call_rows (phrases_of files)
   pub program : has_program (phrases_of files) ≡ true
   pub within : IsWithin (phrases_of files) (known (phrases_of files))
-  pub parts : HaveParts (phrases_of files)
   pub few : spread_kept image ≡ true

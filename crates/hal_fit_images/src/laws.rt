@@ -14,6 +14,7 @@ ghost use Rattle.hal_fit_images.specs.Blocks.{AllFit};
 ghost use Rattle.hal_fit_images.specs.Left.{AreLeft};
 
 use hal_fit_calls::what_update_blocks_call_is_harmless;
+use hal_fit_names::{units_are_known_where_what_is_left_is, units_have_bodies};
 use hal_fit_rows::{
     a_set_that_breaks_no_rule_of_calls_has_no_cycles, a_set_within_its_limits_is_small,
     parameters_of_units_are_stored, references_of_processes_are_to_shapes,
@@ -21,6 +22,7 @@ use hal_fit_rows::{
     views_of_an_image_are_formed,
 };
 use hal_fit_rules::the_statements_of_each_known_unit_fit;
+use hal_fit_spelled::what_right_words_spell_is_spelled;
 use hal_link::each_block_of_a_linked_image_is_of_a_process_or_a_unit;
 use hal_meaning::a_set_is_a_load;
 use hal_names::phrases_are_counted;
@@ -33,8 +35,8 @@ pub fn an_image_of_blocks_that_fit_is_right()
     each_block_of_a_linked_image_is_of_a_process_or_a_unit();
 }
 
-/// An image of a set of files that breaks no rule of names, types, locks, calls or limits meets V1 to V8 where all holds of it that is left to be known: among this is
-/// what the phrases of its units name, given that what they call may be called (image document, When an image is right).
+/// An image of a set of files that right words spell and that breaks no rule of names, types, locks, calls or limits meets V1 to V8 where all holds of it that is left to
+/// be known: that names mean nothing of written templates, what references with a path name, and that views lie in memory (image document, When an image is right).
 pub fn an_image_is_right_where_what_is_left_holds()
     ensures { (turns : ℕ) (files : List File) (image : ImageParts) → image_of (set_of turns files) (views_of (set_of turns files)) ≡ Ok image → IsAccepted files image → turns ≤ turn_limit
         → AreLeft (set_of turns files) image → IsRight image }
@@ -42,6 +44,9 @@ pub fn an_image_is_right_where_what_is_left_holds()
     phrases_are_counted();
     what_update_blocks_call_is_harmless();
     the_statements_of_each_known_unit_fit();
+    what_right_words_spell_is_spelled();
+    units_have_bodies();
+    units_are_known_where_what_is_left_is();
     a_set_is_a_load();
     a_set_that_breaks_no_rule_of_calls_has_no_cycles();
     a_set_within_its_limits_is_small();

@@ -46,7 +46,7 @@ unfolding gathered_preface
 preface_first d a (Include p name) = begun.one d a (OfInclude name)
 preface_first d a (Templates template) = template_first d a template
 
-prefaces_first : (d : List Phrase) (a : Around) (n : ℕ) (xs : List Preface) → AreFirst d (gathered_prefaces d a n xs)
+pub prefaces_first : (d : List Phrase) (a : Around) (n : ℕ) (xs : List Preface) → AreFirst d (gathered_prefaces d a n xs)
 unfolding gathered_prefaces
 prefaces_first d a n [] = begun.no_step d
 prefaces_first d a n (x ∷ xs) = begun.then_ (preface_first d (behind n a) x) (prefaces_first (gathered_preface d (behind n a) x) a (suc n) xs)

@@ -20,12 +20,13 @@ use Rattle.hal_names.specs.Means.{means}
 use Rattle.hal_scope.specs.declared.builtin.Builtin.{Builtin}
 use Rattle.hal_scope.specs.declared.builtin.Form.{Form}
 use Rattle.hal_scope.specs.declared.builtin.Form.TheVariants as form
+use Rattle.hal_scope.specs.declared.sort.Sort.{Sort}
 use Rattle.hal_scope.specs.declared.usage.Usage.TheVariants as usage
 use Rattle.hal_scope.specs.declared.used.Use.{Use}
 use Rattle.hal_scope.specs.Builtins.{builtin_named, form_of}
 use Rattle.hal_scope.specs.Rules.{Row, IsAmong, IsSound, rows, ruled}
-use Rattle.hal_scope.specs.Sorts.{type_of, sort_of, sort_of_type, sort_of_head, usage_of, use_of, use_of_reference, used, is_known, fits_builtin}
-use Rattle.hal_scope.specs.Uses.{is_nil, unless, sort_at, is_known_builtin, is_known_use, unknown, fits_declared, fits_named, fits_use, misused}
+use Rattle.hal_scope.specs.Sorts.{type_of, sort_of, sort_of_type, sort_of_head, usage_of, use_of, use_of_reference, used, is_known, is_operand, fits_builtin}
+use Rattle.hal_scope.specs.Uses.{is_in_event, is_nil, unless, sort_at, is_eventful, is_known_builtin, is_known_use, unknown, fits_declared, fits_named, fits_use, misused}
 use Rattle.hal_kinds.specs.declared.class.Class.TheVariants as class
 use Rattle.hal_kinds.specs.declared.data.Data.{Data}
 use Rattle.hal_kinds.specs.Attributes as attributes
@@ -45,7 +46,7 @@ use Rattle.hal_meaning.specs.Variables.{name_meant}
 use Rattle.hal_agreement.specs.Sites.{Site, here_at}
 use Rattle.hal_fit_expr.specs.Uses.{Uses}
 use Rattle.hal_fit_rules.specs.Agreeing.{NameAgrees, FormAgrees}
-use Rattle.hal_fit_rules.specs.Happening.{AsksAll, IsEvent}
+use Rattle.hal_fit_rules.specs.Happening.{IsEvent}
 use Rattle.hal_fit_rules.specs.Owned.{IsOwn, IsStructureData}
 use Rattle.hal_fit_rules.specs.Passing.{IsProcedure}
 use Rattle.hal_fit_rules.specs.Passed.{ProcedureAgrees}
@@ -59,8 +60,10 @@ use Rattle.hal_fit_rules.proofs.Eventful.{event_known}
 use Rattle.hal_fit_rules.proofs.Happening.{event_agrees, process_agrees}
 use Rattle.hal_fit_rules.proofs.Structuring.{structure_agrees, structure_cells}
 use Rattle.hal_fit_rules.proofs.Unbroken.{among_first, unbroken, ruled_none, no_rule, of_uses}
-use Rattle.hal_fit_names.specs.Named.{AreLeft, AreProcedures, FunctionParameters}
+use Rattle.hal_fit_names.specs.Named.{AreFunctions, AreLeft, AreProcedures, FunctionParameters}
+use Rattle.hal_fit_names.specs.Serving.{MayAsk}
 use Rattle.hal_fit_names.specs.Suited.{HasFitLiterals, AreDeclared, is_templated}
+use Rattle.hal_fit_names.proofs.Asking.{asked_all, asked_runtime, eventful_sort}
 use Rattle.hal_fit_names.proofs.Declaring.{plain_data}
 use Rattle.hal_fit_names.proofs.Owning.{own_number}
 use Rattle.hal_fit_names.proofs.Placing.{NodePlaced, at_among}
@@ -194,8 +197,39 @@ in_unit : (b : Bool) → not b ≡ false → b ≡ true
 in_unit true is = refl
 in_unit false is = absurd (cc)
 
+-- a name that is known and fits behind UNTIL of SCHEDULE, where no event stands, is known and fits as a value
+known_same : (o : Option Builtin) → ◌≡◌ {A = Bool} (elim o [ None ↦ false | Some b ↦ is_known usage.EventOrTime (form_of b) ]) (elim o [ None ↦ false | Some b ↦ is_known usage.Value (form_of b) ])
+known_same None = refl
+known_same (Some b) = by (form_of b) where
+  by : (f : Form) → is_known usage.EventOrTime f ≡ is_known usage.Value f
+  by form.Alone = refl
+  by form.Listed = refl
+  by form.Arrayed = refl
+
+fits_same : (o : Option Builtin) → ◌≡◌ {A = Bool} (elim o [ None ↦ true | Some b ↦ not (is_known usage.EventOrTime (form_of b)) || fits_builtin usage.EventOrTime (form_of b) ])
+    (elim o [ None ↦ true | Some b ↦ not (is_known usage.Value (form_of b)) || fits_builtin usage.Value (form_of b) ])
+fits_same None = refl
+fits_same (Some b) = by (form_of b) where
+  by : (f : Form) → (not (is_known usage.EventOrTime f) || fits_builtin usage.EventOrTime f) ≡ (not (is_known usage.Value f) || fits_builtin usage.Value f)
+  by form.Alone = refl
+  by form.Listed = refl
+  by form.Arrayed = refl
+
+or_none : (b : Bool) → (b || false) ≡ b
+or_none true = refl
+or_none false = refl
+
+declared_same : (ps : List Phrase) (q : Phrase) (o : Option Sort) → is_in_event ps q ≡ false → fits_declared ps q usage.EventOrTime o ≡ fits_declared ps q usage.Value o
+declared_same ps q None calm = refl
+declared_same ps q (Some s) calm = ap (λ b. is_operand s || b) calm ∙ or_none (is_operand s)
+
+limit_fits : (ps : List Phrase) (q : Phrase) (name : List ℕ) (o : Option ℕ) → is_in_event ps q ≡ false
+    → ◌≡◌ {A = Bool} (elim o [ None ↦ fits_named name usage.EventOrTime | Some k ↦ fits_declared ps q usage.EventOrTime (sort_at ps k) ]) (elim o [ None ↦ fits_named name usage.Value | Some k ↦ fits_declared ps q usage.Value (sort_at ps k) ])
+limit_fits ps q name None calm = fits_same (builtin_named name)
+limit_fits ps q name (Some k) calm = declared_same ps q (sort_at ps k) calm
+
 module _ (u : Uses) (site : Site) (named : IsSound rows site.set.phrases) (sound : IsSound type_rows site.set.phrases) (counted : IsCounted site.set.phrases) (declared : AreDeclared site.set.phrases) (literals : HasFitLiterals site.set.phrases)
-    (has : HasConstants site) (asks : AsksAll u site) (placed : (p : Phrase) → IsAmong p site.set.phrases → NodePlaced site.set.phrases p p.node) where
+    (has : HasConstants site) (placed : (p : Phrase) → IsAmong p site.set.phrases → NodePlaced site.set.phrases p p.node) where
   -- each item has a type
   pub item_typed : (p : Phrase) (common : List Attribute) (item : Declared) → IsAmong p site.set.phrases → p.node ≡ OfItem common item → is_some (type_of common item) ≡ true
   unfolding attribute_rows untyped
@@ -213,7 +247,7 @@ module _ (u : Uses) (site : Site) (named : IsSound rows site.set.phrases) (sound
       ∙ unless_true (not (is_event_type (type_of common item) && is_no_variable site.set.phrases p common item)) item.name.place none)
 
   -- a constant, or other data that are no event and no structure
-  stored_agrees : (name : List ℕ) (left : AreLeft u site name) (own : IsOwn site name) (common : List Attribute) (item : Declared) (t : Kind) (valued : Bool) → own.phrase.node ≡ OfItem common item → IsAmong own.phrase site.set.phrases → type_of common item ≡ Some t
+  stored_agrees : (name : List ℕ) (left : AreLeft site name) (own : IsOwn site name) (common : List Attribute) (item : Declared) (t : Kind) (valued : Bool) → own.phrase.node ≡ OfItem common item → IsAmong own.phrase site.set.phrases → type_of common item ≡ Some t
       → is_event_type (Some t) ≡ false → is_structure_type (Some t) ≡ false → is_value_item common item ≡ valued → NameAgrees u site site.set.phrases site.block name []
   stored_agrees name left own common item t true is within typed eventless plain valued =
       let worth = left.valued own.number own.phrase common item own.meant own.there is valued in
@@ -236,65 +270,65 @@ module _ (u : Uses) (site : Site) (named : IsSound rows site.set.phrases) (sound
     whole = structure_class t structured;
   }
 
-  structured_agrees : (name : List ℕ) (left : AreLeft u site name) (own : IsOwn site name) (common : List Attribute) (item : Declared) (t : Kind) (structured : Bool) → own.phrase.node ≡ OfItem common item → IsAmong own.phrase site.set.phrases → type_of common item ≡ Some t
+  structured_agrees : (name : List ℕ) (left : AreLeft site name) (own : IsOwn site name) (common : List Attribute) (item : Declared) (t : Kind) (structured : Bool) → own.phrase.node ≡ OfItem common item → IsAmong own.phrase site.set.phrases → type_of common item ≡ Some t
       → is_event_type (Some t) ≡ false → is_structure_type (Some t) ≡ structured → NameAgrees u site site.set.phrases site.block name []
   structured_agrees name left own common item t true is within typed eventless structured = structure_agrees u site name [] own (structure_data own.phrase common item t is typed structured)
   structured_agrees name left own common item t false is within typed eventless structured = stored_agrees name left own common item t (is_value_item common item) is within typed eventless structured refl
 
-  typed_agrees : (name : List ℕ) (left : AreLeft u site name) (own : IsOwn site name) (common : List Attribute) (item : Declared) (t : Kind) (eventful : Bool) → own.phrase.node ≡ OfItem common item → IsAmong own.phrase site.set.phrases → type_of common item ≡ Some t
+  typed_agrees : (name : List ℕ) (left : AreLeft site name) (may : MayAsk u site name) (own : IsOwn site name) (common : List Attribute) (item : Declared) (t : Kind) (eventful : Bool) → own.phrase.node ≡ OfItem common item → IsAmong own.phrase site.set.phrases → type_of common item ≡ Some t
       → is_in_unit site.set.phrases own.phrase.around.home ≡ true → is_event_type (Some t) ≡ eventful → NameAgrees u site site.set.phrases site.block name []
-  typed_agrees name left own common item t true is within typed home eventful =
+  typed_agrees name left may own common item t true is within typed home eventful =
       let eventful_type : is_event_type (type_of common item) ≡ true = ap is_event_type typed ∙ eventful in
-      event_agrees u site asks counted name own (record { common = common; item = item; declares = is; eventful = eventful_type; sized = event_single own.phrase common item within is eventful_type; within = home })
-  typed_agrees name left own common item t false is within typed home eventful = structured_agrees name left own common item t (is_structure_type (Some t)) is within typed eventful refl
+      event_agrees u site (asked_all u site name own may (eventful_sort own.phrase common item is eventful_type)) counted name own (record { common = common; item = item; declares = is; eventful = eventful_type; sized = event_single own.phrase common item within is eventful_type; within = home })
+  typed_agrees name left may own common item t false is within typed home eventful = structured_agrees name left own common item t (is_structure_type (Some t)) is within typed eventful refl
 
-  item_agrees : (name : List ℕ) (left : AreLeft u site name) (own : IsOwn site name) (common : List Attribute) (item : Declared) (o : Option Kind) → own.phrase.node ≡ OfItem common item → IsAmong own.phrase site.set.phrases → type_of common item ≡ o
+  item_agrees : (name : List ℕ) (left : AreLeft site name) (may : MayAsk u site name) (own : IsOwn site name) (common : List Attribute) (item : Declared) (o : Option Kind) → own.phrase.node ≡ OfItem common item → IsAmong own.phrase site.set.phrases → type_of common item ≡ o
       → is_in_unit site.set.phrases own.phrase.around.home ≡ true → NameAgrees u site site.set.phrases site.block name []
-  item_agrees name left own common item None is within typed home = let other : false ≡ true = ap (λ (o : Option Kind). is_some o) (sym typed) ∙ item_typed own.phrase common item within is in absurd (cc)
-  item_agrees name left own common item (Some t) is within typed home = typed_agrees name left own common item t (is_event_type (Some t)) is within typed home refl
+  item_agrees name left may own common item None is within typed home = let other : false ≡ true = ap (λ (o : Option Kind). is_some o) (sym typed) ∙ item_typed own.phrase common item within is in absurd (cc)
+  item_agrees name left may own common item (Some t) is within typed home = typed_agrees name left may own common item t (is_event_type (Some t)) is within typed home refl
 
   -- what a phrase declares, by what it is
-  node_agrees : (name : List ℕ) (left : AreLeft u site name) (own : IsOwn site name) (owner : ℕ) (q : Phrase) (n : Node) → own.phrase.node ≡ n → IsAmong own.phrase site.set.phrases → declared_at own.phrase.number own.phrase.around n ≡ Some (key space.Declared owner name)
+  node_agrees : (name : List ℕ) (left : AreLeft site name) (may : MayAsk u site name) (functions : AreFunctions u site name) (own : IsOwn site name) (owner : ℕ) (q : Phrase) (n : Node) → own.phrase.node ≡ n → IsAmong own.phrase site.set.phrases → declared_at own.phrase.number own.phrase.around n ≡ Some (key space.Declared owner name)
       → is_templated site.set.phrases own.phrase n ≡ false → fits_declared site.set.phrases q usage.Value (sort_of n) ≡ true → NameAgrees u site site.set.phrases site.block name []
-  unfolding sort_of sort_of_head declared_at
-  node_agrees name left own owner q (OfTemplate unit head declarations) is within declares plain fits = absurd (cc)
-  node_agrees name left own owner q (OfUnit unit (Program place) declarations) is within declares plain fits =
-      process_agrees u site asks counted name own (record { name = unit; head = Program place; declarations = declarations; declares = is; process = refl })
-  node_agrees name left own owner q (OfUnit unit (Task place) declarations) is within declares plain fits =
-      process_agrees u site asks counted name own (record { name = unit; head = Task place; declarations = declarations; declares = is; process = refl })
-  node_agrees name left own owner q (OfUnit unit (Compool place) declarations) is within declares plain fits = absurd (cc)
-  node_agrees name left own owner q (OfUnit unit (Procedure place inputs outputs mode) declarations) is within declares plain fits = absurd (cc)
-  node_agrees name left own owner q (OfUnit unit (Function place inputs returns mode) declarations) is within declares plain fits =
-      function_agrees u site name own (left.called own.number own.phrase unit place inputs returns mode declarations own.meant own.there is)
-  node_agrees name left own owner q (OfItem common item) is within declares plain fits = item_agrees name left own common item (type_of common item) is within refl (in_unit (is_in_unit site.set.phrases own.phrase.around.home) plain)
-  node_agrees name left own owner q (OfTemporaryGroup labels variable) is within declares plain fits = temporary_agrees u site name own (record { labels = labels; variable = variable; declares = is })
-  node_agrees name left own owner q (OfStructure structure parts) is within declares plain fits = absurd (cc)
-  node_agrees name left own owner q (OfLabel label) is within declares plain fits = absurd (cc)
-  node_agrees name left own owner q (OfFile prefaces unit) is within declares plain fits = let other : Some space.Unit ≡ Some space.Declared = ap space_of declares in absurd (cc)
-  node_agrees name left own owner q (OfParameter parameter output) is within declares plain fits = let other : Some space.Parameter ≡ Some space.Declared = ap space_of declares in absurd (cc)
-  node_agrees name left own owner q (OfPart bottom part) is within declares plain fits = let other : Some space.Part ≡ Some space.Declared = ap space_of declares in absurd (cc)
-  node_agrees name left own owner q other is within declares plain fits = absurd (cc)
+  unfolding sort_of sort_of_head is_eventful declared_at
+  node_agrees name left may functions own owner q (OfTemplate unit head declarations) is within declares plain fits = absurd (cc)
+  node_agrees name left may functions own owner q (OfUnit unit (Program place) declarations) is within declares plain fits =
+      process_agrees u site (asked_all u site name own may (ap (λ n. is_eventful (sort_of n)) is)) counted name own (record { name = unit; head = Program place; declarations = declarations; declares = is; process = refl })
+  node_agrees name left may functions own owner q (OfUnit unit (Task place) declarations) is within declares plain fits =
+      process_agrees u site (asked_all u site name own may (ap (λ n. is_eventful (sort_of n)) is)) counted name own (record { name = unit; head = Task place; declarations = declarations; declares = is; process = refl })
+  node_agrees name left may functions own owner q (OfUnit unit (Compool place) declarations) is within declares plain fits = absurd (cc)
+  node_agrees name left may functions own owner q (OfUnit unit (Procedure place inputs outputs mode) declarations) is within declares plain fits = absurd (cc)
+  node_agrees name left may functions own owner q (OfUnit unit (Function place inputs returns mode) declarations) is within declares plain fits =
+      function_agrees u site name own (functions own.number own.phrase unit place inputs returns mode declarations own.meant own.there is)
+  node_agrees name left may functions own owner q (OfItem common item) is within declares plain fits = item_agrees name left may own common item (type_of common item) is within refl (in_unit (is_in_unit site.set.phrases own.phrase.around.home) plain)
+  node_agrees name left may functions own owner q (OfTemporaryGroup labels variable) is within declares plain fits = temporary_agrees u site name own (record { labels = labels; variable = variable; declares = is })
+  node_agrees name left may functions own owner q (OfStructure structure parts) is within declares plain fits = absurd (cc)
+  node_agrees name left may functions own owner q (OfLabel label) is within declares plain fits = absurd (cc)
+  node_agrees name left may functions own owner q (OfFile prefaces unit) is within declares plain fits = let other : Some space.Unit ≡ Some space.Declared = ap space_of declares in absurd (cc)
+  node_agrees name left may functions own owner q (OfParameter parameter output) is within declares plain fits = let other : Some space.Parameter ≡ Some space.Declared = ap space_of declares in absurd (cc)
+  node_agrees name left may functions own owner q (OfPart bottom part) is within declares plain fits = let other : Some space.Part ≡ Some space.Declared = ap space_of declares in absurd (cc)
+  node_agrees name left may functions own owner q other is within declares plain fits = absurd (cc)
 
-  builtin_by : (name : List ℕ) (o : Option Builtin) → means site.set.phrases site.block name ≡ None → builtin_named name ≡ o → elim o [ None ↦ false | Some b ↦ is_known usage.Value (form_of b) ] ≡ true
+  builtin_by : (name : List ℕ) (may : MayAsk u site name) (o : Option Builtin) → means site.set.phrases site.block name ≡ None → builtin_named name ≡ o → elim o [ None ↦ false | Some b ↦ is_known usage.Value (form_of b) ] ≡ true
       → elim o [ None ↦ true | Some b ↦ not (is_known usage.Value (form_of b)) || fits_builtin usage.Value (form_of b) ] ≡ true → NameAgrees u site site.set.phrases site.block name []
-  builtin_by name None undeclared is known_ fits = absurd (cc)
-  builtin_by name (Some b) undeclared is known_ fits = builtin_agrees u site name (record { undeclared = undeclared; function = b; named = is; alone = alone_form (form_of b) known_ fits; asked = λ asking. asks.asks })
+  builtin_by name may None undeclared is known_ fits = absurd (cc)
+  builtin_by name may (Some b) undeclared is known_ fits = builtin_agrees u site name (record { undeclared = undeclared; function = b; named = is; alone = alone_form (form_of b) known_ fits; asked = λ asking. asked_runtime u site name b may undeclared is asking })
 
-  meant_by_name : (name : List ℕ) (left : AreLeft u site name) (q : Phrase) (o : Option ℕ) → means site.set.phrases site.block name ≡ o → (is_some o || is_known_builtin name usage.Value) ≡ true
+  meant_by_name : (name : List ℕ) (left : AreLeft site name) (may : MayAsk u site name) (functions : AreFunctions u site name) (q : Phrase) (o : Option ℕ) → means site.set.phrases site.block name ≡ o → (is_some o || is_known_builtin name usage.Value) ≡ true
       → elim o [ None ↦ fits_named name usage.Value | Some k ↦ fits_declared site.set.phrases q usage.Value (sort_at site.set.phrases k) ] ≡ true → NameAgrees u site site.set.phrases site.block name []
-  meant_by_name name left q None meant known_ fits = builtin_by name (builtin_named name) meant refl known_ fits
-  meant_by_name name left q (Some k) meant known_ fits =
+  meant_by_name name left may functions q None meant known_ fits = builtin_by name may (builtin_named name) meant refl known_ fits
+  meant_by_name name left may functions q (Some k) meant known_ fits =
       let is_declared = declared site.block name k meant in
       let first = is_declared.1 in
       let p : Phrase = first.declaring in
       let plain = left.untemplated k p meant first.there in
-      node_agrees name left (record { number = k; meant = meant; phrase = p; there = first.there; own = own_number site.set.phrases k p first.there plain }) is_declared.0 q p.node refl (at_among site.set.phrases k p first.there) first.declares plain
+      node_agrees name left may functions (record { number = k; meant = meant; phrase = p; there = first.there; own = own_number site.set.phrases k p first.there plain }) is_declared.0 q p.node refl (at_among site.set.phrases k p first.there) first.declares plain
       (ap (λ o. fits_declared site.set.phrases q usage.Value (option_and_then (λ (x : Phrase). sort_of x.node) o)) (sym first.there) ∙ fits)
 
   -- a name that is used as a value
-  used_agrees : (q : Phrase) (place : Place) (name : List ℕ) → AreLeft u site name → IsAmong q site.set.phrases → used q.node ≡ Some (use_of place name usage.Value) → q.around.block ≡ site.block → NameAgrees u site site.set.phrases site.block name []
+  used_agrees : (q : Phrase) (place : Place) (name : List ℕ) → AreLeft site name → MayAsk u site name → AreFunctions u site name → IsAmong q site.set.phrases → used q.node ≡ Some (use_of place name usage.Value) → q.around.block ≡ site.block → NameAgrees u site site.set.phrases site.block name []
   unfolding unknown misused
-  used_agrees q place name left within is here =
+  used_agrees q place name left may functions within is here =
       let ps : List Phrase = site.set.phrases in
       let block : ℕ = q.around.block in
       let no_unknown = ruled_none 601 (unknown ps q) (unbroken rows ps named q within (λ qs o. ruled 601 (unknown qs o)) (inl refl)) in
@@ -303,19 +337,38 @@ module _ (u : Uses) (site : Site) (named : IsSound rows site.set.phrases) (sound
       (ap (option_and_then (λ (v : Use). unless (is_known_use ps block v) v.place)) (sym is) ∙ no_unknown) in
       let fits : elim (means ps block name) [ None ↦ fits_named name usage.Value | Some k ↦ fits_declared ps q usage.Value (sort_at ps k) ] ≡ true = unless_true (elim (means ps block name) [ None ↦ fits_named name usage.Value | Some k ↦ fits_declared ps q usage.Value (sort_at ps k) ]) place
       (ap (option_and_then (λ (v : Use). unless (fits_use ps q v) v.place)) (sym is) ∙ no_misuse) in
-      meant_by_name name left q (means ps site.block name) refl (ap (λ b. is_some (means ps b name) || is_known_builtin name usage.Value) (sym here) ∙ known_)
+      meant_by_name name left may functions q (means ps site.block name) refl (ap (λ b. is_some (means ps b name) || is_known_builtin name usage.Value) (sym here) ∙ known_)
       (ap (λ b. elim (means ps b name) [ None ↦ fits_named name usage.Value | Some k ↦ fits_declared ps q usage.Value (sort_at ps k) ]) (sym here) ∙ fits)
 
   -- the name of a reference that is a value
-  pub value_agrees : (q : Phrase) (role : Role) (place : Place) (name : List ℕ) (x : Subscript) → AreLeft u site name → IsAmong q site.set.phrases → q.node ≡ OfReference role (Refers place name [] x) → usage_of role ≡ usage.Value → q.around.block ≡ site.block
+  pub value_agrees : (q : Phrase) (role : Role) (place : Place) (name : List ℕ) (x : Subscript) → AreLeft site name → MayAsk u site name → AreFunctions u site name → IsAmong q site.set.phrases → q.node ≡ OfReference role (Refers place name [] x) → usage_of role ≡ usage.Value → q.around.block ≡ site.block
       → NameAgrees u site site.set.phrases site.block name []
   unfolding used use_of_reference
-  value_agrees q role place name x left within is wanted here = used_agrees q place name left within (ap used is ∙ ap (λ w. Some (use_of place name w)) wanted) here
+  value_agrees q role place name x left may functions within is wanted here = used_agrees q place name left may functions within (ap used is ∙ ap (λ w. Some (use_of place name w)) wanted) here
 
   -- and the one behind `$`
-  pub subscript_agrees : (q : Phrase) (name : Naming) → AreLeft u site name.name → IsAmong q site.set.phrases → q.node ≡ OfSubscriptName name → q.around.block ≡ site.block → NameAgrees u site site.set.phrases site.block name.name []
+  pub subscript_agrees : (q : Phrase) (name : Naming) → AreLeft site name.name → MayAsk u site name.name → AreFunctions u site name.name → IsAmong q site.set.phrases → q.node ≡ OfSubscriptName name → q.around.block ≡ site.block → NameAgrees u site site.set.phrases site.block name.name []
   unfolding used
-  subscript_agrees q name left within is here = used_agrees q name.place name.name left within (ap used is) here
+  subscript_agrees q name left may functions within is here = used_agrees q name.place name.name left may functions within (ap used is) here
+
+  -- and the one of an operand behind UNTIL of SCHEDULE, where no event stands
+  pub limit_agrees : (q : Phrase) (place : Place) (name : List ℕ) (x : Subscript) → AreLeft site name → MayAsk u site name → AreFunctions u site name → IsAmong q site.set.phrases
+      → q.node ≡ OfReference role.EventOrTime (Refers place name [] x) → q.around.block ≡ site.block → is_in_event site.set.phrases q ≡ false → NameAgrees u site site.set.phrases site.block name []
+  unfolding unknown misused used use_of_reference usage_of
+  limit_agrees q place name x left may functions within is here calm =
+      let ps : List Phrase = site.set.phrases in
+      let block : ℕ = q.around.block in
+      let no_unknown = ruled_none 601 (unknown ps q) (unbroken rows ps named q within (λ qs o. ruled 601 (unknown qs o)) (inl refl)) in
+      let no_misuse = ruled_none 603 (misused ps q) (unbroken rows ps named q within (λ qs o. ruled 603 (misused qs o)) (inr (inr (inl refl)))) in
+      let known_ : (is_some (means ps block name) || is_known_builtin name usage.EventOrTime) ≡ true = unless_true (is_some (means ps block name) || is_known_builtin name usage.EventOrTime) place
+      (ap (λ n. option_and_then (λ (v : Use). unless (is_known_use ps block v) v.place) (used n)) (sym is) ∙ no_unknown) in
+      let fits : elim (means ps block name) [ None ↦ fits_named name usage.EventOrTime | Some k ↦ fits_declared ps q usage.EventOrTime (sort_at ps k) ] ≡ true =
+      unless_true (elim (means ps block name) [ None ↦ fits_named name usage.EventOrTime | Some k ↦ fits_declared ps q usage.EventOrTime (sort_at ps k) ]) place
+      (ap (λ n. option_and_then (λ (v : Use). unless (fits_use ps q v) v.place) (used n)) (sym is) ∙ no_misuse) in
+      meant_by_name name left may functions q (means ps site.block name) refl
+      (ap (λ b. is_some (means ps site.block name) || b) (sym (known_same (builtin_named name))) ∙ (ap (λ b. is_some (means ps b name) || is_known_builtin name usage.EventOrTime) (sym here) ∙ known_))
+      (sym (limit_fits ps q name (means ps site.block name) calm)
+      ∙ (ap (λ b. elim (means ps b name) [ None ↦ fits_named name usage.EventOrTime | Some k ↦ fits_declared ps q usage.EventOrTime (sort_at ps k) ]) (sym here) ∙ fits))
 
   -- data that may take a value
   cells_by : (name : List ℕ) (own : IsOwn site name) (common : List Attribute) (item : Declared) (t : Kind) (structured : Bool) → own.phrase.node ≡ OfItem common item → IsAmong own.phrase site.set.phrases → type_of common item ≡ Some t
@@ -346,7 +399,7 @@ module _ (u : Uses) (site : Site) (named : IsSound rows site.set.phrases) (sound
   no_builtin None known_ fits = absurd (cc)
   no_builtin (Some b) known_ fits = absurd (not_received (form_of b) known_ fits)
 
-  received_by_name : (name : List ℕ) (left : AreLeft u site name) (q : Phrase) (place : Place) (o : Option ℕ) → means site.set.phrases site.block name ≡ o → (is_some o || is_known_builtin name usage.Receiver) ≡ true
+  received_by_name : (name : List ℕ) (left : AreLeft site name) (q : Phrase) (place : Place) (o : Option ℕ) → means site.set.phrases site.block name ≡ o → (is_some o || is_known_builtin name usage.Receiver) ≡ true
       → elim o [ None ↦ fits_named name usage.Receiver | Some k ↦ fits_declared site.set.phrases q usage.Receiver (sort_at site.set.phrases k) ] ≡ true
       → option_and_then (λ k. option_and_then (received_by site.set.phrases place) (slice_get site.set.phrases k)) o ≡ None → CellsAgree site.set.phrases [] (means site.set.phrases site.block name) (name_meant (here_at site) name [])
   received_by_name name left q place None meant known_ fits none = no_builtin (builtin_named name) known_ fits
@@ -359,7 +412,7 @@ module _ (u : Uses) (site : Site) (named : IsSound rows site.set.phrases) (sound
       (may_be_received (may_receive site.set.phrases p p.node) (709, place) (ap (option_and_then (received_by site.set.phrases place)) (sym first.there) ∙ none))
 
   -- the name of a receiver
-  pub receiver_agrees : (q : Phrase) (place : Place) (name : List ℕ) (x : Subscript) → AreLeft u site name → IsAmong q site.set.phrases → q.node ≡ OfReference role.Receiver (Refers place name [] x) → q.around.block ≡ site.block
+  pub receiver_agrees : (q : Phrase) (place : Place) (name : List ℕ) (x : Subscript) → AreLeft site name → IsAmong q site.set.phrases → q.node ≡ OfReference role.Receiver (Refers place name [] x) → q.around.block ≡ site.block
       → CellsAgree site.set.phrases [] (means site.set.phrases site.block name) (name_meant (here_at site) name [])
   unfolding unknown misused used use_of_reference usage_of use_rows misreceived reference_receives
   receiver_agrees q place name x left within is here =
@@ -386,7 +439,7 @@ module _ (u : Uses) (site : Site) (named : IsSound rows site.set.phrases) (sound
   node_puts name own x (OfTemporaryGroup labels variable) is within none = temporary_cells_agree u site name own (record { labels = labels; variable = variable; declares = is })
   node_puts name own x other is within none = absurd (cc)
 
-  put_by_name : (name : List ℕ) (left : AreLeft u site name) (x : Subscript) (place : Place) (o : Option ℕ) → means site.set.phrases site.block name ≡ o → (is_some o || is_known_builtin name usage.Output) ≡ true
+  put_by_name : (name : List ℕ) (left : AreLeft site name) (x : Subscript) (place : Place) (o : Option ℕ) → means site.set.phrases site.block name ≡ o → (is_some o || is_known_builtin name usage.Output) ≡ true
       → ◌≡◌ {A = Option (ℕ × Place)} (elim o [ None ↦ if is_some (builtin_named name) then Some (722, place) else None | Some k ↦ elim (slice_get site.set.phrases k) [ None ↦ None | Some r ↦ at place (put_fault site.set.phrases r [] x r.node) ] ]) None
       → CellsAgree site.set.phrases [] (means site.set.phrases site.block name) (name_meant (here_at site) name [])
   put_by_name name left x place None meant known_ none = no_output (builtin_named name) place known_ none
@@ -399,7 +452,7 @@ module _ (u : Uses) (site : Site) (named : IsSound rows site.set.phrases) (sound
       (ap (λ (o : Option Phrase). elim o [ None ↦ None | Some r ↦ at place (put_fault site.set.phrases r [] x r.node) ]) (sym first.there) ∙ none))
 
   -- the name of an ASSIGN argument
-  pub output_agrees : (q : Phrase) (place : Place) (name : List ℕ) (x : Subscript) → AreLeft u site name → IsAmong q site.set.phrases → q.node ≡ OfReference role.Output (Refers place name [] x) → q.around.block ≡ site.block
+  pub output_agrees : (q : Phrase) (place : Place) (name : List ℕ) (x : Subscript) → AreLeft site name → IsAmong q site.set.phrases → q.node ≡ OfReference role.Output (Refers place name [] x) → q.around.block ≡ site.block
       → CellsAgree site.set.phrases [] (means site.set.phrases site.block name) (name_meant (here_at site) name [])
   unfolding unknown used use_of_reference usage_of use_rows misreceived reference_receives put
   output_agrees q place name x left within is here =
@@ -433,7 +486,7 @@ module _ (u : Uses) (site : Site) (named : IsSound rows site.set.phrases) (sound
   node_event name own owner q (OfPart bottom part) is within declares plain fits = let other : Some space.Part ≡ Some space.Declared = ap space_of declares in absurd (cc)
   node_event name own owner q other is within declares plain fits = absurd (cc)
 
-  event_by_name : (image : ImageParts) (e : Eventful) (q : Phrase) (o : Option ℕ) → AreLeft u site e.name.name → HasEvents image site → means site.set.phrases site.block e.name.name ≡ o → (is_some o || is_known_builtin e.name.name usage.Event) ≡ true
+  event_by_name : (image : ImageParts) (e : Eventful) (q : Phrase) (o : Option ℕ) → AreLeft site e.name.name → HasEvents image site → means site.set.phrases site.block e.name.name ≡ o → (is_some o || is_known_builtin e.name.name usage.Event) ≡ true
       → elim o [ None ↦ fits_named e.name.name usage.Event | Some k ↦ fits_declared site.set.phrases q usage.Event (sort_at site.set.phrases k) ] ≡ true → EventAgrees image site site.set.phrases site.block e
   event_by_name image e q None left events meant known_ fits = no_event (builtin_named e.name.name) known_ fits
   event_by_name image e q (Some k) left events meant known_ fits =
@@ -446,7 +499,7 @@ module _ (u : Uses) (site : Site) (named : IsSound rows site.set.phrases) (sound
       (node_event e.name.name own is_declared.0 q p.node refl (at_among site.set.phrases k p first.there) first.declares plain
       (ap (λ o. fits_declared site.set.phrases q usage.Event (option_and_then (λ (x : Phrase). sort_of x.node) o)) (sym first.there) ∙ fits))
 
-  pub changed_agrees : (image : ImageParts) (q : Phrase) (e : Eventful) → AreLeft u site e.name.name → HasEvents image site → IsAmong q site.set.phrases → q.node ≡ OfEvent e → q.around.block ≡ site.block → EventAgrees image site site.set.phrases site.block e
+  pub changed_agrees : (image : ImageParts) (q : Phrase) (e : Eventful) → AreLeft site e.name.name → HasEvents image site → IsAmong q site.set.phrases → q.node ≡ OfEvent e → q.around.block ≡ site.block → EventAgrees image site site.set.phrases site.block e
   unfolding unknown misused used
   changed_agrees image q e left events within is here =
       let ps : List Phrase = site.set.phrases in
@@ -479,7 +532,7 @@ module _ (u : Uses) (site : Site) (named : IsSound rows site.set.phrases) (sound
   node_varies name own (OfTemporaryGroup labels variable) is within none = temporary_cells_agree u site name own (record { labels = labels; variable = variable; declares = is })
   node_varies name own other is within none = absurd (cc)
 
-  varied_by_name : (name : List ℕ) (left : AreLeft u site name) (place : Place) (o : Option ℕ) → means site.set.phrases site.block name ≡ o → (is_some o || is_known_builtin name usage.Variable) ≡ true
+  varied_by_name : (name : List ℕ) (left : AreLeft site name) (place : Place) (o : Option ℕ) → means site.set.phrases site.block name ≡ o → (is_some o || is_known_builtin name usage.Variable) ≡ true
       → ◌≡◌ {A = Option (ℕ × Place)} (elim o [ None ↦ if is_some (builtin_named name) then Some (712, place) else None | Some k ↦ elim (slice_get site.set.phrases k) [ None ↦ None | Some r ↦ at place (variable_fault site.set.phrases r r.node) ] ]) None
       → CellsAgree site.set.phrases [] (means site.set.phrases site.block name) (name_meant (here_at site) name [])
   varied_by_name name left place None meant known_ none = no_variable (builtin_named name) place known_ none
@@ -490,7 +543,7 @@ module _ (u : Uses) (site : Site) (named : IsSound rows site.set.phrases) (sound
       node_varies name (record { number = k; meant = meant; phrase = p; there = first.there; own = own_number site.set.phrases k p first.there plain }) p.node refl (at_among site.set.phrases k p first.there)
       (no_rule place (variable_fault site.set.phrases p p.node) (ap (λ (o : Option Phrase). elim o [ None ↦ None | Some r ↦ at place (variable_fault site.set.phrases r r.node) ]) (sym first.there) ∙ none))
 
-  pub variable_agrees : (q : Phrase) (name : Naming) → AreLeft u site name.name → IsAmong q site.set.phrases → q.node ≡ OfVariable name → q.around.block ≡ site.block
+  pub variable_agrees : (q : Phrase) (name : Naming) → AreLeft site name.name → IsAmong q site.set.phrases → q.node ≡ OfVariable name → q.around.block ≡ site.block
       → CellsAgree site.set.phrases [] (means site.set.phrases site.block name.name) (name_meant (here_at site) name.name [])
   unfolding unknown used use_rows misreceived
   variable_agrees q name left within is here =
@@ -504,7 +557,7 @@ module _ (u : Uses) (site : Site) (named : IsSound rows site.set.phrases) (sound
       (ap (λ b. varied ps b name.place name.name) (sym here) ∙ (ap (misreceived ps q) (sym is) ∙ no_fault))
 
   -- the call form of data, as a factor
-  stored_forms : (name : List ℕ) (left : AreLeft u site name) (own : IsOwn site name) (common : List Attribute) (item : Declared) (t : Kind) (valued : Bool) → own.phrase.node ≡ OfItem common item → IsAmong own.phrase site.set.phrases → type_of common item ≡ Some t
+  stored_forms : (name : List ℕ) (left : AreLeft site name) (own : IsOwn site name) (common : List Attribute) (item : Declared) (t : Kind) (valued : Bool) → own.phrase.node ≡ OfItem common item → IsAmong own.phrase site.set.phrases → type_of common item ≡ Some t
       → is_event_type (Some t) ≡ false → is_structure_type (Some t) ≡ false → is_value_item common item ≡ valued → FormAgrees u site site.set.phrases site.block name
   stored_forms name left own common item t true is within typed eventless plain valued =
       let worth = left.valued own.number own.phrase common item own.meant own.there is valued in
@@ -512,13 +565,13 @@ module _ (u : Uses) (site : Site) (named : IsSound rows site.set.phrases) (sound
   stored_forms name left own common item t false is within typed eventless plain valued =
       data_formed u site name own (plain_data site.set.phrases named sound counted declared literals site refl has own.phrase (placed own.phrase within) common item t is typed valued eventless plain)
 
-  structured_forms : (name : List ℕ) (left : AreLeft u site name) (own : IsOwn site name) (common : List Attribute) (item : Declared) (t : Kind) (structured : Bool) (block : ℕ) (place : Place) (raised : Bool) (ts : Expressions) → own.phrase.node ≡ OfItem common item
+  structured_forms : (name : List ℕ) (left : AreLeft site name) (own : IsOwn site name) (common : List Attribute) (item : Declared) (t : Kind) (structured : Bool) (block : ℕ) (place : Place) (raised : Bool) (ts : Expressions) → own.phrase.node ≡ OfItem common item
       → IsAmong own.phrase site.set.phrases → type_of common item ≡ Some t → is_event_type (Some t) ≡ false → is_structure_type (Some t) ≡ structured
       → product_fault site.set.phrases block place (Some (data_with (class_of_type t) (dimensions_of (sizes_of common item)) (has_copies t))) raised ts ≡ None → FormAgrees u site site.set.phrases site.block name
   structured_forms name left own common item t true block place raised ts is within typed eventless structured none = absurd (structure_product site.set.phrases block place (dimensions_of (sizes_of common item)) (has_copies t) raised ts t structured none)
   structured_forms name left own common item t false block place raised ts is within typed eventless structured none = stored_forms name left own common item t (is_value_item common item) is within typed eventless structured refl
 
-  typed_forms : (name : List ℕ) (left : AreLeft u site name) (own : IsOwn site name) (common : List Attribute) (item : Declared) (t : Kind) (eventful : Bool) (block : ℕ) (place : Place) (raised : Bool) (ts : Expressions) → own.phrase.node ≡ OfItem common item
+  typed_forms : (name : List ℕ) (left : AreLeft site name) (own : IsOwn site name) (common : List Attribute) (item : Declared) (t : Kind) (eventful : Bool) (block : ℕ) (place : Place) (raised : Bool) (ts : Expressions) → own.phrase.node ≡ OfItem common item
       → IsAmong own.phrase site.set.phrases → type_of common item ≡ Some t → is_in_unit site.set.phrases own.phrase.around.home ≡ true → is_event_type (Some t) ≡ eventful
       → product_fault site.set.phrases block place (Some (data_with (class_of_type t) (dimensions_of (sizes_of common item)) (has_copies t))) raised ts ≡ None → FormAgrees u site site.set.phrases site.block name
   typed_forms name left own common item t true block place raised ts is within typed home eventful none =
@@ -526,55 +579,55 @@ module _ (u : Uses) (site : Site) (named : IsSound rows site.set.phrases) (sound
       event_formed u site name own counted (record { common = common; item = item; declares = is; eventful = eventful_type; sized = event_single own.phrase common item within is eventful_type; within = home })
   typed_forms name left own common item t false block place raised ts is within typed home eventful none = structured_forms name left own common item t (is_structure_type (Some t)) block place raised ts is within typed eventful refl none
 
-  item_forms : (name : List ℕ) (left : AreLeft u site name) (own : IsOwn site name) (common : List Attribute) (item : Declared) (o : Option Kind) (block : ℕ) (place : Place) (raised : Bool) (ts : Expressions) → own.phrase.node ≡ OfItem common item
+  item_forms : (name : List ℕ) (left : AreLeft site name) (own : IsOwn site name) (common : List Attribute) (item : Declared) (o : Option Kind) (block : ℕ) (place : Place) (raised : Bool) (ts : Expressions) → own.phrase.node ≡ OfItem common item
       → IsAmong own.phrase site.set.phrases → type_of common item ≡ o → is_in_unit site.set.phrases own.phrase.around.home ≡ true → product_fault site.set.phrases block place (data_of o (sizes_of common item)) raised ts ≡ None
       → FormAgrees u site site.set.phrases site.block name
   unfolding data_of
   item_forms name left own common item None block place raised ts is within typed home none = let other : false ≡ true = ap (λ (o : Option Kind). is_some o) (sym typed) ∙ item_typed own.phrase common item within is in absurd (cc)
   item_forms name left own common item (Some t) block place raised ts is within typed home none = typed_forms name left own common item t (is_event_type (Some t)) block place raised ts is within typed home refl none
 
-  node_forms : (name : List ℕ) (left : AreLeft u site name) (parameters : FunctionParameters u site name) (own : IsOwn site name) (f : Phrase) (place : Place) (ts : Expressions) (n : Node) → own.phrase.node ≡ n → IsAmong own.phrase site.set.phrases → is_templated site.set.phrases own.phrase n ≡ false
+  node_forms : (name : List ℕ) (left : AreLeft site name) (functions : AreFunctions u site name) (parameters : FunctionParameters u site name) (own : IsOwn site name) (f : Phrase) (place : Place) (ts : Expressions) (n : Node) → own.phrase.node ≡ n → IsAmong own.phrase site.set.phrases → is_templated site.set.phrases own.phrase n ≡ false
       → declared_fault site.set.phrases f place ts own.phrase n ≡ None → FormAgrees u site site.set.phrases site.block name
   unfolding declared_fault head_fault data_at is_nil
-  node_forms name left parameters own f place ts (OfTemplate unit head declarations) is within plain none = absurd (cc)
-  node_forms name left parameters own f place ts (OfUnit unit (Program at_) declarations) is within plain none = absurd (cc)
-  node_forms name left parameters own f place ts (OfUnit unit (Task at_) declarations) is within plain none = absurd (cc)
-  node_forms name left parameters own f place ts (OfUnit unit (Compool at_) declarations) is within plain none = absurd (cc)
-  node_forms name left parameters own f place ts (OfUnit unit (Procedure at_ inputs outputs mode) declarations) is within plain none = absurd (cc)
-  node_forms name left parameters own f place ts (OfUnit unit (Function at_ inputs returns mode) declarations) is within plain none =
-      let function_ = left.called own.number own.phrase unit at_ inputs returns mode declarations own.meant own.there is in
+  node_forms name left functions parameters own f place ts (OfTemplate unit head declarations) is within plain none = absurd (cc)
+  node_forms name left functions parameters own f place ts (OfUnit unit (Program at_) declarations) is within plain none = absurd (cc)
+  node_forms name left functions parameters own f place ts (OfUnit unit (Task at_) declarations) is within plain none = absurd (cc)
+  node_forms name left functions parameters own f place ts (OfUnit unit (Compool at_) declarations) is within plain none = absurd (cc)
+  node_forms name left functions parameters own f place ts (OfUnit unit (Procedure at_ inputs outputs mode) declarations) is within plain none = absurd (cc)
+  node_forms name left functions parameters own f place ts (OfUnit unit (Function at_ inputs returns mode) declarations) is within plain none =
+      let function_ = functions own.number own.phrase unit at_ inputs returns mode declarations own.meant own.there is in
       function_formed u site name own counted function_ (parameters own.number own.phrase own.meant own.there function_)
-  node_forms name left parameters own f place ts (OfItem common item) is within plain none =
+  node_forms name left functions parameters own f place ts (OfItem common item) is within plain none =
       item_forms name left own common item (type_of common item) f.around.block place (is_raised site.set.phrases f.around.parent) ts is within refl (in_unit (is_in_unit site.set.phrases own.phrase.around.home) plain) none
-  node_forms name left parameters own f place ts (OfTemporaryGroup labels variable) is within plain none = temporary_formed u site name own (record { labels = labels; variable = variable; declares = is })
-  node_forms name left parameters own f place ts other is within plain none = absurd (cc)
+  node_forms name left functions parameters own f place ts (OfTemporaryGroup labels variable) is within plain none = temporary_formed u site name own (record { labels = labels; variable = variable; declares = is })
+  node_forms name left functions parameters own f place ts other is within plain none = absurd (cc)
 
   builtin_forms : (name : List ℕ) (o : Option Builtin) → means site.set.phrases site.block name ≡ None → builtin_named name ≡ o → elim o [ None ↦ false | Some b ↦ is_known usage.CallForm (form_of b) ] ≡ true → FormAgrees u site site.set.phrases site.block name
   builtin_forms name None undeclared is known_ = absurd (cc)
   builtin_forms name (Some b) undeclared is known_ = builtin_formed u site name b undeclared is
 
-  formed_by_name : (name : List ℕ) (left : AreLeft u site name) (parameters : FunctionParameters u site name) (f : Phrase) (place : Place) (ts : Expressions) (o : Option ℕ) → means site.set.phrases site.block name ≡ o → (is_some o || is_known_builtin name usage.CallForm) ≡ true
+  formed_by_name : (name : List ℕ) (left : AreLeft site name) (functions : AreFunctions u site name) (parameters : FunctionParameters u site name) (f : Phrase) (place : Place) (ts : Expressions) (o : Option ℕ) → means site.set.phrases site.block name ≡ o → (is_some o || is_known_builtin name usage.CallForm) ≡ true
       → ◌≡◌ {A = Option (ℕ × Place)} (elim o [ None ↦ calls.builtin_fault site.set.phrases f.around.block place name ts | Some k ↦ option_and_then (λ (r : Phrase). declared_fault site.set.phrases f place ts r r.node) (slice_get site.set.phrases k) ]) None
       → FormAgrees u site site.set.phrases site.block name
-  formed_by_name name left parameters f place ts None meant known_ none = builtin_forms name (builtin_named name) meant refl known_
-  formed_by_name name left parameters f place ts (Some k) meant known_ none =
+  formed_by_name name left functions parameters f place ts None meant known_ none = builtin_forms name (builtin_named name) meant refl known_
+  formed_by_name name left functions parameters f place ts (Some k) meant known_ none =
       let first = (declared site.block name k meant).1 in
       let p : Phrase = first.declaring in
       let plain = left.untemplated k p meant first.there in
-      node_forms name left parameters (record { number = k; meant = meant; phrase = p; there = first.there; own = own_number site.set.phrases k p first.there plain }) f place ts p.node refl (at_among site.set.phrases k p first.there) plain
+      node_forms name left functions parameters (record { number = k; meant = meant; phrase = p; there = first.there; own = own_number site.set.phrases k p first.there plain }) f place ts p.node refl (at_among site.set.phrases k p first.there) plain
       (ap (option_and_then (λ (r : Phrase). declared_fault site.set.phrases f place ts r r.node)) (sym first.there) ∙ none)
 
   -- a call form
-  pub form_agrees : (q : Phrase) (place : Place) (name : List ℕ) (ts : Expressions) → AreLeft u site name → FunctionParameters u site name → IsAmong q site.set.phrases → q.node ≡ OfCallForm place name ts → q.around.block ≡ site.block → FormAgrees u site site.set.phrases site.block name
+  pub form_agrees : (q : Phrase) (place : Place) (name : List ℕ) (ts : Expressions) → AreLeft site name → AreFunctions u site name → FunctionParameters u site name → IsAmong q site.set.phrases → q.node ≡ OfCallForm place name ts → q.around.block ≡ site.block → FormAgrees u site site.set.phrases site.block name
   unfolding unknown used use_rows miscalled
-  form_agrees q place name ts left parameters within is here =
+  form_agrees q place name ts left functions parameters within is here =
       let ps : List Phrase = site.set.phrases in
       let block : ℕ = q.around.block in
       let no_unknown = ruled_none 601 (unknown ps q) (unbroken rows ps named q within (λ qs o. ruled 601 (unknown qs o)) (inl refl)) in
       let no_fault = unbroken type_rows ps sound q within (λ qs o. miscalled qs o o.node) (of_uses (λ qs o. miscalled qs o o.node) (inr (inr (inr (inr (inr (inr (inr (inl refl))))))))) in
       let known_ : (is_some (means ps block name) || is_known_builtin name usage.CallForm) ≡ true = unless_true (is_some (means ps block name) || is_known_builtin name usage.CallForm) place
       (ap (λ n. option_and_then (λ (v : Use). unless (is_known_use ps block v) v.place) (used n)) (sym is) ∙ no_unknown) in
-      formed_by_name name left parameters q place ts (means ps site.block name) refl (ap (λ b. is_some (means ps b name) || is_known_builtin name usage.CallForm) (sym here) ∙ known_)
+      formed_by_name name left functions parameters q place ts (means ps site.block name) refl (ap (λ b. is_some (means ps b name) || is_known_builtin name usage.CallForm) (sym here) ∙ known_)
       (ap (λ b. elim (means ps b name) [ None ↦ calls.builtin_fault ps block place name ts | Some k ↦ option_and_then (λ (r : Phrase). declared_fault ps q place ts r r.node) (slice_get ps k) ]) (sym here) ∙ (ap (miscalled ps q) (sym is) ∙ no_fault))
 
   node_called : (name : List ℕ) (procedures : AreProcedures u site name) (own : IsOwn site name) (owner : ℕ) (q : Phrase) (n : Node) → own.phrase.node ≡ n → declared_at own.phrase.number own.phrase.around n ≡ Some (key space.Declared owner name)
@@ -595,7 +648,7 @@ module _ (u : Uses) (site : Site) (named : IsSound rows site.set.phrases) (sound
   node_called name procedures own owner q (OfPart bottom part) is declares plain fits = let other : Some space.Part ≡ Some space.Declared = ap space_of declares in absurd (cc)
   node_called name procedures own owner q other is declares plain fits = absurd (cc)
 
-  called_by_name : (name : Naming) (left : AreLeft u site name.name) (procedures : AreProcedures u site name.name) (q : Phrase) (o : Option ℕ) → means site.set.phrases site.block name.name ≡ o → (is_some o || is_known_builtin name.name usage.Called) ≡ true
+  called_by_name : (name : Naming) (left : AreLeft site name.name) (procedures : AreProcedures u site name.name) (q : Phrase) (o : Option ℕ) → means site.set.phrases site.block name.name ≡ o → (is_some o || is_known_builtin name.name usage.Called) ≡ true
       → elim o [ None ↦ fits_named name.name usage.Called | Some k ↦ fits_declared site.set.phrases q usage.Called (sort_at site.set.phrases k) ] ≡ true → ProcedureAgrees u site site.set.phrases site.block name
   called_by_name name left procedures q None meant known_ fits = no_builtin_call (builtin_named name.name) known_ fits
   called_by_name name left procedures q (Some k) meant known_ fits =
@@ -609,7 +662,7 @@ module _ (u : Uses) (site : Site) (named : IsSound rows site.set.phrases) (sound
       (ap (λ o. fits_declared site.set.phrases q usage.Called (option_and_then (λ (x : Phrase). sort_of x.node) o)) (sym first.there) ∙ fits))
 
   -- CALL
-  pub call_agrees : (q : Phrase) (name : Naming) (ts : Expressions) (receivers : List Reference) → AreLeft u site name.name → AreProcedures u site name.name → IsAmong q site.set.phrases → q.node ≡ OfCall name ts receivers → q.around.block ≡ site.block
+  pub call_agrees : (q : Phrase) (name : Naming) (ts : Expressions) (receivers : List Reference) → AreLeft site name.name → AreProcedures u site name.name → IsAmong q site.set.phrases → q.node ≡ OfCall name ts receivers → q.around.block ≡ site.block
       → ProcedureAgrees u site site.set.phrases site.block name
   unfolding unknown misused used
   call_agrees q name ts receivers left procedures within is here =

@@ -35,9 +35,15 @@ abbrev pub ArePlaced : List Phrase → Phrase → List Attribute → Type 0
 ArePlaced ps p [] = Unit {0}
 ArePlaced ps p (x ∷ xs) = IsPlaced ps p x × ArePlaced ps p xs
 
+-- a phrase of these declares names with these attributes
+pub record IsGiven (ps : List Phrase) (common : List Attribute) : Type 0 where
+  pub phrase : Phrase
+  pub within : IsAmong phrase ps
+  pub is : phrase.node ≡ OfDeclare common
+
 -- all attributes of an item are
 abbrev pub NodePlaced : List Phrase → Phrase → Node → Type 0
-NodePlaced ps p (OfItem common item) = ArePlaced ps p item.attributes × ArePlaced ps p common
+NodePlaced ps p (OfItem common item) = ArePlaced ps p item.attributes × ArePlaced ps p common × IsGiven ps common
 NodePlaced ps p other = Unit {0}
 
 none_placed : (ps : List Phrase) (p : Phrase) (n : Node) → is_item n ≡ false → NodePlaced ps p n
@@ -150,7 +156,7 @@ module _ (ps : List Phrase) (counted : IsCounted ps) where
       )
 
   -- an item
-  item_placed : (a : Around) (common : List Attribute) (e : List Phrase) (item : Declared) → (AreFirst e ps → ArePlaced ps (phrase (length e) a (OfItem common item)) common) → Places e (gathered_item a common e item)
+  item_placed : (a : Around) (common : List Attribute) (e : List Phrase) (item : Declared) → (AreFirst e ps → ArePlaced ps (phrase (length e) a (OfItem common item)) common × IsGiven ps common) → Places e (gathered_item a common e item)
   unfolding gathered_item
   item_placed a common e item given =
       let d : List Phrase = add e a (OfItem common item) in
@@ -159,14 +165,17 @@ module _ (ps : List Phrase) (counted : IsCounted ps) where
         first = begun.then_ (begun.one e a (OfItem common item)) (attributes_first (below e a) d item.attributes);
         each_ = λ whole q within.
             let start = begun.then_ (begun.one e a (OfItem common item)) (begun.then_ (attributes_first (below e a) d item.attributes) whole) in
-            one_placed a.home q p e d ((attributes_plain (below e a) d item.attributes).each_ q within) (λ among_. plainly.behind q p e among_) (own_placed a common item e item.attributes d start (no_step d) whole, given start);
+            one_placed a.home q p e d ((attributes_plain (below e a) d item.attributes).each_ q within) (λ among_. plainly.behind q p e among_) (own_placed a common item e item.attributes d start (no_step d) whole, (given start).0, (given start).1);
       }
 
-  items_placed : (b : Around) (common : List Attribute) (d : List Phrase) (items : List Declared) (e : List Phrase) → AreFirst (gathered_each (gathered_attribute b) d common) e → Places e (gathered_each (gathered_item b common) e items)
-  items_placed b common d [] e first = nothing e
-  items_placed b common d (item ∷ items) e first =
-      let one_item = item_placed b common e item (λ start. given_placed b common d (phrase (length e) b (OfItem common item)) refl refl (begun.then_ first start) (longer first)) in
-      more one_item (items_placed b common d items (gathered_item b common e item) (begun.then_ first one_item.first))
+  items_placed : (b : Around) (common : List Attribute) (d : List Phrase) (items : List Declared) (e : List Phrase) → AreFirst (gathered_each (gathered_attribute b) d common) e → (AreFirst d ps → IsGiven ps common) → Places e (gathered_each (gathered_item b common) e items)
+  items_placed b common d [] e first given = nothing e
+  items_placed b common d (item ∷ items) e first given =
+      let one_item = item_placed b common e item (λ start. (
+        given_placed b common d (phrase (length e) b (OfItem common item)) refl refl (begun.then_ first start) (longer first),
+        given (begun.then_ (attributes_first b d common) (begun.then_ first start)),
+      )) in
+      more one_item (items_placed b common d items (gathered_item b common e item) (begun.then_ first one_item.first) given)
 
   single_plain : (d : List Phrase) (a : Around) (n : Node) → is_item n ≡ false → Places d (add d a n)
   single_plain d a n none = plain d (add d a n) (begun.one d a n) (one d a n none)
@@ -177,7 +186,8 @@ module _ (ps : List Phrase) (counted : IsCounted ps) where
       let b : Around = below d a in
       let e : List Phrase = add d a (OfDeclare common) in
       let f : List Phrase = gathered_each (gathered_attribute b) e common in
-      more (single_plain d a (OfDeclare common) refl) (more (plain e f (attributes_first b e common) (attributes_plain b e common)) (items_placed b common e items f (begun.no_step f)))
+      more (single_plain d a (OfDeclare common) refl) (more (plain e f (attributes_first b e common) (attributes_plain b e common)) (items_placed b common e items f (begun.no_step f)
+      (λ start. record { phrase = phrase (length d) a (OfDeclare common); within = begun.among ps d a (OfDeclare common) start; is = refl })))
   declaration_placed a d (Structure p name parts) =
       let e : List Phrase = add d a (OfStructure name parts) in
       more (single_plain d a (OfStructure name parts) refl) (plain e (gathered_parts (below d a) [] e parts) (parts_first (below d a) [] e parts) (parts_plain (below d a) [] e parts))

@@ -26,8 +26,8 @@ use Rattle.hal_values.specs.declared.value.Value.TheVariants as value
 use Rattle.hal_constants.specs.declared.constant.Constant.{Constant}
 use Rattle.hal_constants.specs.declared.constant.Constant.TheVariants as constant
 use Rattle.hal_constants.specs.Constants.{constant_of}
-use Rattle.hal_constants.specs.Known.{known, size_of_integer, size_of_value, size_of, bits_kind, text_kind, kind_of, kind_of_type}
-use Rattle.hal_constants.specs.Naming.{is_value_item, is_compool_at, is_before}
+use Rattle.hal_constants.specs.Known.{Known, known, size_of_integer, size_of_value, size_of, bits_kind, text_kind, kind_of, kind_of_type}
+use Rattle.hal_constants.specs.Naming.{is_value_item, is_compool_at, is_before, value_at}
 use Rattle.hal_fit_rules.specs.Begun.{AreFirst}
 use Rattle.hal_fit_rules.proofs.Beginning.{then_, among}
 use Rattle.hal_fit_rules.proofs.BegunExpressions.{own_first}
@@ -80,14 +80,18 @@ right_true : (a b : Bool) → b ≡ true → (a || b) ≡ true
 right_true true b is = refl
 right_true false b is = is
 
--- what stands before a phrase among those of an attribute stands before what has the attribute, where that is no constant itself
-pub placed_precedes : (ps : List Phrase) (p q : Phrase) (x : Attribute) (placed : IsPlaced ps p x) → is_valued p.node ≡ false → q.number < length (gathered_attribute placed.around placed.before x) → q.around.home ≡ p.around.home → Precedes ps q p
-placed_precedes ps p q x placed stored low home k r common item there is valued before =
-    by (one_true (nat_lt r.number q.number) (is_compool_at ps r.around.home && not (r.around.home == q.around.home)) before)
+-- what stands before a phrase among those of an attribute stands before what has the attribute, where no value of that is known
+pub placed_precedes : (ps : List Phrase) (vs : Known) (p q : Phrase) (x : Attribute) (placed : IsPlaced ps p x) → (is_valued p.node ≡ true → value_at vs p.number ≡ None)
+    → q.number < length (gathered_attribute placed.around placed.before x) → q.around.home ≡ p.around.home → Precedes ps vs vs q p
+placed_precedes ps vs p q x placed hidden low home k r common item there is valued before v has =
+    (by (one_true (nat_lt r.number q.number) (is_compool_at ps r.around.home && not (r.around.home == q.around.home)) before), has)
   where
     in_text : nat_lt r.number q.number ≡ true → (r.number < p.number) ⊎ (r ≡ p) → is_before ps p r ≡ true
     in_text first (inl less) = left_true (nat_lt r.number p.number) (is_compool_at ps r.around.home && not (r.around.home == p.around.home)) (lt-ltb r.number p.number less)
-    in_text first (inr same) = let other : true ≡ false = sym valued ∙ (ap is_valued (sym is) ∙ (ap (λ (y : Phrase). is_valued y.node) same ∙ stored)) in absurd (cc)
+    in_text first (inr same) =
+        let none = hidden (ap (λ (y : Phrase). is_valued y.node) (sym same) ∙ (ap is_valued is ∙ valued)) in
+        let other = sym has ∙ (ap (λ (y : Phrase). value_at vs y.number) same ∙ none) in
+        absurd (cc)
 
     by : (nat_lt r.number q.number ≡ true) ⊎ ((is_compool_at ps r.around.home && not (r.around.home == q.around.home)) ≡ true) → is_before ps p r ≡ true
     by (inl first) = in_text first (placed.beside k r there (ap is_item is) (omega (arith, ltb-true r.number q.number first, low)))
@@ -132,32 +136,38 @@ module _ (ps : List Phrase) (named : IsSound rows ps) (sound : IsSound type_rows
   low_number d a r t = omega (arith, longer (own_first d a r t), one_longer d a (OfExpression r t))
 
   -- the kind of the cells of a type is known
-  pub kind_known : (p : Phrase) (double : Bool) (t : Kind) → is_valued p.node ≡ false → is_structure_type (Some t) ≡ false → IsPlaced ps p (Typed t) → (cells : values.Kind) × (kind_of_type ps (known ps) p double (Some t) ≡ Some cells)
+  pub kind_known : (p : Phrase) (double : Bool) (t : Kind) → (is_valued p.node ≡ true → value_at (known ps) p.number ≡ None) → is_structure_type (Some t) ≡ false → IsPlaced ps p (Typed t) → (cells : values.Kind) × (kind_of_type ps (known ps) p double (Some t) ≡ Some cells)
   unfolding kind_of_type kind_of is_structure_type gathered_attribute gathered_kind bits_kind text_kind
-  kind_known p double (IntegerKind place) stored plain placed = (if double then kind.Double else kind.Single, refl)
-  kind_known p double (BooleanKind place) stored plain placed = (kind.Bits 1, refl)
-  kind_known p double (EventKind place) stored plain placed = (kind.Bits 1, refl)
-  kind_known p double (BitKind place t) stored plain placed =
+  kind_known p double (IntegerKind place) hidden plain placed = (if double then kind.Double else kind.Single, refl)
+  kind_known p double (BooleanKind place) hidden plain placed = (kind.Bits 1, refl)
+  kind_known p double (EventKind place) hidden plain placed = (kind.Bits 1, refl)
+  kind_known p double (BitKind place t) hidden plain placed =
       let d : List Phrase = placed.before in
       let a : Around = placed.around in
       let q : Phrase = phrase (length d) a (OfExpression role.BitLength t) in
       let is = suits ps named sound counted declared literals q d a role.BitLength t refl refl placed.begun in
       let size = size_known 32 (place_of t) (constant_of ps (known ps) q t) (constant_of ps (known ps) p t) (holds ps named sound counted declared literals q d a role.BitLength want.Integer t bit_length placed.begun is)
-      (bits_right d a t placed.begun) (constant_keeps ps (known ps) q p placed.block (placed_precedes ps p q (Typed (BitKind place t)) placed stored (low_number d a role.BitLength t) placed.home) t) in
+      (bits_right d a t placed.begun) (constant_keeps ps (known ps) (known ps) q p placed.block (placed_precedes ps (known ps) p q (Typed (BitKind place t)) placed hidden (low_number d a role.BitLength t) placed.home) t) in
       (kind.Bits size.0, ap bits_kind size.1)
-  kind_known p double (CharacterKind place t) stored plain placed =
+  kind_known p double (CharacterKind place t) hidden plain placed =
       let d : List Phrase = placed.before in
       let a : Around = placed.around in
       let q : Phrase = phrase (length d) a (OfExpression role.TextLength t) in
       let is = suits ps named sound counted declared literals q d a role.TextLength t refl refl placed.begun in
       let size = size_known 255 (place_of t) (constant_of ps (known ps) q t) (constant_of ps (known ps) p t) (holds ps named sound counted declared literals q d a role.TextLength want.Integer t text_length placed.begun is)
-      (text_right d a t placed.begun) (constant_keeps ps (known ps) q p placed.block (placed_precedes ps p q (Typed (CharacterKind place t)) placed stored (low_number d a role.TextLength t) placed.home) t) in
+      (text_right d a t placed.begun) (constant_keeps ps (known ps) (known ps) q p placed.block (placed_precedes ps (known ps) p q (Typed (CharacterKind place t)) placed hidden (low_number d a role.TextLength t) placed.home) t) in
       (kind.Text size.0, ap text_kind size.1)
-  kind_known p double (StructureKind place template copies) stored plain placed = absurd (cc)
+  kind_known p double (StructureKind place template copies) hidden plain placed = absurd (cc)
 
-  -- so it is of an item that is placed
+  -- so it is of an item that is placed, where no value of it is known
+  pub hidden_kind_known : (p : Phrase) (common : List Attribute) (item : Declared) (t : Kind) (double : Bool) → p.node ≡ OfItem common item → type_of common item ≡ Some t → is_structure_type (Some t) ≡ false
+      → (is_value_item common item ≡ true → value_at (known ps) p.number ≡ None) → NodePlaced ps p p.node → (cells : values.Kind) × (kind_of_type ps (known ps) p double (Some t) ≡ Some cells)
+  hidden_kind_known p common item t double is typed plain hidden placed =
+      let both = subst (λ n. NodePlaced ps p n) is placed in
+      kind_known p double t (λ valued. hidden (ap is_valued (sym is) ∙ valued)) plain (typed_by ps p item.attributes common (type_among item.attributes) t refl typed both.0 both.1)
+
+  -- and of one that is no constant
   pub item_kind_known : (p : Phrase) (common : List Attribute) (item : Declared) (t : Kind) (double : Bool) → p.node ≡ OfItem common item → type_of common item ≡ Some t → is_structure_type (Some t) ≡ false → is_value_item common item ≡ false
       → NodePlaced ps p p.node → (cells : values.Kind) × (kind_of_type ps (known ps) p double (Some t) ≡ Some cells)
   item_kind_known p common item t double is typed plain stored placed =
-      let both = subst (λ n. NodePlaced ps p n) is placed in
-      kind_known p double t (ap is_valued is ∙ stored) plain (typed_by ps p item.attributes common (type_among item.attributes) t refl typed both.0 both.1)
+      hidden_kind_known p common item t double is typed plain (λ valued. absurd (let other = sym stored ∙ valued in cc)) placed

@@ -143,7 +143,7 @@ text_suits text true is = record { known = refl; right = leb-true (length text) 
 text_suits text false is = tt
 
 -- a literal
-literal_suits : (x : LiteralValue) → IsFitLiteral x → Suits (Some (class_of_literal x)) (literal_constant x)
+pub literal_suits : (x : LiteralValue) → IsFitLiteral x → Suits (Some (class_of_literal x)) (literal_constant x)
 unfolding literal_constant class_of_literal
 literal_suits (Integer n) is = holding_suits (whole n) (whole_holds n)
 literal_suits (Text text) is = text_suits text (nat_le (length text) 255) refl

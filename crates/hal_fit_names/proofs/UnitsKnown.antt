@@ -1,6 +1,7 @@
 -- What is known of a unit, where it is known of the phrases that are left.
-use Rattle.std.proofs.Common.{◌≡◌, ℕ, Bool, true, false, ◌&&◌, ◌||◌, List, [], ◌∷◌, Option, Some, None, slice_get, refl, sym, ap, ◌∙◌, subst}
+use Rattle.std.proofs.Common.{◌≡◌, ◌⊎◌, ◌≤◌, ℕ, ◌+◌, Bool, true, false, not, List, [], ◌∷◌, length, Option, Some, None, slice_get, refl, sym, ap, ◌∙◌, subst, inl, inr, if◌then◌else◌, arith}
 use Rattle.std.specs.Option.{option_and_then, is_some}
+use Rattle.std.proofs.lemmas.List.{length-map}
 use Rattle.hal_base.specs.declared.refusal.Place.{Place}
 use Rattle.hal_grammar.specs.Leaves.{Naming}
 use Rattle.hal_grammar.specs.Declarations.{Kind, Declaration}
@@ -17,38 +18,52 @@ use Rattle.hal_scope.specs.declared.usage.Usage.TheVariants as usage
 use Rattle.hal_scope.specs.declared.used.Use.{Use}
 use Rattle.hal_scope.specs.Rules.{IsAmong, IsSound, rows}
 use Rattle.hal_scope.specs.Sorts.{type_of, usage_of, use_of, use_of_reference, used}
-use Rattle.hal_scope.specs.Uses.{is_nil}
+use Rattle.hal_scope.specs.Uses.{is_nil, unless}
 use Rattle.hal_types.specs.Rules.{type_rows}
 use Rattle.hal_shapes.specs.Arguments.{parameter_of}
+use Rattle.hal_values.specs.declared.value.Value.{Value}
+use Rattle.hal_values.specs.declared.tables.EventStart.{EventStart}
+use Rattle.hal_values.specs.declared.tables.Tables.{Tables}
+use Rattle.hal_constants.specs.declared.constant.Constant.TheVariants as constant
+use Rattle.hal_constants.specs.Constants.{constant_of}
+use Rattle.hal_constants.specs.Known.{Known}
+use Rattle.hal_meaning.specs.Bodies as bodies
+use Rattle.hal_meaning.specs.Bodies.{Body, callee_at, called_block, is_called, processes_of, standing_for}
 use Rattle.hal_meaning.specs.Calls.{inputs_of}
-use Rattle.hal_meaning.specs.Sets.{body_at}
+use Rattle.hal_meaning.specs.Events as starts
+use Rattle.hal_meaning.specs.Events.{declared_events}
+use Rattle.hal_meaning.specs.Sets.{Set, body_at}
+use Rattle.hal_locks.specs.Barred.{barred, is_asked, is_read, is_reading}
+use Rattle.hal_locks.specs.Callees.{is_barred}
 use Rattle.hal_code.specs.declared.image.ImageParts.{ImageParts}
+use Rattle.hal_code.specs.declared.row.Process.{Process}
+use Rattle.hal_code.specs.Images.{start_of}
+use Rattle.hal_agreement.specs.Constants.{IsConstant}
 use Rattle.hal_agreement.specs.Sites.{Site, here_at, within_block}
 use Rattle.hal_fitting.specs.Fitting.{Ground}
 use Rattle.hal_fit_expr.specs.Uses.{Uses}
-use Rattle.hal_fit_rules.specs.Happening.{AsksAll}
+use Rattle.hal_fit_constants.specs.Names.{NamesAgree}
 use Rattle.hal_fit_rules.specs.Passing.{IsParameter, AreParameters}
 use Rattle.hal_fit_rules.specs.Signalled.{HasEvents}
 use Rattle.hal_fit_rules.specs.Used.{LeafKnown, ChannelKnown, ReturnKnown, NodeKnown, ReferenceKnown, PhraseKnown, UnitKnown}
 use Rattle.hal_fit_rules.specs.Valued.{HasConstants}
 use Rattle.hal_fit_rules.proofs.Constants.{among_found}
-use Rattle.hal_fit_names.specs.Bodied.{HasBody}
-use Rattle.hal_fit_names.specs.Known.{is_channel, is_left_node, is_using_role, is_using, is_left}
-use Rattle.hal_fit_names.specs.Named.{AreLeft, AreProcedures, FunctionParameters}
+use Rattle.hal_fit_names.specs.Bodied.{HasBody, IsUnitOf}
+use Rattle.hal_fit_names.specs.Known.{is_left_node}
+use Rattle.hal_fit_names.specs.Named.{AreFunctions, AreLeft, AreProcedures, FunctionParameters}
+use Rattle.hal_fit_names.specs.Serving.{AsksNothing, MayAsk, ServesUnit}
 use Rattle.hal_fit_names.specs.Spelled.{AreSpelled}
 use Rattle.hal_fit_names.specs.Suited.{NodeIsFit, HasFitLiterals, AreDeclared}
-use Rattle.hal_fit_names.specs.Used.{IsUsed, IsDeclaredParameter, AreDeclaredParameters, NamesAreLeft, IsHome}
+use Rattle.hal_fit_names.specs.Used.{IsDeclaredParameter, AreDeclaredParameters, HaveValues, IsHome, NamesAreOwn}
+use Rattle.hal_fit_names.proofs.Asking.{unasked, unasked_otherwise}
 use Rattle.hal_fit_names.proofs.Callable.{function_known, procedure_known}
+use Rattle.hal_fit_names.proofs.Channelled.{channel_agrees}
 use Rattle.hal_fit_names.proofs.Declaring.{parameter_known}
 use Rattle.hal_fit_names.proofs.KindsMeant.{name_ranged}
-use Rattle.hal_fit_names.proofs.MeantNames.{item_typed, value_agrees, subscript_agrees, receiver_agrees, output_agrees, variable_agrees, changed_agrees, form_agrees, call_agrees}
+use Rattle.hal_fit_names.proofs.MeantNames.{item_typed, value_agrees, subscript_agrees, limit_agrees, receiver_agrees, output_agrees, variable_agrees, changed_agrees, form_agrees, call_agrees}
+use Rattle.hal_fit_names.proofs.Owning.{own_number}
 use Rattle.hal_fit_names.proofs.Placing.{NodePlaced, at_among}
 use Rattle.hal_fit_names.proofs.Temporary.{temporary_sorted}
-
-neither : (a b : Bool) → (a || b) ≡ false → (a ≡ false) × (b ≡ false)
-neither false false is = (refl, refl)
-neither true b is = absurd (cc)
-neither false true is = absurd (cc)
 
 -- what is found is there
 found_in : (ps : List Phrase) (r : Phrase) (o : Option ℕ) → option_and_then (λ j. slice_get ps j) o ≡ Some r → IsAmong r ps
@@ -59,15 +74,33 @@ parameter_among : (ps : List Phrase) (unit : ℕ) (name : Naming) (r : Phrase) �
 unfolding parameter_of
 parameter_among ps unit name r is = found_in ps r (own ps (key space.Declared unit name.name)) is
 
+-- a phrase that calls what a name means calls a unit that it means
+unit_called : (ps : List Phrase) (k : ℕ) (p : Phrase) (o : Option ℕ) → o ≡ Some k → slice_get ps k ≡ Some p → standing_for ps k ≡ k → is_called p.node ≡ true
+    → called_block ps (elim o [ None ↦ None | Some j ↦ Some (standing_for ps j) ]) ≡ Some p.number
+unit_called ps k p o is there own called =
+    ap (λ (x : Option ℕ). called_block ps (elim x [ None ↦ None | Some j ↦ Some (standing_for ps j) ])) is
+    ∙ (ap (λ n. called_block ps (Some n)) own
+    ∙ (ap (λ (x : Option Phrase). option_and_then (λ (q : Phrase). if is_called q.node then Some q.number else None) x) there ∙ ap (λ b. if b then Some p.number else None) called))
+
 module _ (image : ImageParts) (g : Ground) (u : Bool → Uses) (site : Site) (home : ℕ) (named : IsSound rows site.set.phrases) (sound : IsSound type_rows site.set.phrases) (counted : IsCounted site.set.phrases)
-    (declared : AreDeclared site.set.phrases) (literals : HasFitLiterals site.set.phrases) (spelled : AreSpelled site.set.phrases) (has : HasConstants site) (asks : AsksAll (u false) site) (left : NamesAreLeft (u false) site home) (stands : IsHome g site home)
-    (placed : (p : Phrase) → IsAmong p site.set.phrases → NodePlaced site.set.phrases p p.node)
+    (declared : AreDeclared site.set.phrases) (literals : HasFitLiterals site.set.phrases) (spelled : AreSpelled site.set.phrases) (has : HasConstants site) (serves : ServesUnit site.set image u home)
+    (owned : NamesAreOwn site.set.phrases) (valued : HaveValues site.set) (stands : IsHome g site home) (placed : (p : Phrase) → IsAmong p site.set.phrases → NodePlaced site.set.phrases p p.node)
     (bodied : (k : ℕ) (p : Phrase) (name : Naming) (head : Head) (declarations : List Declaration) → slice_get site.set.phrases k ≡ Some p → p.node ≡ OfUnit name head declarations → HasBody site.set.bodies k head)
+    (united : (k : ℕ) (b : Body) → body_at site.set k ≡ Some b → IsUnitOf site.set.phrases k b)
     (inputs_known : (k : ℕ) (p : Phrase) (name : Naming) (head : Head) (declarations : List Declaration) → slice_get site.set.phrases k ≡ Some p → p.node ≡ OfUnit name head declarations
     → AreDeclaredParameters site.set.phrases k (inputs_of head)) (events : HasEvents image site)
+    (constants : (here : Site) (vs : Known) (p : Phrase) (tree : Expression) (v : Value) → NamesAgree here vs p → constant_of here.set.phrases vs p tree ≡ constant.Worth v → IsConstant here tree v)
     (temporaries : (k : ℕ) (p : Phrase) (labels : List Naming) (variable : Naming) → slice_get site.set.phrases k ≡ Some p → p.node ≡ OfTemporaryGroup labels variable → means site.set.phrases k variable.name ≡ Some k) where
-  asks_in : (block : ℕ) → AsksAll (u false) (within_block block site)
-  asks_in block = record { asks = asks.asks; all = asks.all }
+  -- what is used has all events
+  all_there : (b : Bool) → length (processes_of site.set.phrases) + length (declared_events site.set.phrases) ≤ (u b).events
+  all_there b =
+      let set : Set = site.set in
+      let of_processes : length image.processes ≡ length (processes_of set.phrases) =
+      sym (length-map image.processes (λ (p : Process). p.name)) ∙ (ap (λ (t : Tables). length t.processes) events.tables ∙ events.processes) in
+      let of_events : length image.events ≡ length (declared_events set.phrases) =
+      sym (length-map image.events start_of) ∙ (ap (λ (t : Tables). length t.events) events.tables ∙ (ap (λ (xs : List EventStart). length xs) events.events ∙ length-map (declared_events set.phrases) (starts.start_of set.phrases set.constants))) in
+      let of_image = serves.events b in
+      omega (arith, of_processes, of_events, of_image)
 
   events_in : (block : ℕ) → HasEvents image (within_block block site)
   events_in block = record { tables = events.tables; processes = events.processes; events = events.events }
@@ -82,7 +115,7 @@ module _ (image : ImageParts) (g : Ground) (u : Bool → Uses) (site : Site) (ho
   declared_parameter : (block unit : ℕ) (name : Naming) → IsDeclaredParameter site.set.phrases unit name → IsParameter (within_block block site) unit name
   declared_parameter block unit name is =
       typed_parameter block unit name is (type_of is.common is.item) refl
-      (item_typed (u false) site named sound counted declared literals has asks placed is.phrase is.common is.item (parameter_among site.set.phrases unit name is.phrase is.found) is.declares)
+      (item_typed (u false) site named sound counted declared literals has placed is.phrase is.common is.item (parameter_among site.set.phrases unit name is.phrase is.found) is.declares)
 
   declared_parameters : (block unit : ℕ) (names : List Naming) → AreDeclaredParameters site.set.phrases unit names → AreParameters (within_block block site) unit names
   declared_parameters block unit [] are = tt
@@ -93,45 +126,65 @@ module _ (image : ImageParts) (g : Ground) (u : Bool → Uses) (site : Site) (ho
   numbered_inputs k p name head declarations there is = subst (λ n. AreDeclaredParameters site.set.phrases n (inputs_of head)) (sym (counted k p there)) (inputs_known k p name head declarations there is)
 
   -- the phrase uses a name of the unit
-  module _ (q : Phrase) (within : IsAmong q site.set.phrases) (here : q.around.home ≡ home) (v : Use) (uses : used q.node ≡ Some v) where
-    meaning : (k : ℕ) (p : Phrase) → means site.set.phrases q.around.block v.name ≡ Some k → slice_get site.set.phrases k ≡ Some p → IsUsed site home q v k p
-    meaning k p meant there = record { within = within; here = here; uses = uses; meant = meant; there = there }
+  module _ (q : Phrase) (within : IsAmong q site.set.phrases) (here : q.around.home ≡ home) where
+    module _ (v : Use) (uses : used q.node ≡ Some v) where
+      name_left : AreLeft (within_block q.around.block site) v.name
+      name_left = record {
+        untemplated = λ k p meant there. owned q.around.block v.name k p meant there;
+        valued = λ k p common item meant there is value_item. valued p common item (at_among site.set.phrases k p there) is value_item;
+      }
 
-    name_left : AreLeft (u false) (within_block q.around.block site) v.name
-    name_left = record {
-      untemplated = λ k p meant there. left.untemplated q v k p (meaning k p meant there);
-      valued = λ k p common item meant there is valued. left.valued q v k p common item (meaning k p meant there) is valued;
-      called = λ k p unit place inputs returns mode declarations meant there is.
-          function_known (u false) (within_block q.around.block site) sound counted k p there unit place inputs returns mode declarations is (bodied k p unit (Function place inputs returns mode) declarations there is)
-          (left.called q v k p unit (Function place inputs returns mode) declarations (meaning k p meant there) is refl);
-    }
+      -- a unit that it means may be called where the phrase calls what the name means
+      module _ (calling : callee_at site.set.phrases q.around.block q.node ≡ called_block site.set.phrases (bodies.meant site.set.phrases q.around.block v.name)) where
+        may_call : (k : ℕ) (p : Phrase) → means site.set.phrases q.around.block v.name ≡ Some k → slice_get site.set.phrases k ≡ Some p → is_called p.node ≡ true → (u (is_some q.around.update)).calls p.number ≡ true
+        may_call k p is there called =
+            serves.calls q p.number within here
+            (calling
+            ∙ unit_called site.set.phrases k p (means site.set.phrases q.around.block v.name) is there (own_number site.set.phrases k p there (owned q.around.block v.name k p is there)) called)
 
-    function_parameters : FunctionParameters (u false) (within_block q.around.block site) v.name
-    function_parameters k p meant there is =
+        functions : AreFunctions (u (is_some q.around.update)) (within_block q.around.block site) v.name
+        functions k p unit place inputs returns mode declarations is there declares =
+            function_known (u (is_some q.around.update)) (within_block q.around.block site) sound counted k p there unit place inputs returns mode declarations declares (bodied k p unit (Function place inputs returns mode) declarations there declares)
+            (may_call k p is there (ap is_called declares))
+
+        procedures : AreProcedures (u (is_some q.around.update)) (within_block q.around.block site) v.name
+        procedures k p unit place inputs outputs mode declarations is there declares =
+            procedure_known (u (is_some q.around.update)) (within_block q.around.block site) sound counted k p there unit place inputs outputs mode declarations declares (bodied k p unit (Procedure place inputs outputs mode) declarations there declares)
+            (may_call k p is there (ap is_called declares)) (declared_parameters q.around.block p.number inputs (numbered_inputs k p unit (Procedure place inputs outputs mode) declarations there declares))
+
+    function_parameters : (name : List ℕ) → FunctionParameters (u (is_some q.around.update)) (within_block q.around.block site) name
+    function_parameters name k p meant there is =
         declared_parameters q.around.block p.number is.inputs
         (numbered_inputs k p is.name (Function is.place is.inputs is.returns is.mode) is.declarations there is.declares)
 
-    procedures : AreProcedures (u false) (within_block q.around.block site) v.name
-    procedures k p unit place inputs outputs mode declarations meant there is =
-        procedure_known (u false) (within_block q.around.block site) sound counted k p there unit place inputs outputs mode declarations is (bodied k p unit (Procedure place inputs outputs mode) declarations there is)
-        (left.called q v k p unit (Procedure place inputs outputs mode) declarations (meaning k p meant there) is refl)
-        (declared_parameters q.around.block p.number inputs (numbered_inputs k p unit (Procedure place inputs outputs mode) declarations there is))
+    -- a name may be asked that the phrase doesn't ask where it does nothing that an UPDATE block may not do
+    may_ask : (name : List ℕ) → (is_barred site.set.phrases q ≡ false → is_asked site.set.phrases q.around.block true name ≡ false) → MayAsk (u (is_some q.around.update)) (within_block q.around.block site) name
+    may_ask name so = record { all = all_there (is_some q.around.update); asks = by (serves.asks (is_some q.around.update)) } where
+      by : ((u (is_some q.around.update)).asks ≡ true) ⊎ AsksNothing site.set.phrases home (is_some q.around.update)
+          → ((u (is_some q.around.update)).asks ≡ true) ⊎ (is_asked site.set.phrases q.around.block true name ≡ false)
+      by (inl asks) = inl asks
+      by (inr nothing) = inr (so (nothing q within here refl))
+
+    -- as one that it reads
+    may_read : (n : Node) (name : List ℕ) (place : Place) → q.node ≡ n → barred site.set.phrases q.around.block n ≡ unless (not (is_asked site.set.phrases q.around.block true name)) place
+        → MayAsk (u (is_some q.around.update)) (within_block q.around.block site) name
+    may_read n name place is so = may_ask name (unasked site.set.phrases q n true name place is so)
 
   -- RETURN
   return_known : (q : Phrase) (value : Option Expression) → q.around.home ≡ home → ReturnKnown image g (within_block q.around.block site) site.set.phrases q.around.home value
   return_known q None here = tt
   return_known q (Some tree) here =
-      let body = bodied home stands.phrase stands.name stands.head stands.declarations stands.there stands.declares in
+      let unit = united home stands.body stands.found in
       record {
-        phrase = stands.phrase;
-        there = ap (slice_get site.set.phrases) here ∙ stands.there;
-        name = stands.name;
-        head = stands.head;
-        declarations = stands.declarations;
-        declares = stands.declares;
-        body = body.body;
-        found = ap (body_at site.set) stands.unit ∙ body.found;
-        same = body.same;
+        phrase = unit.phrase;
+        there = ap (slice_get site.set.phrases) here ∙ unit.there;
+        name = unit.name;
+        head = stands.body.head;
+        declarations = unit.declarations;
+        declares = unit.declares;
+        body = stands.body;
+        found = ap (body_at site.set) stands.unit ∙ stands.found;
+        same = refl;
         gives = stands.gives;
       }
 
@@ -141,71 +194,78 @@ module _ (image : ImageParts) (g : Ground) (u : Bool → Uses) (site : Site) (ho
   leaf_known q r (Decimal place number) within is fit = spelled.times q r place number within is
   leaf_known q r other within is fit = tt
 
-  -- one that is no channel
-  channel_known : (q : Phrase) (r : Role) (tree : Expression) → is_channel r ≡ false → ChannelKnown (within_block q.around.block site) site.set.phrases q r tree
-  channel_known q role.Channel tree plain = absurd (cc)
-  channel_known q other tree plain = tt
+  -- a channel
+  channel_known : (q : Phrase) (r : Role) (tree : Expression) → ChannelKnown (within_block q.around.block site) site.set.phrases q r tree
+  channel_known q role.Channel tree = λ d begun. channel_agrees site named sound counted declared literals has owned placed q constants tree d begun
+  channel_known q other tree = tt
 
   -- a reference
-  reference_known : (b : Bool) (q : Phrase) (r : Role) (place : Place) (name : List ℕ) (path : List Naming) (x : Subscript) → IsAmong q site.set.phrases → q.around.home ≡ home → (b && is_using_role r) ≡ false
-      → q.node ≡ OfReference r (Refers place name path x) → is_left_node (OfReference r (Refers place name path x)) ≡ false
-      → ReferenceKnown (u b) (within_block q.around.block site) site.set.phrases q.around.block r (Refers place name path x)
-  unfolding is_nil usage_of used use_of_reference
-  reference_known b q role.Receiver place name [] x within here free is plain = (
-    receiver_agrees (u false) (within_block q.around.block site) named sound counted declared literals has (asks_in q.around.block) placed q place name x
+  reference_known : (q : Phrase) (r : Role) (place : Place) (name : List ℕ) (path : List Naming) (x : Subscript) → IsAmong q site.set.phrases → q.around.home ≡ home → q.node ≡ OfReference r (Refers place name path x)
+      → is_left_node (OfReference r (Refers place name path x)) ≡ false
+      → ReferenceKnown (u (is_some q.around.update)) (within_block q.around.block site) site.set.phrases q r (Refers place name path x)
+  unfolding is_nil usage_of used use_of_reference barred is_reading is_read
+  reference_known q role.Receiver place name [] x within here is plain = (
+    receiver_agrees (u (is_some q.around.update)) (within_block q.around.block site) named sound counted declared literals has placed q place name x
         (name_left q within here (use_of place name usage.Receiver) (ap used is)) within is refl,
     name_ranged (here_at (within_block q.around.block site)) [] [] name,
   )
-  reference_known b q role.Receiver place name (n ∷ path) x within here free is plain = absurd (cc)
-  reference_known b q role.Event place name path x within here free is plain = absurd (cc)
-  reference_known b q role.EventOrTime place name path x within here free is plain = absurd (cc)
-  reference_known b q role.Output place name [] x within here free is plain =
-      output_agrees (u false) (within_block q.around.block site) named sound counted declared literals has (asks_in q.around.block) placed q place name x
+  reference_known q role.Receiver place name (n ∷ path) x within here is plain = absurd (cc)
+  reference_known q role.Event place name path x within here is plain = tt
+  reference_known q role.EventOrTime place name [] x within here is plain =
+      λ calm eventless.
+      let v : Use = use_of place name usage.EventOrTime in
+      limit_agrees (u (is_some q.around.update)) (within_block q.around.block site) named sound counted declared literals has placed q place name x
+      (name_left q within here v (ap used is))
+      (may_ask q within here name
+      (λ free. unasked_otherwise site.set.phrases q.around.block name (unasked site.set.phrases q (OfReference role.EventOrTime (Refers place name [] x)) false name place is refl free) eventless))
+      (functions q within here v (ap used is) (ap (callee_at site.set.phrases q.around.block) is)) within is refl calm
+  reference_known q role.EventOrTime place name (n ∷ path) x within here is plain = absurd (cc)
+  reference_known q role.Output place name [] x within here is plain =
+      output_agrees (u (is_some q.around.update)) (within_block q.around.block site) named sound counted declared literals has placed q place name x
       (name_left q within here (use_of place name usage.Output) (ap used is)) within is refl
-  reference_known b q role.Output place name (n ∷ path) x within here free is plain = absurd (cc)
-  reference_known false q other place name [] x within here free is plain =
-      value_agrees (u false) (within_block q.around.block site) named sound counted declared literals has (asks_in q.around.block) placed q other place name x
-      (name_left q within here (use_of place name usage.Value) (ap used is)) within is refl refl
-  reference_known true q other place name [] x within here free is plain = absurd (cc)
-  reference_known b q other place name (n ∷ path) x within here free is plain = absurd (cc)
+  reference_known q role.Output place name (n ∷ path) x within here is plain = absurd (cc)
+  reference_known q other place name [] x within here is plain =
+      let v : Use = use_of place name usage.Value in
+      value_agrees (u (is_some q.around.update)) (within_block q.around.block site) named sound counted declared literals has placed q other place name x
+      (name_left q within here v (ap used is)) (may_read q within here (OfReference other (Refers place name [] x)) name place is refl)
+      (functions q within here v (ap used is) (ap (callee_at site.set.phrases q.around.block) is)) within is refl refl
+  reference_known q other place name (n ∷ path) x within here is plain = absurd (cc)
 
-  node_known : (b : Bool) (q : Phrase) (n : Node) → IsAmong q site.set.phrases → q.around.home ≡ home → (b && is_using n) ≡ false → q.node ≡ n → is_left_node n ≡ false
-      → NodeKnown image g (u b) (within_block q.around.block site) site.set.phrases q n
-  unfolding used
-  node_known b q (OfExpression r tree) within here free is plain =
-      (leaf_known q r tree within is (subst NodeIsFit is (literals q within)), channel_known q r tree plain)
-  node_known b q (OfReference r (Refers place name path x)) within here free is plain = reference_known b q r place name path x within here free is plain
-  node_known b q (OfTemporaryGroup labels variable) within here free is plain =
+  node_known : (q : Phrase) (n : Node) → IsAmong q site.set.phrases → q.around.home ≡ home → q.node ≡ n → is_left_node n ≡ false
+      → NodeKnown image g (u (is_some q.around.update)) (within_block q.around.block site) site.set.phrases q n
+  unfolding used barred is_reading
+  node_known q (OfExpression r tree) within here is plain =
+      (leaf_known q r tree within is (subst NodeIsFit is (literals q within)), channel_known q r tree)
+  node_known q (OfReference r (Refers place name path x)) within here is plain = reference_known q r place name path x within here is plain
+  node_known q (OfTemporaryGroup labels variable) within here is plain =
       let at_ = among_found q site.set.phrases within in
-      temporary_sorted (u b) (within_block q.around.block site) at_.0 q labels variable counted at_.1 is (temporaries at_.0 q labels variable at_.1 is)
-  node_known b q (OfAssignment receivers value) within here free is plain = spelled.receivers q receivers value within is
-  node_known b q (OfReturn place value) within here free is plain = return_known q value here
-  node_known true q (OfSubscriptName name) within here free is plain = absurd (cc)
-  node_known false q (OfSubscriptName name) within here free is plain =
-      subscript_agrees (u false) (within_block q.around.block site) named sound counted declared literals has (asks_in q.around.block) placed q name
-      (name_left q within here (use_of name.place name.name usage.Value) (ap used is)) within is refl
-  node_known true q (OfCallForm place name arguments) within here free is plain = absurd (cc)
-  node_known false q (OfCallForm place name arguments) within here free is plain =
+      temporary_sorted (u (is_some q.around.update)) (within_block q.around.block site) at_.0 q labels variable counted at_.1 is (temporaries at_.0 q labels variable at_.1 is)
+  node_known q (OfAssignment receivers value) within here is plain = spelled.receivers q receivers value within is
+  node_known q (OfReturn place value) within here is plain = return_known q value here
+  node_known q (OfSubscriptName name) within here is plain =
+      let v : Use = use_of name.place name.name usage.Value in
+      subscript_agrees (u (is_some q.around.update)) (within_block q.around.block site) named sound counted declared literals has placed q name
+      (name_left q within here v (ap used is)) (may_read q within here (OfSubscriptName name) name.name name.place is refl)
+      (functions q within here v (ap used is) (ap (callee_at site.set.phrases q.around.block) is)) within is refl
+  node_known q (OfCallForm place name arguments) within here is plain =
       let v : Use = use_of place name usage.CallForm in
-      form_agrees (u false) (within_block q.around.block site) named sound counted declared literals has (asks_in q.around.block) placed q place name arguments
-      (name_left q within here v (ap used is)) (function_parameters q within here v (ap used is)) within is refl
-  node_known b q (OfVariable name) within here free is plain =
-      variable_agrees (u false) (within_block q.around.block site) named sound counted declared literals has (asks_in q.around.block) placed q name
+      form_agrees (u (is_some q.around.update)) (within_block q.around.block site) named sound counted declared literals has placed q place name arguments
+      (name_left q within here v (ap used is)) (functions q within here v (ap used is) (ap (callee_at site.set.phrases q.around.block) is)) (function_parameters q within here name) within is refl
+  node_known q (OfVariable name) within here is plain =
+      variable_agrees (u (is_some q.around.update)) (within_block q.around.block site) named sound counted declared literals has placed q name
       (name_left q within here (use_of name.place name.name usage.Variable) (ap used is)) within is refl
-  node_known true q (OfCall name arguments receivers) within here free is plain = absurd (cc)
-  node_known false q (OfCall name arguments receivers) within here free is plain =
+  node_known q (OfCall name arguments receivers) within here is plain =
       let v : Use = use_of name.place name.name usage.Called in
-      call_agrees (u false) (within_block q.around.block site) named sound counted declared literals has (asks_in q.around.block) placed q name arguments receivers
-      (name_left q within here v (ap used is)) (procedures q within here v (ap used is)) within is refl
-  node_known b q (OfEvent event) within here free is plain =
-      changed_agrees (u false) (within_block q.around.block site) named sound counted declared literals has (asks_in q.around.block) placed image q event
+      call_agrees (u (is_some q.around.update)) (within_block q.around.block site) named sound counted declared literals has placed q name arguments receivers
+      (name_left q within here v (ap used is)) (procedures q within here v (ap used is) (ap (callee_at site.set.phrases q.around.block) is)) within is refl
+  node_known q (OfEvent event) within here is plain =
+      changed_agrees (u (is_some q.around.update)) (within_block q.around.block site) named sound counted declared literals has placed image q event
       (name_left q within here (use_of event.name.place event.name.name usage.Event) (ap used is)) (events_in q.around.block) within is refl
-  node_known b q other within here free is plain = tt
+  node_known q other within here is plain = tt
 
-  phrase_known : (q : Phrase) (b : Bool) → is_left q ≡ b → IsAmong q site.set.phrases → q.around.home ≡ home → (is_left q ≡ true → PhraseKnown image g u site q) → PhraseKnown image g u site q
+  phrase_known : (q : Phrase) (b : Bool) → is_left_node q.node ≡ b → IsAmong q site.set.phrases → q.around.home ≡ home → (is_left_node q.node ≡ true → PhraseKnown image g u site q) → PhraseKnown image g u site q
   phrase_known q true is within here rest = rest is
-  phrase_known q false is within here rest =
-      let both = neither (is_some q.around.update && is_using q.node) (is_left_node q.node) is in node_known (is_some q.around.update) q q.node within here both.0 refl both.1
+  phrase_known q false is within here rest = node_known q q.node within here refl is
 
-  pub unit_known : ((q : Phrase) → IsAmong q site.set.phrases → q.around.home ≡ home → is_left q ≡ true → PhraseKnown image g u site q) → UnitKnown image g u site home
-  unit_known rest = λ q within here. phrase_known q (is_left q) refl within here (λ is. rest q within here is)
+  pub unit_known : ((q : Phrase) → IsAmong q site.set.phrases → q.around.home ≡ home → is_left_node q.node ≡ true → PhraseKnown image g u site q) → UnitKnown image g u site home
+  unit_known rest = λ q within here. phrase_known q (is_left_node q.node) refl within here (λ is. rest q within here is)

@@ -1,5 +1,6 @@
 pub mod Suited
 pub mod Named
+pub mod Serving
 pub mod Bodied
 pub mod Known
 pub mod Used

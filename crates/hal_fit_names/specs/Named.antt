@@ -14,13 +14,17 @@ use Rattle.hal_fit_rules.specs.Owned.{IsFunction}
 use Rattle.hal_fit_rules.specs.Passing.{AreParameters, IsProcedure}
 use Rattle.hal_fit_names.specs.Suited.{is_templated}
 
--- it means nothing of written templates, has a value where it means a constant that is its value, and a FUNCTION that it means may be called
-pub record AreLeft (u : Uses) (site : Site) (name : List ℕ) : Type 0 where
+-- it means nothing of written templates, and has a value where it means a constant that is its value
+pub record AreLeft (site : Site) (name : List ℕ) : Type 0 where
   pub untemplated : (k : ℕ) (p : Phrase) → means site.set.phrases site.block name ≡ Some k → slice_get site.set.phrases k ≡ Some p → is_templated site.set.phrases p p.node ≡ false
   pub valued : (k : ℕ) (p : Phrase) (common : List Attribute) (item : Declared) → means site.set.phrases site.block name ≡ Some k → slice_get site.set.phrases k ≡ Some p → p.node ≡ OfItem common item
       → is_value_item common item ≡ true → (v : Value) × (value_at site.set.constants p.number ≡ Some v)
-  pub called : (k : ℕ) (p : Phrase) (unit : Naming) (place : Place) (inputs : List Naming) (returns : Returns) (mode : Option Mode) (declarations : List Declaration)
-      → means site.set.phrases site.block name ≡ Some k → slice_get site.set.phrases k ≡ Some p → p.node ≡ OfUnit unit (Function place inputs returns mode) declarations → IsFunction u site p
+
+-- a FUNCTION that it means may be called
+abbrev pub AreFunctions : Uses → Site → List ℕ → Type 0
+AreFunctions u site name =
+    (k : ℕ) (p : Phrase) (unit : Naming) (place : Place) (inputs : List Naming) (returns : Returns) (mode : Option Mode) (declarations : List Declaration) → means site.set.phrases site.block name ≡ Some k
+    → slice_get site.set.phrases k ≡ Some p → p.node ≡ OfUnit unit (Function place inputs returns mode) declarations → IsFunction u site p
 
 -- a FUNCTION that it means has parameters that are known
 abbrev pub FunctionParameters : Uses → Site → List ℕ → Type 0

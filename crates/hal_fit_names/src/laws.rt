@@ -27,9 +27,9 @@ ghost use Rattle.hal_constants.specs.Constants.{constant_of};
 ghost use Rattle.hal_constants.specs.Known.{kind_of_type, known};
 ghost use Rattle.hal_constants.specs.Naming.{is_value_item};
 ghost use Rattle.hal_shapes.specs.Arguments.{parameter_of};
-ghost use Rattle.hal_meaning.specs.Bodies.{bodies_of};
+ghost use Rattle.hal_meaning.specs.Bodies.{bodies_of, Body};
 ghost use Rattle.hal_meaning.specs.Calls.{inputs_of};
-ghost use Rattle.hal_meaning.specs.Sets.{Set};
+ghost use Rattle.hal_meaning.specs.Sets.{body_at, Set};
 ghost use Rattle.hal_meaning.specs.Variables.{name_meant};
 ghost use Rattle.hal_code.specs.declared.image.ImageParts.{ImageParts};
 ghost use Rattle.hal_agreement.specs.Sites.{Site, here_at};
@@ -37,7 +37,6 @@ ghost use Rattle.hal_fitting.specs.Fitting.{Ground};
 ghost use Rattle.hal_fit_expr.specs.Uses.{Uses};
 ghost use Rattle.hal_fit_rules.specs.Agreeing.{FormAgrees, NameAgrees};
 ghost use Rattle.hal_fit_rules.specs.Begun.{AreFirst};
-ghost use Rattle.hal_fit_rules.specs.Happening.{AsksAll};
 ghost use Rattle.hal_fit_rules.specs.Leaves.{is_value_role};
 ghost use Rattle.hal_fit_rules.specs.Owned.{IsFunction, IsOwn, IsPlainData};
 ghost use Rattle.hal_fit_rules.specs.Passing.{AreParameters, IsParameter, IsProcedure};
@@ -46,13 +45,15 @@ ghost use Rattle.hal_fit_rules.specs.Received.{CellsAgree};
 ghost use Rattle.hal_fit_rules.specs.Signalled.{EventAgrees, HasEvents};
 ghost use Rattle.hal_fit_rules.specs.Used.{PhraseKnown, UnitKnown};
 ghost use Rattle.hal_fit_rules.specs.Valued.{HasConstants};
-ghost use Rattle.hal_fit_names.specs.Bodied.{HasBody};
-ghost use Rattle.hal_fit_names.specs.Known.{is_left};
-ghost use Rattle.hal_fit_names.specs.Named.{AreLeft, AreProcedures, FunctionParameters};
+ghost use Rattle.hal_fit_names.specs.Bodied.{HasBody, IsUnitOf};
+ghost use Rattle.hal_fit_names.specs.Known.{is_left_node};
+ghost use Rattle.hal_fit_names.specs.Named.{AreFunctions, AreLeft, AreProcedures, FunctionParameters};
+ghost use Rattle.hal_fit_names.specs.Serving.{MayAsk, ServesUnit};
 ghost use Rattle.hal_fit_names.specs.Spelled.{AreSpelled};
 ghost use Rattle.hal_fit_names.specs.Suited.{HasFitLiterals, is_templated, Suits};
-ghost use Rattle.hal_fit_names.specs.Used.{AreDeclaredParameters, HaveSizes, IsHome, NamesAreLeft};
+ghost use Rattle.hal_fit_names.specs.Used.{AreDeclaredParameters, HaveSizes, HaveValues, IsHome, NamesAreOwn};
 
+use hal_fit_constants::what_the_checks_know_is_constant;
 use hal_names::{
     a_key_is_found_at_its_first_declaration, phrases_are_counted, what_is_meant_declares_the_name,
 };
@@ -111,15 +112,15 @@ pub fn names_of_no_template_are_own()
         → IsOwn site name }
 {}
 
-/// A name without a path agrees that is used as a value, outside of UPDATE blocks, in a set of files that breaks no rule of names or types, also behind `$`: it means
-/// data, an event, a process, a structure, a constant, a FUNCTION or a built-in function, each of which is for the meaning what it is for the checks. What is left is
-/// that it means nothing of a written template, that a constant has a value, and that a FUNCTION may be called (language document, Names).
+/// A name without a path agrees that is used as a value in a set of files that breaks no rule of names or types, also behind `$`: it means data, an event, a process, a
+/// structure, a constant, a FUNCTION or a built-in function, each of which is for the meaning what it is for the checks. What is left is that it means nothing of a
+/// written template, that a constant has a value, that a FUNCTION may be called, and an event, a process or RUNTIME asked for (language document, Names).
 pub fn names_of_values_agree()
     ensures reference { (u : Uses) (files : List File) (site : Site) (q : Phrase) (role : Role) (place : Place) (name : List ℕ) (subscript : Subscript) → site.set.phrases ≡ phrases_of files → HasConstants site
-        → AsksAll u site → AreLeft u site name → IsSound rows (phrases_of files) → IsSound type_rows (phrases_of files) → HasFitLiterals (phrases_of files) → IsAmong q (phrases_of files)
+        → AreLeft site name → MayAsk u site name → AreFunctions u site name → IsSound rows (phrases_of files) → IsSound type_rows (phrases_of files) → HasFitLiterals (phrases_of files) → IsAmong q (phrases_of files)
         → q.node ≡ OfReference role (Refers place name [] subscript) → usage_of role ≡ usage.Value → q.around.block ≡ site.block → NameAgrees u site site.set.phrases site.block name [] }
-    ensures subscript { (u : Uses) (files : List File) (site : Site) (q : Phrase) (name : Naming) → site.set.phrases ≡ phrases_of files → HasConstants site → AsksAll u site → AreLeft u site name.name
-        → IsSound rows (phrases_of files) → IsSound type_rows (phrases_of files) → HasFitLiterals (phrases_of files) → IsAmong q (phrases_of files) → q.node ≡ OfSubscriptName name
+    ensures subscript { (u : Uses) (files : List File) (site : Site) (q : Phrase) (name : Naming) → site.set.phrases ≡ phrases_of files → HasConstants site → AreLeft site name.name
+        → MayAsk u site name.name → AreFunctions u site name.name → IsSound rows (phrases_of files) → IsSound type_rows (phrases_of files) → HasFitLiterals (phrases_of files) → IsAmong q (phrases_of files) → q.node ≡ OfSubscriptName name
         → q.around.block ≡ site.block → NameAgrees u site site.set.phrases site.block name.name [] }
 {
     phrases_are_counted();
@@ -129,15 +130,15 @@ pub fn names_of_values_agree()
 /// The name of a receiver without a path, of an ASSIGN argument, or of the variable of DO FOR means cells that are for the meaning what they are for the checks (language document, Assignments
 /// and Calls).
 pub fn names_of_receivers_agree()
-    ensures receiver { (u : Uses) (files : List File) (site : Site) (q : Phrase) (place : Place) (name : List ℕ) (subscript : Subscript) → site.set.phrases ≡ phrases_of files → HasConstants site
-        → AsksAll u site → AreLeft u site name → IsSound rows (phrases_of files) → IsSound type_rows (phrases_of files) → HasFitLiterals (phrases_of files) → IsAmong q (phrases_of files)
+    ensures receiver { (files : List File) (site : Site) (q : Phrase) (place : Place) (name : List ℕ) (subscript : Subscript) → site.set.phrases ≡ phrases_of files → HasConstants site
+        → AreLeft site name → IsSound rows (phrases_of files) → IsSound type_rows (phrases_of files) → HasFitLiterals (phrases_of files) → IsAmong q (phrases_of files)
         → q.node ≡ OfReference role.Receiver (Refers place name [] subscript) → q.around.block ≡ site.block
         → CellsAgree site.set.phrases [] (means site.set.phrases site.block name) (name_meant (here_at site) name []) }
-    ensures output { (u : Uses) (files : List File) (site : Site) (q : Phrase) (place : Place) (name : List ℕ) (subscript : Subscript) → site.set.phrases ≡ phrases_of files → HasConstants site
-        → AsksAll u site → AreLeft u site name → IsSound rows (phrases_of files) → IsSound type_rows (phrases_of files) → HasFitLiterals (phrases_of files) → IsAmong q (phrases_of files)
+    ensures output { (files : List File) (site : Site) (q : Phrase) (place : Place) (name : List ℕ) (subscript : Subscript) → site.set.phrases ≡ phrases_of files → HasConstants site
+        → AreLeft site name → IsSound rows (phrases_of files) → IsSound type_rows (phrases_of files) → HasFitLiterals (phrases_of files) → IsAmong q (phrases_of files)
         → q.node ≡ OfReference role.Output (Refers place name [] subscript) → q.around.block ≡ site.block
         → CellsAgree site.set.phrases [] (means site.set.phrases site.block name) (name_meant (here_at site) name []) }
-    ensures variable { (u : Uses) (files : List File) (site : Site) (q : Phrase) (name : Naming) → site.set.phrases ≡ phrases_of files → HasConstants site → AsksAll u site → AreLeft u site name.name
+    ensures variable { (files : List File) (site : Site) (q : Phrase) (name : Naming) → site.set.phrases ≡ phrases_of files → HasConstants site → AreLeft site name.name
         → IsSound rows (phrases_of files) → IsSound type_rows (phrases_of files) → HasFitLiterals (phrases_of files) → IsAmong q (phrases_of files) → q.node ≡ OfVariable name → q.around.block ≡ site.block
         → CellsAgree site.set.phrases [] (means site.set.phrases site.block name.name) (name_meant (here_at site) name.name []) }
 {
@@ -147,7 +148,7 @@ pub fn names_of_receivers_agree()
 
 /// An event that is signalled, set or reset is for an image with the set's events what it is for the checks (language document, Events).
 pub fn events_that_are_changed_agree()
-    ensures { (u : Uses) (image : ImageParts) (files : List File) (site : Site) (q : Phrase) (event : Eventful) → site.set.phrases ≡ phrases_of files → HasConstants site → AsksAll u site → AreLeft u site event.name.name
+    ensures { (image : ImageParts) (files : List File) (site : Site) (q : Phrase) (event : Eventful) → site.set.phrases ≡ phrases_of files → HasConstants site → AreLeft site event.name.name
         → HasEvents image site → IsSound rows (phrases_of files) → IsSound type_rows (phrases_of files) → HasFitLiterals (phrases_of files) → IsAmong q (phrases_of files) → q.node ≡ OfEvent event
         → q.around.block ≡ site.block → EventAgrees image site site.set.phrases site.block event }
 {
@@ -155,10 +156,11 @@ pub fn events_that_are_changed_agree()
     what_is_meant_declares_the_name();
 }
 
-/// Each unit of a set of files has its body, which has the head of the unit's phrase (language document, Units).
+/// Each unit of a set of files has its body, which has the head of the unit's phrase; and each body is that of such a unit (language document, Units).
 pub fn units_have_bodies()
-    ensures { (files : List File) (s : Set) (k : ℕ) (p : Phrase) (name : Naming) (head : Head) (declarations : List Declaration) → s.phrases ≡ phrases_of files → s.bodies ≡ bodies_of files s.phrases
+    ensures body { (files : List File) (s : Set) (k : ℕ) (p : Phrase) (name : Naming) (head : Head) (declarations : List Declaration) → s.phrases ≡ phrases_of files → s.bodies ≡ bodies_of files s.phrases
         → slice_get s.phrases k ≡ Some p → p.node ≡ OfUnit name head declarations → HasBody s.bodies k head }
+    ensures unit { (files : List File) (s : Set) (k : ℕ) (b : Body) → s.phrases ≡ phrases_of files → s.bodies ≡ bodies_of files s.phrases → body_at s k ≡ Some b → IsUnitOf s.phrases k b }
 {
     phrases_are_counted();
 }
@@ -180,8 +182,8 @@ pub fn units_that_may_be_called_are_known()
 /// A call form is for the meaning what it is for the checks, where the parameters of the FUNCTION are known: of a FUNCTION or a built-in function, or the product of data and a
 /// parenthesis (language document, Products and Built-in functions).
 pub fn call_forms_agree()
-    ensures { (u : Uses) (files : List File) (site : Site) (q : Phrase) (place : Place) (name : List ℕ) (arguments : Expressions) → site.set.phrases ≡ phrases_of files → HasConstants site → AsksAll u site
-        → AreLeft u site name → FunctionParameters u site name → IsSound rows (phrases_of files) → IsSound type_rows (phrases_of files) → HasFitLiterals (phrases_of files) → IsAmong q (phrases_of files) → q.node ≡ OfCallForm place name arguments → q.around.block ≡ site.block
+    ensures { (u : Uses) (files : List File) (site : Site) (q : Phrase) (place : Place) (name : List ℕ) (arguments : Expressions) → site.set.phrases ≡ phrases_of files → HasConstants site → AreLeft site name → AreFunctions u site name
+        → FunctionParameters u site name → IsSound rows (phrases_of files) → IsSound type_rows (phrases_of files) → HasFitLiterals (phrases_of files) → IsAmong q (phrases_of files) → q.node ≡ OfCallForm place name arguments → q.around.block ≡ site.block
         → FormAgrees u site site.set.phrases site.block name }
 {
     phrases_are_counted();
@@ -191,7 +193,7 @@ pub fn call_forms_agree()
 /// CALL is of a PROCEDURE that is for the meaning what it is for the checks, where it may be called and its parameters are known (language document, Calls).
 pub fn calls_agree()
     ensures { (u : Uses) (files : List File) (site : Site) (q : Phrase) (name : Naming) (arguments : Expressions) (receivers : List Reference) → site.set.phrases ≡ phrases_of files → HasConstants site
-        → AsksAll u site → AreLeft u site name.name → AreProcedures u site name.name → IsSound rows (phrases_of files) → IsSound type_rows (phrases_of files) → HasFitLiterals (phrases_of files) → IsAmong q (phrases_of files) → q.node ≡ OfCall name arguments receivers
+        → AreLeft site name.name → AreProcedures u site name.name → IsSound rows (phrases_of files) → IsSound type_rows (phrases_of files) → HasFitLiterals (phrases_of files) → IsAmong q (phrases_of files) → q.node ≡ OfCall name arguments receivers
         → q.around.block ≡ site.block → ProcedureAgrees u site site.set.phrases site.block name }
 {
     phrases_are_counted();
@@ -216,17 +218,28 @@ pub fn temporary_variables_mean_themselves()
     a_key_is_found_at_its_first_declaration();
 }
 
-/// So a unit is known, as the law of statements asks, where this is known of the phrases that are left: values and calls in UPDATE blocks, references with a path, operands of
-/// event expressions, and channels. What is left of its names is that they mean nothing of written templates, that constants have values, and
-/// that units that they mean may be called.
+/// A constant that is its value has one, in a set of files that breaks no rule of names or types and that words spell: one more round tells none that isn't known, and the
+/// value that it is given is one that cells of its type hold (language document, Constants).
+pub fn constants_have_values()
+    ensures { (files : List File) (s : Set) → s.phrases ≡ phrases_of files → s.constants ≡ known s.phrases → IsSound rows (phrases_of files) → IsSound type_rows (phrases_of files)
+        → HasFitLiterals (phrases_of files) → AreSpelled (phrases_of files) → HaveValues s }
+{
+    phrases_are_counted();
+    what_is_meant_declares_the_name();
+}
+
+/// So a unit is known, as the law of statements asks, by all that serves it, where this is known of the phrases that are left: references with a path, but for operands of
+/// event expressions. What is left of names is that they mean nothing of written templates.
 pub fn units_are_known_where_what_is_left_is()
     ensures { (image : ImageParts) (g : Ground) (u : Bool → Uses) (files : List File) (site : Site) (home : ℕ) → site.set.phrases ≡ phrases_of files → site.set.bodies ≡ bodies_of files site.set.phrases
-        → HasConstants site → AsksAll (u false) site → NamesAreLeft (u false) site home → IsHome g site home → HasEvents image site → IsSound rows (phrases_of files) → IsSound type_rows (phrases_of files)
-        → HasFitLiterals (phrases_of files) → AreSpelled (phrases_of files) → ((q : Phrase) → IsAmong q site.set.phrases → q.around.home ≡ home → is_left q ≡ true → PhraseKnown image g u site q)
-        → UnitKnown image g u site home }
+        → HasConstants site → ServesUnit site.set image u home → NamesAreOwn site.set.phrases → IsHome g site home → HasEvents image site → IsSound rows (phrases_of files)
+        → IsSound type_rows (phrases_of files) → HasFitLiterals (phrases_of files) → AreSpelled (phrases_of files)
+        → ((q : Phrase) → IsAmong q site.set.phrases → q.around.home ≡ home → is_left_node q.node ≡ true → PhraseKnown image g u site q) → UnitKnown image g u site home }
 {
     phrases_are_counted();
     what_is_meant_declares_the_name();
     input_parameters_are_declared();
     temporary_variables_mean_themselves();
+    what_the_checks_know_is_constant();
+    constants_have_values();
 }

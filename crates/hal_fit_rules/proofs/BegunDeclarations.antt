@@ -26,13 +26,13 @@ kind_first d a (StructureKind p template copies) = then_ (one d a _) (optional_f
 mutual
   unfolding gathered_initial gathered_initials
 
-  initial_first : (d : List Phrase) (a : Around) (x : Initial) → AreFirst d (gathered_initial d a x)
+  pub initial_first : (d : List Phrase) (a : Around) (x : Initial) → AreFirst d (gathered_initial d a x)
   initial_first d a (Value v) = then_ (one d a _) (expression_first _ (below d a) _ v)
   initial_first d a (LiteralTimes p count sign at literal) = one d a _
   initial_first d a (NameTimes p count sign name) = then_ (one d a _) (one _ (below d a) _)
   initial_first d a (ListTimes p count values) = then_ (one d a _) (initials_first _ (below d a) values)
 
-  initials_first : (d : List Phrase) (a : Around) (xs : Initials) → AreFirst d (gathered_initials d a xs)
+  pub initials_first : (d : List Phrase) (a : Around) (xs : Initials) → AreFirst d (gathered_initials d a xs)
   initials_first d a NoInitials = no_step d
   initials_first d a (MoreInitials first others) = then_ (initial_first d a first) (initials_first _ a others)
 

@@ -27,6 +27,7 @@ mod Leaving
 pub mod Happening
 mod Procedures
 mod Marking
+mod Ruling
 mod Using
 mod UsingStatements
 mod UsingUnits

@@ -95,7 +95,7 @@ module _ (ps : List Phrase) where
   calm_by block t (Some outer) eventless calm = calm
 
   -- below an expression that is none of events there is none
-  calm_below : (k : ℕ) (a : Around) (t : Expression) → slice_get ps k ≡ Some (phrase k a (OfExpression role.EventOrTime t)) → holds_event ps a.block t ≡ false → IsCalm ps a.block a.parent → IsCalm ps a.block k
+  pub calm_below : (k : ℕ) (a : Around) (t : Expression) → slice_get ps k ≡ Some (phrase k a (OfExpression role.EventOrTime t)) → holds_event ps a.block t ≡ false → IsCalm ps a.block a.parent → IsCalm ps a.block k
   unfolding limit_around
   calm_below k a t there eventless calm zero = refl
   calm_below k a t there eventless calm (suc n) =

@@ -1,13 +1,15 @@
 -- What has to be known of the names that a phrase uses, where it stands.
-use Rattle.std.specs.Prelude.{◌≡◌, ℕ, Bool, true, false, List, [], ◌∷◌, Option, Some, None}
+use Rattle.std.specs.Prelude.{◌≡◌, ◌&&◌, ℕ, Bool, true, false, List, [], ◌∷◌, Option, Some, None}
 use Rattle.std.specs.Option.{is_some}
 use Rattle.hal_grammar.specs.Leaves.{Naming}
 use Rattle.hal_grammar.specs.Expressions.{Expression, Literal, Decimal, Reference, Refers}
 use Rattle.hal_phrases.specs.declared.role.Role.{Role}
 use Rattle.hal_phrases.specs.declared.role.Role.TheVariants as role
 use Rattle.hal_phrases.specs.Phrases.{Node, Phrase, OfExpression, OfReference, OfSubscriptName, OfCallForm, OfTemporaryGroup, OfVariable, OfAssignment, OfReturn, OfCall, OfEvent}
+use Rattle.hal_phrases.specs.GatheredExpressions.{gathered}
 use Rattle.hal_names.specs.Means.{means}
 use Rattle.hal_scope.specs.Rules.{IsAmong}
+use Rattle.hal_scope.specs.Uses.{is_in_event, is_nil, means_event}
 use Rattle.hal_meaning.specs.Statements.{kind_meant}
 use Rattle.hal_meaning.specs.Variables.{name_meant}
 use Rattle.hal_code.specs.declared.image.ImageParts.{ImageParts}
@@ -19,6 +21,7 @@ use Rattle.hal_fitting.specs.Fitting.{Ground}
 use Rattle.hal_fit_expr.specs.Uses.{Uses}
 use Rattle.hal_fit_expr.specs.Sorted.{sort_of_name}
 use Rattle.hal_fit_classes.specs.Kinded.{IsFitLiteral}
+use Rattle.hal_fit_rules.specs.Begun.{AreFirst}
 use Rattle.hal_fit_rules.specs.Agreeing.{NameAgrees, FormAgrees}
 use Rattle.hal_fit_rules.specs.Received.{CellsAgree}
 use Rattle.hal_fit_rules.specs.Passed.{ProcedureAgrees}
@@ -32,14 +35,18 @@ is_taking role.Receiver = true
 is_taking role.Output = true
 is_taking other = false
 
--- a name with a path, by what the reference is for: cells where it takes a value, for which READ has a kind
-abbrev pub NameKnown : Uses → Site → List Phrase → ℕ → Role → List ℕ → List Naming → Type 0
-NameKnown u site ps block role.Receiver name path = CellsAgree ps path (means ps block name) (name_meant (here_at site) name []) × (is_kind (kind_meant path (name_meant (here_at site) name [])) ≡ true)
-NameKnown u site ps block role.Output name path = CellsAgree ps path (means ps block name) (name_meant (here_at site) name [])
-NameKnown u site ps block other name path = NameAgrees u site ps block name path
+-- a name with a path, by what the reference of this phrase is for: cells where it takes a value, for which READ has a kind; nothing in an event expression; and behind UNTIL of SCHEDULE a value where no event stands
+abbrev pub NameKnown : Uses → Site → List Phrase → Phrase → Role → List ℕ → List Naming → Type 0
+NameKnown u site ps p role.Receiver name path =
+    CellsAgree ps path (means ps p.around.block name) (name_meant (here_at site) name []) × (is_kind (kind_meant path (name_meant (here_at site) name [])) ≡ true)
+NameKnown u site ps p role.Output name path = CellsAgree ps path (means ps p.around.block name) (name_meant (here_at site) name [])
+NameKnown u site ps p role.Event name path = Unit {0}
+NameKnown u site ps p role.EventOrTime name path =
+    is_in_event ps p ≡ false → (is_nil path && means_event ps p.around.block name) ≡ false → NameAgrees u site ps p.around.block name path
+NameKnown u site ps p other name path = NameAgrees u site ps p.around.block name path
 
-abbrev pub ReferenceKnown : Uses → Site → List Phrase → ℕ → Role → Reference → Type 0
-ReferenceKnown u site ps block r (Refers place name path subscript) = NameKnown u site ps block r name path
+abbrev pub ReferenceKnown : Uses → Site → List Phrase → Phrase → Role → Reference → Type 0
+ReferenceKnown u site ps p r (Refers place name path subscript) = NameKnown u site ps p r name path
 
 -- a literal, and a decimal that is a time
 abbrev pub LeafKnown : Expression → Type 0
@@ -47,8 +54,9 @@ LeafKnown (Literal place literal) = IsFitLiteral literal
 LeafKnown (Decimal place number) = is_time (time.Milliseconds number) ≡ true
 LeafKnown other = Unit {0}
 
+-- a channel, whose phrases stand behind these
 abbrev pub ChannelKnown : Site → List Phrase → Phrase → Role → Expression → Type 0
-ChannelKnown site ps p role.Channel tree = ChannelAgrees site ps p tree
+ChannelKnown site ps p role.Channel tree = (d : List Phrase) → AreFirst (gathered d p.around role.Channel tree) ps → ChannelAgrees site ps p tree
 ChannelKnown site ps p other tree = Unit {0}
 
 -- an assignment has a receiver
@@ -63,7 +71,7 @@ ReturnKnown image g site ps home (Some tree) = UnitAgrees g.block site ps home
 -- a phrase that stands at this site
 abbrev pub NodeKnown : ImageParts → Ground → Uses → Site → List Phrase → Phrase → Node → Type 0
 NodeKnown image g u site ps p (OfExpression r tree) = LeafKnown tree × ChannelKnown site ps p r tree
-NodeKnown image g u site ps p (OfReference r reference) = ReferenceKnown u site ps p.around.block r reference
+NodeKnown image g u site ps p (OfReference r reference) = ReferenceKnown u site ps p r reference
 NodeKnown image g u site ps p (OfSubscriptName name) = NameAgrees u site ps p.around.block name.name []
 NodeKnown image g u site ps p (OfCallForm place name arguments) = FormAgrees u site ps p.around.block name
 NodeKnown image g u site ps p (OfAssignment receivers value) = HasReceiver receivers

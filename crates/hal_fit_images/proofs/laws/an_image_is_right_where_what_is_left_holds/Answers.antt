@@ -15,6 +15,7 @@ use Rattle.hal_meaning.specs.Bodies.{processes_of}
 use Rattle.hal_meaning.specs.ReportNames.{path_of}
 use Rattle.hal_meaning.specs.Runs.{places_of_process}
 use Rattle.hal_meaning.specs.Sets.{Set, set_of}
+use Rattle.hal_agreement.specs.PlacedBlocks.{unit_site}
 use Rattle.hal_link.proofs.Linked.{image_placed}
 use Rattle.hal_link.specs.CalledViews.{views_of}
 use Rattle.hal_link.specs.Shapes.{Shapes, shapes_of}
@@ -23,6 +24,7 @@ use Rattle.hal_fit_layout.specs.Rows.{IsNumbered}
 use Rattle.hal_fit_rows.proofs.Made.{image_is}
 use Rattle.hal_fit_images.proofs.Knowing.{all_fit, rows_of_image}
 use Rattle.hal_fit_images.proofs.Serving.{AreGiven}
+use Rattle.hal_fit_images.proofs.Units.{UnitsAreKnown, units_are_known}
 use Rattle.hal_fit_images.proofs.laws.an_image_is_right_where_what_is_left_holds.Goals as goal
 
 pub returns : goal.returns
@@ -35,6 +37,8 @@ returns c turns files image is accepted few_turns left =
     let stored = c.parameters_of_units_are_stored.ensures in
     let calls = c.what_update_blocks_call_is_harmless.ensures in
     let statements = c.the_statements_of_each_known_unit_fit.ensures in
+    let words = c.what_right_words_spell_is_spelled.ensures in
+    let parts = words.parts files accepted.spelled in
     let given : AreGiven s views image =
     record {
       locked = accepted.locked;
@@ -50,13 +54,19 @@ returns c turns files image is accepted few_turns left =
       own = blocks.own turns files views image is;
       few = tables.few_processes;
     } in
+    let units : UnitsAreKnown s image =
+    units_are_known s image counted left (λ unit b found. c.units_have_bodies.ensures.unit files s unit b refl refl found)
+    (λ g u places b serves stands rest.
+    c.units_are_known_where_what_is_left_is.ensures image g u files (unit_site s places b) b.number refl refl refl serves left.owned stands
+    (record { tables = (image_placed turns files views image is).tables; processes = length-map (processes_of (phrases_of files)) (path_of (phrases_of files)); events = refl }) accepted.named accepted.typed
+    (words.literals files accepted.spelled) (words.lists files accepted.spelled) rest) in
     let shapes : shapes_of s ≡ image.shapes = ap (λ (x : ImageParts). x.shapes) (image_is s views image is).1 in
     c.an_image_of_blocks_that_fit_is_right.ensures turns files views image is
-    (all_fit s counted views image is tables.few_processes (stored.inputs turns files accepted.named accepted.parts) (stored.outputs turns files accepted.named accepted.parts) accepted.few given left)
+    (all_fit s counted views image is tables.few_processes (stored.inputs turns files accepted.named parts) (stored.outputs turns files accepted.named parts) accepted.few given units)
     (rows_of_image s views image is tables refl (length-map (processes_of (phrases_of files)) (path_of (phrases_of files))) counted
     (c.a_set_that_breaks_no_rule_of_calls_has_no_cycles.ensures.reentrant (phrases_of files) counted accepted.called) accepted.within.cells (blocks.own turns files views image is)
     (record {
-      references = λ process. subst (λ (x : Shapes). Each (IsNumbered s x) (places_of_process s process)) shapes (c.references_of_processes_are_to_shapes.ensures turns files accepted.named accepted.parts process);
+      references = λ process. subst (λ (x : Shapes). Each (IsNumbered s x) (places_of_process s process)) shapes (c.references_of_processes_are_to_shapes.ensures turns files accepted.named parts process);
       shapes = c.the_shapes_of_an_image_are_right.ensures s views image is accepted.few;
       views = and_from (list_all (form_right image) image.views && nat_le (sum_by (spread_of image) image.views) spread_limit) (views_lie image 0 image.views)
           (and_from (list_all (form_right image) image.views) (nat_le (sum_by (spread_of image) image.views) spread_limit) (c.views_of_an_image_are_formed.ensures s image is)

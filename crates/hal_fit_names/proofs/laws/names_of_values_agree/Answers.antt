@@ -9,15 +9,15 @@ use Rattle.hal_fit_names.proofs.Placing.{NodePlaced, items_are_placed}
 use Rattle.hal_fit_names.proofs.laws.names_of_values_agree.Goals as goal
 
 pub returns-clause-reference : goal.returns-clause-reference
-returns-clause-reference c u files site q role place name subscript whole has asks left named sound literals within is wanted here =
+returns-clause-reference c u files site q role place name subscript whole has left may functions named sound literals within is wanted here =
     let counted = c.phrases_are_counted.ensures files in
     value_agrees u site (subst (IsSound rows) (sym whole) named) (subst (IsSound type_rows) (sym whole) sound) (subst IsCounted (sym whole) counted)
-    (subst AreDeclared (sym whole) (c.what_is_meant_declares_the_name.ensures files)) (subst HasFitLiterals (sym whole) literals) has asks
-    (subst (λ (ps : List Phrase). (p : Phrase) → IsAmong p ps → NodePlaced ps p p.node) (sym whole) (items_are_placed files counted)) q role place name subscript left (subst (λ (ps : List Phrase). IsAmong q ps) (sym whole) within) is wanted here
+    (subst AreDeclared (sym whole) (c.what_is_meant_declares_the_name.ensures files)) (subst HasFitLiterals (sym whole) literals) has
+    (subst (λ (ps : List Phrase). (p : Phrase) → IsAmong p ps → NodePlaced ps p p.node) (sym whole) (items_are_placed files counted)) q role place name subscript left may functions (subst (λ (ps : List Phrase). IsAmong q ps) (sym whole) within) is wanted here
 
 pub returns-clause-subscript : goal.returns-clause-subscript
-returns-clause-subscript c u files site q name whole has asks left named sound literals within is here =
+returns-clause-subscript c u files site q name whole has left may functions named sound literals within is here =
     let counted = c.phrases_are_counted.ensures files in
     subscript_agrees u site (subst (IsSound rows) (sym whole) named) (subst (IsSound type_rows) (sym whole) sound) (subst IsCounted (sym whole) counted)
-    (subst AreDeclared (sym whole) (c.what_is_meant_declares_the_name.ensures files)) (subst HasFitLiterals (sym whole) literals) has asks
-    (subst (λ (ps : List Phrase). (p : Phrase) → IsAmong p ps → NodePlaced ps p p.node) (sym whole) (items_are_placed files counted)) q name left (subst (λ (ps : List Phrase). IsAmong q ps) (sym whole) within) is here
+    (subst AreDeclared (sym whole) (c.what_is_meant_declares_the_name.ensures files)) (subst HasFitLiterals (sym whole) literals) has
+    (subst (λ (ps : List Phrase). (p : Phrase) → IsAmong p ps → NodePlaced ps p p.node) (sym whole) (items_are_placed files counted)) q name left may functions (subst (λ (ps : List Phrase). IsAmong q ps) (sym whole) within) is here

@@ -12,18 +12,21 @@ use Rattle.hal_fit_names.specs.Used.{AreDeclaredParameters}
 use Rattle.hal_fit_names.specs.Spelled.{AreSpelled}
 use Rattle.hal_fit_names.specs.Suited.{AreDeclared, HasFitLiterals}
 use Rattle.hal_fit_names.proofs.Bodied.{unit_has_body}
+use Rattle.hal_fit_names.proofs.UnitPhrases.{body_has_phrase}
 use Rattle.hal_fit_names.proofs.UnitsKnown.{unit_known}
 use Rattle.hal_fit_names.proofs.Placing.{NodePlaced, items_are_placed}
 use Rattle.hal_fit_names.proofs.laws.units_are_known_where_what_is_left_is.Goals as goal
 
 pub returns : goal.returns
-returns c image g u files site home whole bodies has asks left stands events named sound literals spelled rest =
+returns c image g u files site home whole bodies has serves owned stands events named sound literals spelled rest =
     let counted = c.phrases_are_counted.ensures files in
     let each_counted = subst IsCounted (sym whole) counted in
     unit_known image g u site home (subst (IsSound rows) (sym whole) named) (subst (IsSound type_rows) (sym whole) sound) each_counted (subst AreDeclared (sym whole) (c.what_is_meant_declares_the_name.ensures files))
-    (subst HasFitLiterals (sym whole) literals) (subst AreSpelled (sym whole) spelled) has asks left stands (subst (λ (ps : List Phrase). (p : Phrase) → IsAmong p ps → NodePlaced ps p p.node) (sym whole) (items_are_placed files counted))
+    (subst HasFitLiterals (sym whole) literals) (subst AreSpelled (sym whole) spelled) has serves owned
+    (c.constants_have_values.ensures files site.set whole has named sound literals spelled) stands (subst (λ (ps : List Phrase). (p : Phrase) → IsAmong p ps → NodePlaced ps p p.node) (sym whole) (items_are_placed files counted))
     (λ k p name head declarations found is. unit_has_body files site.set k p name head declarations each_counted whole bodies found is)
+    (λ k b found. body_has_phrase files site.set k b each_counted whole bodies found)
     (subst (λ (ps : List Phrase). (k : ℕ) (p : Phrase) (name : Naming) (head : Head) (declarations : List Declaration) → slice_get ps k ≡ Some p → p.node ≡ OfUnit name head declarations → AreDeclaredParameters ps k (inputs_of head))
-    (sym whole) (λ k p name head declarations found is. c.input_parameters_are_declared.ensures files k p name head declarations named sound spelled.sizes found is)) events
+    (sym whole) (λ k p name head declarations found is. c.input_parameters_are_declared.ensures files k p name head declarations named sound spelled.sizes found is)) events c.what_the_checks_know_is_constant.ensures.constant
     (subst (λ (ps : List Phrase). (k : ℕ) (p : Phrase) (labels : List Naming) (variable : Naming) → slice_get ps k ≡ Some p → p.node ≡ OfTemporaryGroup labels variable → means ps k variable.name ≡ Some k) (sym whole)
     (c.temporary_variables_mean_themselves.ensures files)) rest

@@ -1,0 +1,9 @@
+mod Adding
+mod SpelledExpressions
+mod SpelledDeclarations
+mod SpelledStatements
+mod SpelledFiles
+mod Fitting
+mod Chosen
+mod RightNumbers
+mod RightWords
