@@ -95,7 +95,7 @@ few_shapes (x ∷ xs) joined some =
     let rest = few_shapes xs joined.1 some.1 in
     omega (arith, sum, first, rest)
 
-each_at : {X : Type 0} (P : X → Type 0) (xs : List X) (k : ℕ) (x : X) → Each P xs → slice_get xs k ≡ Some x → P x
+pub each_at : {X : Type 0} (P : X → Type 0) (xs : List X) (k : ℕ) (x : X) → Each P xs → slice_get xs k ≡ Some x → P x
 each_at P [] k x each is = absurd (cc)
 each_at P (y ∷ xs) zero x each is = subst P (let same : y ≡ x = cc in same) each.0
 each_at P (y ∷ xs) (suc k) x each is = each_at P xs k x each.1 is

@@ -26,10 +26,10 @@ mod Outside
 mod Leaving
 pub mod Happening
 mod Procedures
-mod Marking
+pub mod Marking
 mod Using
 mod UsingStatements
-mod UsingUnits
+pub mod UsingUnits
 mod Parameters
 pub mod Calling
 pub mod Constants

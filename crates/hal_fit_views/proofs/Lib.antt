@@ -1,0 +1,9 @@
+mod Adding
+mod Leaves
+mod Calling
+mod Expressions
+mod Receivers
+mod Statements
+mod Units
+mod Linked
+mod Together
