@@ -12,11 +12,11 @@ use Rattle.hal_code.specs.declared.image.ImageParts.{ImageParts}
 use Rattle.hal_code.specs.declared.row.Block.{Block}
 use Rattle.hal_code.specs.Controlling as machine
 use Rattle.hal_code.specs.Operands.{events_of}
-use Rattle.hal_code.specs.Right.{views_lie}
 use Rattle.hal_agreement.specs.PlacedBlocks.{unit_site}
 use Rattle.hal_fit_expr.specs.Uses.{Uses}
 use Rattle.hal_fit_rules.specs.Used.{UnitKnown}
 use Rattle.hal_link.specs.Outlines.{Outline, own_block, outlines_of}
+use Rattle.hal_fit_views.specs.Left.{ViewsLeft}
 use Rattle.hal_fit_images.specs.Blocks.{ground_of}
 
 -- no phrase of a unit does what an UPDATE block may not do, among those inside of UPDATE blocks or those outside
@@ -42,5 +42,5 @@ pub record AreLeft (s : Set) (image : ImageParts) : Type 0 where
   pub units : (number : ℕ) (row : Block) (o : Outline) (b : Body) (place unit : ℕ) → slice_get image.blocks number ≡ Some row → slice_get (outlines_of s) row.process ≡ Some o
       → slice_get o.called place ≡ Some unit → number ≡ o.first + place → body_at s unit ≡ Some b → (is_function b.head ≡ true → machine.zero_of row.result ≡ Some (zero_of b.head))
       → UnitIsKnown s image number row b
-  -- views lie in memory
-  pub lie : views_lie image 0 image.views ≡ true
+  -- what is left of data, so that views lie in memory
+  pub views : ViewsLeft s image

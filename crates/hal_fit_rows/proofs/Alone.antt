@@ -150,7 +150,7 @@ any_same runs (x ∷ xs) is = by (same_runs x runs) refl is (any_same runs xs) w
   by true same any later = record { place = zero; found = x; there = refl; same = same }
   by false other any later = same_later runs x xs (later any)
 
-place_of : {X : Type 0} (xs : List X) (x : X) → IsAmong x xs → (k : ℕ) × (slice_get xs k ≡ Some x)
+pub place_of : {X : Type 0} (xs : List X) (x : X) → IsAmong x xs → (k : ℕ) × (slice_get xs k ≡ Some x)
 place_of [] x among = absurd among
 place_of (y ∷ xs) x (inl same) = (zero, ap Some (sym same))
 place_of (y ∷ xs) x (inr later) = let found = place_of xs x later in (suc found.0, found.1)

@@ -42,13 +42,19 @@ use Rattle.hal_fit_expr.proofs.Given.{number_same}
 use Rattle.hal_fit_calls.specs.Each.{Each}
 use Rattle.hal_fit_calls.proofs.Each.{each_append}
 use Rattle.hal_scope.specs.Rules.{IsAmong}
+use Rattle.hal_fit_rows.specs.Homes.{LeadsHome, AtHome, StandsHome}
 use Rattle.hal_fit_rows.specs.Purposes.{CallsUnit, StandsIn, IsSite, Says, SaysPlaces, HasPlace, IsInput, IsOutput, ByForm, ByCall, ForInput, ForOutput, IsPassed, IsCellFor, IsAreaFor, HasPurpose}
 
 no_copies : (o : Option ℕ) → is_some o ≡ false → o ≡ None
 no_copies None is = refl
 no_copies (Some n) is = absurd (cc)
 
-module _ (s : Set) where
+each_among : {X : Type 0} (P : X → Type 0) (xs : List X) (x : X) → Each P xs → IsAmong x xs → P x
+each_among P [] x each within = absurd within
+each_among P (y ∷ xs) x each (inl same) = subst P (sym same) each.0
+each_among P (y ∷ xs) x each (inr later) = each_among P xs x each.1 later
+
+module _ (s : Set) (homes : Each (StandsHome s.phrases) s.phrases) where
   abbrev AllPurposed : List View → Type 0
   AllPurposed views = Each (HasPurpose s) views
 
@@ -246,13 +252,16 @@ module _ (s : Set) where
     abbrev here : Site
     here = process_site s process body
 
-    site_in : (block : ℕ) → IsSite s process (within_block block here)
-    site_in block = record { unit = unit; body = body; found = found; stands = stands; block = block; is = refl }
+    site_in : (block : ℕ) → LeadsHome s.phrases body.number block → IsSite s process (within_block block here)
+    site_in block leads = record { unit = unit; body = body; found = found; stands = stands; block = block; leads = leads; is = refl }
 
     phrase_added : (views : List View) (p : Phrase) → IsAmong p s.phrases → AllPurposed views → AllPurposed (with_phrase (shapes_of s) here views p)
     phrase_added views p among all = by (p.around.home == body.number) refl where
       by : (b : Bool) → (p.around.home == body.number) ≡ b → AllPurposed (if b then with_node (shapes_of s) (within_block p.around.block here) views p.number p.around.parent p.node else views)
-      by true same = node_added process (within_block p.around.block here) (site_in p.around.block) p among (eqb-true p.around.home body.number same) refl views p.node refl all
+      by true same =
+          let own = eqb-true p.around.home body.number same in
+          let leads = subst (λ k. LeadsHome s.phrases k p.around.block) own (each_among (StandsHome s.phrases) s.phrases p homes among) in
+          node_added process (within_block p.around.block here) (site_in p.around.block leads) p among own refl views p.node refl all
       by false other = all
 
     phrases_added : (views : List View) (ps : List Phrase) → ((p : Phrase) → IsAmong p ps → IsAmong p s.phrases) → AllPurposed views → AllPurposed (with_phrases (shapes_of s) here views ps)
@@ -265,7 +274,7 @@ module _ (s : Set) where
 
     called_in : (views : List View) → AllPurposed views → AllPurposed (with_called (shapes_of s) s process views (Some body))
     called_in views all =
-        parameters_added process here (site_in body.number) (with_phrases (shapes_of s) here views s.phrases) (inputs_of body.head) inputs_here (phrases_added views s.phrases (λ p is. is) all)
+        parameters_added process here (site_in body.number AtHome) (with_phrases (shapes_of s) here views s.phrases) (inputs_of body.head) inputs_here (phrases_added views s.phrases (λ p is. is) all)
 
   -- processes
   body_added : (process unit : ℕ) (views : List View) (o : Option Body) → body_at s unit ≡ o → StandsIn s process unit → AllPurposed views → AllPurposed (with_body (shapes_of s) s process views o)

@@ -30,6 +30,7 @@ use Rattle.hal_gen_expr.specs.Shapes.{runs_of}
 use Rattle.hal_link.specs.Linking.{process_site}
 use Rattle.hal_link.specs.Outlines.{Outline, outlines_of}
 use Rattle.hal_link.specs.Shapes.{Shapes, shapes_of}
+use Rattle.hal_fit_rows.specs.Homes.{LeadsHome}
 
 -- a process calls this unit, by itself or through others
 pub record CallsUnit (s : Set) (process unit : ℕ) : Type 0 where
@@ -44,13 +45,14 @@ pub record CallsUnit (s : Set) (process unit : ℕ) : Type 0 where
 abbrev pub StandsIn : Set → ℕ → ℕ → Type 0
 StandsIn s process unit = (slice_get (processes_of s.phrases) process ≡ Some unit) ⊎ CallsUnit s process unit
 
--- phrases of a unit stand there, in this process
+-- phrases of a unit stand there, in this process: in the unit itself, or in a group with a TEMPORARY variable in it
 pub record IsSite (s : Set) (process : ℕ) (site : Site) : Type 0 where
   pub unit : ℕ
   pub body : Body
   pub found : body_at s unit ≡ Some body
   pub stands : StandsIn s process unit
   pub block : ℕ
+  pub leads : LeadsHome s.phrases body.number block
   pub is : site ≡ within_block block (process_site s process body)
 
 -- a phrase of the unit says this, in the block in which names are looked up

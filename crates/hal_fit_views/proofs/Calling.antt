@@ -39,6 +39,7 @@ use Rattle.hal_fit_calls.proofs.Each.{each_append}
 use Rattle.hal_link.specs.Linking.{process_site}
 use Rattle.hal_link.specs.Outlines.{Outline, outlines_of, numbering_of}
 use Rattle.hal_link.specs.Shapes.{shapes_of}
+use Rattle.hal_fit_rows.specs.Homes.{AtHome}
 use Rattle.hal_fit_rows.specs.Purposes.{CallsUnit, IsSite}
 use Rattle.hal_fit_views.specs.Naming.{Names}
 use Rattle.hal_fit_views.proofs.Leaves.{address_named, element_named}
@@ -102,7 +103,7 @@ module _ (s : Set) (views : List View) (o : Outline) (number : ℕ) (outlined : 
     inner = within_block body.number (process_site s o.process body)
 
     inner_site : IsSite s o.process inner
-    inner_site = record { unit = callee; body = body; found = found; stands = inr calls; block = body.number; is = refl }
+    inner_site = record { unit = callee; body = body; found = found; stands = inr calls; block = body.number; leads = AtHome; is = refl }
 
     -- the store of an argument
     kept_each : (name : Naming) (is : List Instr) → IsAmong name (inputs_at s body.number) → kept_of n site (parameter_named s body.number name) ≡ Some is → Each P is

@@ -43,6 +43,7 @@ use Rattle.hal_link.specs.Outlines.{Outline, numbering_of}
 use Rattle.hal_link.specs.Shapes.{shapes_of}
 use Rattle.hal_fit_rows.specs.Purposes.{IsSite, Says, HasPlace, IsPassed, IsCellFor, IsAreaFor}
 use Rattle.hal_fit_views.specs.Naming.{NamesCell, NamesArea, Names}
+use Rattle.hal_fit_views.proofs.Bases.{base_low}
 
 -- rows of views that are the same
 base_same : (a b : Base) → same_base a b ≡ true → a ≡ b
@@ -93,28 +94,6 @@ least n limit low = omega (arith, low)
 module _ (s : Set) (views : List View) (o : Outline) (site : Site) where
   abbrev n : Numbering
   n = numbering_of (shapes_of s) views o
-
-  -- where data begin, fewer elements lie before than are counted
-  below_low : (limit k m : ℕ) → below limit k ≡ Some m → k < limit
-  below_low limit k m = by (nat_lt k limit) refl where
-    by : (b : Bool) → nat_lt k limit ≡ b → (if b then Some k else None) ≡ Some m → k < limit
-    by true low is = ltb-true k limit low
-    by false low is = absurd (cc)
-
-  base_low : (k at : ℕ) (way : Storing) (from : Base) → base_of site k at way ≡ Some from → at < most
-  base_low k at (InCells group) from is =
-      let low = mapped_is base.Shared (below most (first_cell site.set.phrases site.set.constants k + at)) from is in
-      let less = below_low most (first_cell site.set.phrases site.set.constants k + at) low.0 low.1 in
-      omega (arith, less)
-  base_low k at InPlaces from is =
-      let low = mapped_is base.Own (below most (first_place site.places k + at)) from is in
-      let less = below_low most (first_place site.places k + at) low.0 low.1 in
-      omega (arith, less)
-  base_low k at ByReference from is =
-      let place = then_is (λ p. option_map (base.Through p) (below most at)) (below most (first_place site.places k)) from is in
-      let low = mapped_is (base.Through place.0) (below most at) from place.2 in
-      below_low most at low.0 low.1
-  base_low k at Unstored from is = absurd (cc)
 
   -- CELL and WHOLE, by the view with their number
   record IsCell (rows : List Dimension) (k : Kind) (from : Base) (number : ℕ) : Type 0 where
@@ -185,7 +164,7 @@ module _ (s : Set) (views : List View) (o : Outline) (site : Site) where
         let one = single shape.copies (is_one (chosen path shape.components)) given.0 in
         address_named [] declared way before k i given.1
         (λ from begins.
-        let same = least before counted (base_low declared before way from begins) in
+        let same = least before counted (base_low site declared before way from begins) in
         inl (inl (record {
           name = name;
           path = path;
@@ -214,7 +193,7 @@ module _ (s : Set) (views : List View) (o : Outline) (site : Site) where
         let before = offset l.path l.shape.components in
         address_named rows l.declared l.stored (skipped + before) (kind_of_first (chosen l.path l.shape.components)) i is
         (λ from begins.
-        let same = moved_to skipped before (base_low l.declared (skipped + before) l.stored from begins) in
+        let same = moved_to skipped before (base_low site l.declared (skipped + before) l.stored from begins) in
         inl (inr (record {
           role = role;
           place = place;
@@ -250,7 +229,7 @@ module _ (s : Set) (views : List View) (o : Outline) (site : Site) where
           let before = offset l.path l.shape.components in
           area_named rows shape l.declared l.stored (skipped + before) i is
           (λ from begins.
-          let same = ap (λ m. min (min m counted + min before counted) counted) skips ∙ moved_to skipped before (base_low l.declared (skipped + before) l.stored from begins) in
+          let same = ap (λ m. min (min m counted + min before counted) counted) skips ∙ moved_to skipped before (base_low site l.declared (skipped + before) l.stored from begins) in
           record {
             place = place;
             name = name;

@@ -1,4 +1,5 @@
 mod Adding
+mod Bases
 mod Leaves
 mod Calling
 mod Expressions
@@ -7,3 +8,10 @@ mod Statements
 mod Units
 mod Linked
 mod Together
+mod Seen
+mod Held
+pub mod Reached
+mod Laying
+mod OwnPlaces
+mod Choosing
+mod ChosenViews

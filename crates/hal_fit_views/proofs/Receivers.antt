@@ -57,6 +57,7 @@ use Rattle.hal_fit_rules.specs.Begun.{AreFirst}
 use Rattle.hal_fit_rules.proofs.Beginning.{then_}
 use Rattle.hal_fit_rules.proofs.BegunExpressions.{reference_first, subscript_first, subs_first, expressions_first}
 use Rattle.hal_fit_rules.proofs.BegunStatements.{receivers_first}
+use Rattle.hal_fit_rows.specs.Homes.{LeadsHome}
 use Rattle.hal_fit_rows.specs.Purposes.{IsSite, HasPlace, IsOutput, IsPassed}
 use Rattle.hal_fit_views.specs.Naming.{NamesCell, Names}
 use Rattle.hal_fit_views.proofs.Adding.{Adds, Gives, none_more, some_more, both_add, emit_gives, one_gives, then_gives, behind_gives, if_gives, call_gives}
@@ -65,7 +66,11 @@ use Rattle.hal_fit_views.proofs.Expressions.{says_there, name_gives, integer_giv
 use Rattle.hal_fit_views.proofs.Leaves.{element_named, place_named}
 
 module _ (s : Set) (views : List View) (o : Outline) (number : ℕ) (outlined : slice_get (outlines_of s) number ≡ Some o) (places : List Place) (laid : places ≡ places_of_process s o.process) (unit : ℕ)
-    (sites : (block : ℕ) → IsSite s o.process (site_in s places unit block (marks_of s.phrases unit))) where
+    (sites : (block : ℕ) → LeadsHome s.phrases unit block → IsSite s o.process (site_in s places unit block (marks_of s.phrases unit))) where
+  -- around phrases of the unit
+  abbrev Here : Around → Type 0
+  Here a = (a.home ≡ unit) × LeadsHome s.phrases unit a.block
+
   abbrev n : Numbering
   n = numbering_of (shapes_of s) views o
 
@@ -91,7 +96,7 @@ module _ (s : Set) (views : List View) (o : Outline) (number : ℕ) (outlined : 
       (λ middle. then_gives P middle (numbers middle) (λ late. patch_code late place chosen) (gives middle)
       (λ late. then_gives P late (emit_one late place (patches chosen)) (λ last. emit_one last place instr.Keep) (one_gives P late place (patches chosen) tt) (λ last. one_gives P last place instr.Keep tt)))
 
-  stored_gives : (d : List Phrase) (a : Around) (r : Role) (xs : Subscripts) → a.home ≡ unit → AreFirst (gathered_subs d a r xs) s.phrases → (place : refusals.Place) (before : List Instr)
+  stored_gives : (d : List Phrase) (a : Around) (r : Role) (xs : Subscripts) → Here a → AreFirst (gathered_subs d a r xs) s.phrases → (place : refusals.Place) (before : List Instr)
       → Gives P before (stored_code n (at a.block) before place xs)
   unfolding gathered_subs
   stored_gives d a r NoSubscripts home begun place before = one_gives P before place instr.Keep tt
@@ -100,18 +105,18 @@ module _ (s : Set) (views : List View) (o : Outline) (number : ℕ) (outlined : 
       (patched_gives before place (places_of first) (λ middle. part_code n (at a.block) middle place first)
       (λ middle. part_gives s views o number outlined places laid unit sites d a r first home (then_ (subs_first _ a r others) begun) place middle))
 
-  components_give : (no_arrays : Bool) (d : List Phrase) (a : Around) (xs : Subscripts) → a.home ≡ unit → AreFirst (gathered_subs d a role.ComponentSubscript xs) s.phrases → (place : refusals.Place) (before : List Instr)
+  components_give : (no_arrays : Bool) (d : List Phrase) (a : Around) (xs : Subscripts) → Here a → AreFirst (gathered_subs d a role.ComponentSubscript xs) s.phrases → (place : refusals.Place) (before : List Instr)
       → Gives P before (stored_code n (at a.block) before place (if no_arrays then NoSubscripts else xs))
   components_give true d a xs home begun place before = one_gives P before place instr.Keep tt
   components_give false d a xs home begun place before = stored_gives d a role.ComponentSubscript xs home begun place before
 
-  received_gives : (arrayed : Bool) (d : List Phrase) (a : Around) (x : Subscript) → a.home ≡ unit → AreFirst (gathered_subscript d a x) s.phrases → (place : refusals.Place) (before : List Instr)
+  received_gives : (arrayed : Bool) (d : List Phrase) (a : Around) (x : Subscript) → Here a → AreFirst (gathered_subscript d a x) s.phrases → (place : refusals.Place) (before : List Instr)
       → Gives P before (received_code n (at a.block) before place arrayed x)
   unfolding gathered_subscript
   received_gives false d a (ByName there name) home begun place before =
-      patched_gives before place chosen_places.One (λ middle. name_code n (at a.block) middle name) (λ middle. name_gives s views o number outlined places laid unit sites a.block name middle)
+      patched_gives before place chosen_places.One (λ middle. name_code n (at a.block) middle name) (λ middle. name_gives s views o number outlined places laid unit sites a.block home.1 name middle)
   received_gives false d a (ByInteger there mark m) home begun place before =
-      patched_gives before place chosen_places.One (λ middle. integer_code middle place m) (λ middle. integer_gives s views o number outlined places laid unit sites a.block m middle place)
+      patched_gives before place chosen_places.One (λ middle. integer_code middle place m) (λ middle. integer_gives s views o number outlined places laid unit sites a.block home.1 m middle place)
   received_gives true d a (ByName there name) home begun place before = one_gives P before place instr.Keep tt
   received_gives true d a (ByInteger there mark m) home begun place before = one_gives P before place instr.Keep tt
   received_gives true d a Unsubscripted home begun place before = one_gives P before place instr.Keep tt
@@ -121,7 +126,7 @@ module _ (s : Set) (views : List View) (o : Outline) (number : ℕ) (outlined : 
   received_gives false d a (ByParts there copies arrays components) home begun place before =
       stored_gives (gathered_subs (gathered_subs d a role.CopySubscript copies) a role.ArraySubscript arrays) a role.ComponentSubscript components home begun place before
 
-  addressed_gives : (d : List Phrase) (a : Around) (r : Role) (p : refusals.Place) (name : List ℕ) (path : List Naming) (x : Subscript) → a.home ≡ unit → AreFirst (gathered_reference d a r (Refers p name path x)) s.phrases
+  addressed_gives : (d : List Phrase) (a : Around) (r : Role) (p : refusals.Place) (name : List ℕ) (path : List Naming) (x : Subscript) → Here a → AreFirst (gathered_reference d a r (Refers p name path x)) s.phrases
       → (before : List Instr) (led : Option Led) → led_by path (referent (at a.block) name) ≡ led → Gives P before (addressed_code n (at a.block) before p x led)
   unfolding gathered_reference
   addressed_gives d a r p name path x home begun before None leads = tt
@@ -129,13 +134,13 @@ module _ (s : Set) (views : List View) (o : Outline) (number : ℕ) (outlined : 
       let e : List Phrase = add d a (OfReference r (Refers p name path x)) in
       let says = says_there s views o number outlined places laid unit sites d a (OfReference r (Refers p name path x)) home (then_ (subscript_first e (below d a) x) begun) in
       then_gives P before (chosen_code n (at a.block) before p aims.Cell x l) (λ middle. received_code n (at a.block) middle p (is_arrayed (sizes_led l)) x)
-      (chosen_gives s views o number outlined places laid unit sites e (below d a) x home begun aims.Cell l p before (cell_leaf s views o number outlined places laid unit sites x a.block r p name path l says leads))
+      (chosen_gives s views o number outlined places laid unit sites e (below d a) x home begun aims.Cell l p before (cell_leaf s views o number outlined places laid unit sites x a.block home.1 r p name path l says leads))
       (λ middle. received_gives (is_arrayed (sizes_led l)) e (below d a) x home begun p middle)
 
-  pub receiver_gives : (d : List Phrase) (a : Around) (r : Role) (t : Reference) → a.home ≡ unit → AreFirst (gathered_reference d a r t) s.phrases → (before : List Instr) → Gives P before (receiver_code n (at a.block) before t)
+  pub receiver_gives : (d : List Phrase) (a : Around) (r : Role) (t : Reference) → Here a → AreFirst (gathered_reference d a r t) s.phrases → (before : List Instr) → Gives P before (receiver_code n (at a.block) before t)
   receiver_gives d a r (Refers p name path x) home begun before = addressed_gives d a r p name path x home begun before (led_by path (referent (at a.block) name)) refl
 
-  pub receivers_give : (d : List Phrase) (a : Around) (r : Role) (ts : List Reference) → a.home ≡ unit → AreFirst (gathered_each (gathered_receiver a r) d ts) s.phrases → (before : List Instr) (place : refusals.Place)
+  pub receivers_give : (d : List Phrase) (a : Around) (r : Role) (ts : List Reference) → Here a → AreFirst (gathered_each (gathered_receiver a r) d ts) s.phrases → (before : List Instr) (place : refusals.Place)
       → Gives P before (receivers_code n (at a.block) before place ts)
   receivers_give d a r [] home begun before place = tt
   receivers_give d a r (t ∷ []) home begun before place = receiver_gives d a r t home begun before
@@ -147,7 +152,7 @@ module _ (s : Set) (views : List View) (o : Outline) (number : ℕ) (outlined : 
       (λ middle. receivers_give e a r (next ∷ others) home begun middle place)
 
   -- CALL
-  spots_give : (d : List Phrase) (a : Around) (ts : List Reference) → a.home ≡ unit → AreFirst (gathered_each (gathered_receiver a role.Output) d ts) s.phrases → (callee : ℕ) (names : List Naming)
+  spots_give : (d : List Phrase) (a : Around) (ts : List Reference) → Here a → AreFirst (gathered_each (gathered_receiver a role.Output) d ts) s.phrases → (callee : ℕ) (names : List Naming)
       → ((name : Naming) (given : Reference) → IsOutput names ts name given → IsPassed (at a.block) callee name given) → (before : List Instr) (place : refusals.Place)
       → Gives P before (spots_code n (at a.block) before place callee names ts)
   unfolding spot_code
@@ -160,7 +165,7 @@ module _ (s : Set) (views : List View) (o : Outline) (number : ℕ) (outlined : 
   spots_give d a [] home begun callee (name ∷ names) passed before place = tt
   spots_give d a (t ∷ ts) home begun callee [] passed before place = tt
 
-  pub procedure_gives : (d : List Phrase) (a : Around) (name : Naming) (arguments : Expressions) (receivers : List Reference) → a.home ≡ unit
+  pub procedure_gives : (d : List Phrase) (a : Around) (name : Naming) (arguments : Expressions) (receivers : List Reference) → Here a
       → AreFirst (gathered_each (gathered_receiver (below d a) role.Output) (gathered_all (add d a (OfCall name arguments receivers)) (below d a) role.Input arguments) receivers) s.phrases
       → (before : List Instr) (place : refusals.Place) (r : Referent) → referent (at a.block) name.name ≡ r → Gives P before (procedure_code n (at a.block) before place arguments receivers r)
   procedure_gives d a name arguments receivers home begun before place (BlockOf callee) refers =
@@ -175,7 +180,7 @@ module _ (s : Set) (views : List View) (o : Outline) (number : ℕ) (outlined : 
       (λ one given is whole. inl (record { arguments = arguments; receivers = receivers; calls = inr (name, says, refers); passed = is; whole = whole })) before place)
       (λ middle. spots_give f (below d a) receivers home begun callee (outputs_at s callee)
       (λ one given is. inr (record { arguments = arguments; receivers = receivers; calls = (name, says, refers); passed = is })) middle place))
-      (λ is. call_each s views o number outlined places laid unit a.block (marks_of s.phrases unit) (sites a.block) false callee is)
+      (λ is. call_each s views o number outlined places laid unit a.block (marks_of s.phrases unit) (sites a.block home.1) false callee is)
   procedure_gives d a name arguments receivers home begun before place (DataOf k way shape) refers = tt
   procedure_gives d a name arguments receivers home begun before place (ConstantOf v) refers = tt
   procedure_gives d a name arguments receivers home begun before place (EventOf e) refers = tt
@@ -183,11 +188,11 @@ module _ (s : Set) (views : List View) (o : Outline) (number : ℕ) (outlined : 
   procedure_gives d a name arguments receivers home begun before place Unmeant refers = tt
 
   -- own places of groups
-  pub cell_named : (block m k before cell : ℕ) → slice_get (marks_of s.phrases unit) m ≡ Some k → HasPlace (at block) k before → cell_of n (at block) m before ≡ Some cell → NamesCell s views o.process cell
-  cell_named block m k before cell marked has is =
+  pub cell_named : (block m k before cell : ℕ) → LeadsHome s.phrases unit block → slice_get (marks_of s.phrases unit) m ≡ Some k → HasPlace (at block) k before → cell_of n (at block) m before ≡ Some cell → NamesCell s views o.process cell
+  cell_named block m k before cell leads marked has is =
       let owner = then_is (λ j. place_view n (at block) j before) (slice_get (marks_of s.phrases unit) m) cell is in
       let same : owner.0 ≡ k = (let first = owner.1 in cc) in
-      place_named s views o (at block) (sites block) k before cell has (subst (λ j. place_view n (at block) j before ≡ Some cell) same owner.2)
+      place_named s views o (at block) (sites block leads) k before cell has (subst (λ j. place_view n (at block) j before ≡ Some cell) same owner.2)
 
   -- those of a DO FOR
   pub record AreNamed (c : Cells) : Type 0 where
@@ -196,24 +201,24 @@ module _ (s : Set) (views : List View) (o : Outline) (number : ℕ) (outlined : 
     pub value : NamesCell s views o.process c.value
     pub begins : NamesCell s views o.process c.begins
 
-  four_named : (block m k w x y z : ℕ) (c : Cells) → slice_get (marks_of s.phrases unit) m ≡ Some k → HasPlace (at block) k w → HasPlace (at block) k x → HasPlace (at block) k y → HasPlace (at block) k z
+  four_named : (block m k w x y z : ℕ) (c : Cells) → LeadsHome s.phrases unit block → slice_get (marks_of s.phrases unit) m ≡ Some k → HasPlace (at block) k w → HasPlace (at block) k x → HasPlace (at block) k y → HasPlace (at block) k z
       → cells_at n (at block) m w x y z ≡ Some c → AreNamed c
-  four_named block m k w x y z c marked hw hx hy hz is =
+  four_named block m k w x y z c leads marked hw hx hy hz is =
       let one = then_is (λ last. option_and_then (λ step. option_and_then (λ value. option_map (λ begins. cells last step value begins) (cell_of n (at block) m z)) (cell_of n (at block) m y)) (cell_of n (at block) m x)) (cell_of n (at block) m w) c is in
       let two = then_is (λ step. option_and_then (λ value. option_map (λ begins. cells one.0 step value begins) (cell_of n (at block) m z)) (cell_of n (at block) m y)) (cell_of n (at block) m x) c one.2 in
       let three = then_is (λ value. option_map (λ begins. cells one.0 two.0 value begins) (cell_of n (at block) m z)) (cell_of n (at block) m y) c two.2 in
       let four = mapped_is (λ begins. cells one.0 two.0 three.0 begins) (cell_of n (at block) m z) c three.2 in
       subst AreNamed four.2 (record {
-        last = cell_named block m k w one.0 marked hw one.1;
-        step = cell_named block m k x two.0 marked hx two.1;
-        value = cell_named block m k y three.0 marked hy three.1;
-        begins = cell_named block m k z four.0 marked hz four.1;
+        last = cell_named block m k w one.0 leads marked hw one.1;
+        step = cell_named block m k x two.0 leads marked hx two.1;
+        value = cell_named block m k y three.0 leads marked hy three.1;
+        begins = cell_named block m k z four.0 leads marked hz four.1;
       })
 
-  pub cells_named : (temporary : Bool) (block m k : ℕ) (c : Cells) → slice_get (marks_of s.phrases unit) m ≡ Some k → ((before : ℕ) → before < (if temporary then 5 else 4) → HasPlace (at block) k before)
+  pub cells_named : (temporary : Bool) (block m k : ℕ) (c : Cells) → LeadsHome s.phrases unit block → slice_get (marks_of s.phrases unit) m ≡ Some k → ((before : ℕ) → before < (if temporary then 5 else 4) → HasPlace (at block) k before)
       → cells_of n (at block) temporary m ≡ Some c → AreNamed c
-  cells_named false block m k c marked has is = four_named block m k 0 1 2 3 c marked (has 0 (omega arith)) (has 1 (omega arith)) (has 2 (omega arith)) (has 3 (omega arith)) is
-  cells_named true block m k c marked has is = four_named block m k 1 2 3 4 c marked (has 1 (omega arith)) (has 2 (omega arith)) (has 3 (omega arith)) (has 4 (omega arith)) is
+  cells_named false block m k c leads marked has is = four_named block m k 0 1 2 3 c leads marked (has 0 (omega arith)) (has 1 (omega arith)) (has 2 (omega arith)) (has 3 (omega arith)) is
+  cells_named true block m k c leads marked has is = four_named block m k 1 2 3 4 c leads marked (has 1 (omega arith)) (has 2 (omega arith)) (has 3 (omega arith)) (has 4 (omega arith)) is
 
   pub case_gives : (before : List Instr) (place : refusals.Place) (cell m size : ℕ) → NamesCell s views o.process cell → Gives P before (case_code before place cell m size)
   case_gives before place cell m size named =
@@ -262,25 +267,25 @@ module _ (s : Set) (views : List View) (o : Outline) (number : ℕ) (outlined : 
       (both_add P four five (counting before c exit) (keeping_adds four c.value named.value) (some_more P five (case_tests c.begins exit 1) (named.begins, (tt, (tt, (tt, (tt, tt))))))))))
 
   -- the variable of a DO FOR
-  variable_named : (block : ℕ) (name : List ℕ) (r : Referent) (i : Instr) → referent (at block) name ≡ r → variable_of n (at block) r ≡ Some i → P i
-  variable_named block name (DataOf k way shape) i refers is = element_named s views o (at block) (sites block) name [] k way shape i refers is
-  variable_named block name (ConstantOf v) i refers is = absurd (cc)
-  variable_named block name (EventOf e) i refers is = absurd (cc)
-  variable_named block name (BlockOf callee) i refers is = absurd (cc)
-  variable_named block name (BuiltinOf b) i refers is = absurd (cc)
-  variable_named block name Unmeant i refers is = absurd (cc)
+  variable_named : (block : ℕ) (leads : LeadsHome s.phrases unit block) (name : List ℕ) (r : Referent) (i : Instr) → referent (at block) name ≡ r → variable_of n (at block) r ≡ Some i → P i
+  variable_named block leads name (DataOf k way shape) i refers is = element_named s views o (at block) (sites block leads) name [] k way shape i refers is
+  variable_named block leads name (ConstantOf v) i refers is = absurd (cc)
+  variable_named block leads name (EventOf e) i refers is = absurd (cc)
+  variable_named block leads name (BlockOf callee) i refers is = absurd (cc)
+  variable_named block leads name (BuiltinOf b) i refers is = absurd (cc)
+  variable_named block leads name Unmeant i refers is = absurd (cc)
 
-  pub store_gives : (block : ℕ) (before : List Instr) (place : refusals.Place) (name : List ℕ) → Gives P before (store_code n (at block) before place name)
-  store_gives block before place name =
+  pub store_gives : (block : ℕ) (leads : LeadsHome s.phrases unit block) (before : List Instr) (place : refusals.Place) (name : List ℕ) → Gives P before (store_code n (at block) before place name)
+  store_gives block leads before place name =
       emit_gives P before place (option_map (λ i. i ∷ instr.Keep ∷ []) (variable_of n (at block) (referent (at block) name)))
       (λ is given. let one = mapped_is (λ i. i ∷ instr.Keep ∷ []) (variable_of n (at block) (referent (at block) name)) is given in
-      subst (λ l. Each P l) one.2 (variable_named block name (referent (at block) name) one.0 refl one.1, (tt, tt)))
+      subst (λ l. Each P l) one.2 (variable_named block leads name (referent (at block) name) one.0 refl one.1, (tt, tt)))
 
-  pub fetch_gives : (block : ℕ) (before : List Instr) (place : refusals.Place) (name : List ℕ) → Gives P before (fetch_code n (at block) before place name)
-  fetch_gives block before place name =
+  pub fetch_gives : (block : ℕ) (leads : LeadsHome s.phrases unit block) (before : List Instr) (place : refusals.Place) (name : List ℕ) → Gives P before (fetch_code n (at block) before place name)
+  fetch_gives block leads before place name =
       emit_gives P before place (option_map (λ i. i ∷ instr.Fetch ∷ []) (variable_of n (at block) (referent (at block) name)))
       (λ is given. let one = mapped_is (λ i. i ∷ instr.Fetch ∷ []) (variable_of n (at block) (referent (at block) name)) is given in
-      subst (λ l. Each P l) one.2 (variable_named block name (referent (at block) name) one.0 refl one.1, (tt, tt)))
+      subst (λ l. Each P l) one.2 (variable_named block leads name (referent (at block) name) one.0 refl one.1, (tt, tt)))
 
   -- RETURN, events and processes
   pub return_gives : (leaving : Leaving) (before : List Instr) (place : refusals.Place) → Gives P before (emit before place (return_of leaving))

@@ -46,10 +46,11 @@ use Rattle.hal_link.specs.Outlines.{Outline, outlines_of, numbering_of}
 use Rattle.hal_link.specs.Shapes.{shapes_of}
 use Rattle.hal_fit_calls.specs.Each.{Each}
 use Rattle.hal_fit_rules.specs.Begun.{AreFirst}
-use Rattle.hal_fit_rules.proofs.Beginning.{then_, one, among}
+use Rattle.hal_fit_rules.proofs.Beginning.{then_, one, among, there}
 use Rattle.hal_fit_rules.proofs.BegunExpressions.{own_first, expression_first, expressions_first}
 use Rattle.hal_fit_rules.proofs.BegunStatements.{close_first, receivers_first, optional_first, any_guard_first, span_first, any_cycle_first, any_limit_first, statement_first, alternative_first, group_first, statements_first}
 use Rattle.hal_fit_rules.proofs.Marking.{Counts, mark_more, mark_there, expression_counts, statement_counts, alternative_counts, labels_count, guard_counts, any_guard_counts, span_counts, for_counts}
+use Rattle.hal_fit_rows.specs.Homes.{LeadsHome, InGroup}
 use Rattle.hal_fit_rows.specs.Purposes.{IsSite, SaysPlaces, HasPlace}
 use Rattle.hal_fit_views.specs.Naming.{NamesCell, Names}
 use Rattle.hal_fit_views.proofs.Adding.{Adds, Gives, none_more, some_more, both_add, emit_gives, one_gives, then_gives, behind_gives, if_gives, call_gives}
@@ -58,7 +59,11 @@ use Rattle.hal_fit_views.proofs.Expressions.{expression_gives}
 use Rattle.hal_fit_views.proofs.Receivers.{past_gives, mapped_gives, receiver_gives, receivers_give, procedure_gives, cell_named, AreNamed, cells_named, case_gives, keeping_adds, holding_adds, bounds_adds, bounding_adds, counting_adds, store_gives, fetch_gives, return_gives, result_gives, change_plain, asked_gives}
 
 module _ (s : Set) (views : List View) (o : Outline) (number : ℕ) (outlined : slice_get (outlines_of s) number ≡ Some o) (places : List Place) (laid : places ≡ places_of_process s o.process) (unit : ℕ)
-    (sites : (block : ℕ) → IsSite s o.process (site_in s places unit block (marks_of s.phrases unit))) where
+    (sites : (block : ℕ) → LeadsHome s.phrases unit block → IsSite s o.process (site_in s places unit block (marks_of s.phrases unit))) where
+  -- around phrases of the unit
+  abbrev Here : Around → Type 0
+  Here a = (a.home ≡ unit) × LeadsHome s.phrases unit a.block
+
   abbrev n : Numbering
   n = numbering_of (shapes_of s) views o
 
@@ -74,7 +79,7 @@ module _ (s : Set) (views : List View) (o : Outline) (number : ℕ) (outlined : 
   abbrev AllNamed : Cells → Type 0
   AllNamed c = AreNamed s views o number outlined places laid unit sites c
 
-  tree_gives : (d : List Phrase) (a : Around) (r : Role) (t : Expression) → a.home ≡ unit → AreFirst (gathered d a r t) s.phrases → (before : List Instr) → Gives P before (expression_code n (at a.block) before t)
+  tree_gives : (d : List Phrase) (a : Around) (r : Role) (t : Expression) → Here a → AreFirst (gathered d a r t) s.phrases → (before : List Instr) → Gives P before (expression_code n (at a.block) before t)
   tree_gives d a r t home begun before = expression_gives s views o number outlined places laid unit sites d a r t home begun before
 
   -- what is done with a number
@@ -90,43 +95,43 @@ module _ (s : Set) (views : List View) (o : Outline) (number : ℕ) (outlined : 
   mapped f given before place each = mapped_gives s views o number outlined places laid unit sites f given before place each
 
   -- tests
-  condition_gives : (d : List Phrase) (a : Around) (t : Expression) → a.home ≡ unit → AreFirst (gathered d a role.Condition t) s.phrases → (before : List Instr) (place : refusals.Place) (target : ℕ)
+  condition_gives : (d : List Phrase) (a : Around) (t : Expression) → Here a → AreFirst (gathered d a role.Condition t) s.phrases → (before : List Instr) (place : refusals.Place) (target : ℕ)
       → Gives P before (condition_code n (at a.block) before place t target)
   condition_gives d a t home begun before place target =
       then_gives P before (expression_code n (at a.block) before t) (λ middle. emit_one middle place (instr.JumpNot target)) (tree_gives d a role.Condition t home begun before) (λ middle. one_gives P middle place (instr.JumpNot target) tt)
 
-  first_test_gives : (d : List Phrase) (a : Around) (g : Guard) → a.home ≡ unit → AreFirst (gathered_guard a d g) s.phrases → (before : List Instr) (exit : ℕ) → Gives P before (first_test_code n (at a.block) before g exit)
+  first_test_gives : (d : List Phrase) (a : Around) (g : Guard) → Here a → AreFirst (gathered_guard a d g) s.phrases → (before : List Instr) (exit : ℕ) → Gives P before (first_test_code n (at a.block) before g exit)
   unfolding gathered_guard
   first_test_gives d a (While place t) home begun before exit = condition_gives d a t home begun before place exit
   first_test_gives d a (Until place t) home begun before exit = none_more P before
 
-  test_gives : (d : List Phrase) (a : Around) (g : Guard) → a.home ≡ unit → AreFirst (gathered_guard a d g) s.phrases → (before : List Instr) (turn exit : ℕ) → Gives P before (test_code n (at a.block) before g turn exit)
+  test_gives : (d : List Phrase) (a : Around) (g : Guard) → Here a → AreFirst (gathered_guard a d g) s.phrases → (before : List Instr) (turn exit : ℕ) → Gives P before (test_code n (at a.block) before g turn exit)
   unfolding gathered_guard
   test_gives d a (While place t) home begun before turn exit =
       then_gives P before (expression_code n (at a.block) before t) (λ middle. emit middle place (Some (instr.JumpNot exit ∷ instr.Jump turn ∷ []))) (tree_gives d a role.Condition t home begun before)
       (λ middle. some_more P middle (instr.JumpNot exit ∷ instr.Jump turn ∷ []) (tt, (tt, tt)))
   test_gives d a (Until place t) home begun before turn exit = condition_gives d a t home begun before place turn
 
-  first_span_gives : (d : List Phrase) (a : Around) (g : Option Guard) → a.home ≡ unit → AreFirst (gathered_any (gathered_guard a) d g) s.phrases → (before : List Instr) (exit : ℕ) → Gives P before (first_span_code n (at a.block) before g exit)
+  first_span_gives : (d : List Phrase) (a : Around) (g : Option Guard) → Here a → AreFirst (gathered_any (gathered_guard a) d g) s.phrases → (before : List Instr) (exit : ℕ) → Gives P before (first_span_code n (at a.block) before g exit)
   first_span_gives d a None home begun before exit = none_more P before
   first_span_gives d a (Some g) home begun before exit = first_test_gives d a g home begun before exit
 
-  later_span_gives : (d : List Phrase) (a : Around) (g : Option Guard) → a.home ≡ unit → AreFirst (gathered_any (gathered_guard a) d g) s.phrases → (before : List Instr) (place : refusals.Place) (turn exit : ℕ)
+  later_span_gives : (d : List Phrase) (a : Around) (g : Option Guard) → Here a → AreFirst (gathered_any (gathered_guard a) d g) s.phrases → (before : List Instr) (place : refusals.Place) (turn exit : ℕ)
       → Gives P before (later_span_code n (at a.block) before place g turn exit)
   later_span_gives d a None home begun before place turn exit = one_gives P before place (instr.Jump turn) tt
   later_span_gives d a (Some g) home begun before place turn exit = test_gives d a g home begun before turn exit
 
   -- the values of the variable of a DO FOR
-  step_gives : (d : List Phrase) (a : Around) (step : Option Expression) → a.home ≡ unit → AreFirst (gathered_optional d a role.Bound step) s.phrases → (before : List Instr) (place : refusals.Place)
+  step_gives : (d : List Phrase) (a : Around) (step : Option Expression) → Here a → AreFirst (gathered_optional d a role.Bound step) s.phrases → (before : List Instr) (place : refusals.Place)
       → Gives P before (step_code n (at a.block) before place step)
   step_gives d a None home begun before place = one_gives P before place (instr.Int (pos 1)) tt
   step_gives d a (Some t) home begun before place = tree_gives d a role.Bound t home begun before
 
   module _ (place : refusals.Place) (name : List ℕ) where
-    stored : (block : ℕ) (before : List Instr) → Gives P before (store_code n (at block) before place name)
-    stored block before = store_gives s views o number outlined places laid unit sites block before place name
+    stored : (block : ℕ) (leads : LeadsHome s.phrases unit block) (before : List Instr) → Gives P before (store_code n (at block) before place name)
+    stored block leads before = store_gives s views o number outlined places laid unit sites block leads before place name
 
-    begun_gives : (d : List Phrase) (a : Around) (first last : Expression) (step : Option Expression) → a.home ≡ unit → AreFirst (gathered_span d a (Stepped first last step)) s.phrases → (c : Cells) → AllNamed c
+    begun_gives : (d : List Phrase) (a : Around) (first last : Expression) (step : Option Expression) → Here a → AreFirst (gathered_span d a (Stepped first last step)) s.phrases → (c : Cells) → AllNamed c
         → (exit : ℕ) (before : List Instr) → Gives P before (begun_code n (at a.block) before place name c exit first last step)
     unfolding gathered_span
     begun_gives d a first last step home begun c named exit before =
@@ -141,27 +146,27 @@ module _ (s : Set) (views : List View) (o : Outline) (number : ℕ) (outlined : 
         (λ two. then_gives P two (step_code n here two place step) store (step_gives f a step home begun two place)
         (λ three. then_gives P three (store_code n here (bounds_keeping three c) place name) (λ after. Ok (bounding after c exit))
         (past_gives s views o number outlined places laid unit sites three (bounds_keeping three c) (store_code n here (bounds_keeping three c) place name) (bounds_adds s views o number outlined places laid unit sites three c named)
-        (stored a.block (bounds_keeping three c)))
+        (stored a.block home.1 (bounds_keeping three c)))
         (λ after. bounding_adds s views o number outlined places laid unit sites after c exit named))))
 
-    counted_gives : (block : ℕ) (c : Cells) → AllNamed c → (exit : ℕ) (before : List Instr) → Gives P before (counted_code n (at block) before place name c exit)
-    counted_gives block c named exit before =
+    counted_gives : (block : ℕ) (leads : LeadsHome s.phrases unit block) (c : Cells) → AllNamed c → (exit : ℕ) (before : List Instr) → Gives P before (counted_code n (at block) before place name c exit)
+    counted_gives block leads c named exit before =
         let here : Site = at block in
-        then_gives P before (fetch_code n here before place name) (λ fetched. store_code n here (holding (counting fetched c exit) c.value) place name) (fetch_gives s views o number outlined places laid unit sites block before place name)
+        then_gives P before (fetch_code n here before place name) (λ fetched. store_code n here (holding (counting fetched c exit) c.value) place name) (fetch_gives s views o number outlined places laid unit sites block leads before place name)
         (λ fetched. past_gives s views o number outlined places laid unit sites fetched (holding (counting fetched c exit) c.value) (store_code n here (holding (counting fetched c exit) c.value) place name)
         (both_add P fetched (counting fetched c exit) (holding (counting fetched c exit) c.value) (counting_adds s views o number outlined places laid unit sites fetched c exit named)
-        (holding_adds s views o number outlined places laid unit sites (counting fetched c exit) c.value named.value)) (stored block (holding (counting fetched c exit) c.value)))
+        (holding_adds s views o number outlined places laid unit sites (counting fetched c exit) c.value named.value)) (stored block leads (holding (counting fetched c exit) c.value)))
 
-    value_gives : (d : List Phrase) (a : Around) (t : Expression) → a.home ≡ unit → AreFirst (gathered d a role.Bound t) s.phrases → (cell k : ℕ) → Named cell → (before : List Instr)
+    value_gives : (d : List Phrase) (a : Around) (t : Expression) → Here a → AreFirst (gathered d a role.Bound t) s.phrases → (cell k : ℕ) → Named cell → (before : List Instr)
         → Gives P before (value_code n (at a.block) before place name cell k t)
     value_gives d a t home begun cell k named before =
         let here : Site = at a.block in
         then_gives P before (expression_code n here before t) (λ valued. onwards (store_code n here valued place name) (λ after. emit after place (option_map (counted_in cell) (below_limit 2147483648 k))))
         (tree_gives d a role.Bound t home begun before)
-        (λ valued. then_gives P valued (store_code n here valued place name) (λ after. emit after place (option_map (counted_in cell) (below_limit 2147483648 k))) (stored a.block valued)
+        (λ valued. then_gives P valued (store_code n here valued place name) (λ after. emit after place (option_map (counted_in cell) (below_limit 2147483648 k))) (stored a.block home.1 valued)
         (λ after. mapped (counted_in cell) (below_limit 2147483648 k) after place (λ m. (tt, (named, (tt, tt))))))
 
-    next_values_give : (d : List Phrase) (a : Around) (ts : Expressions) → a.home ≡ unit → AreFirst (gathered_all d a role.Bound ts) s.phrases → (cell k exit test : ℕ) → Named cell → (before : List Instr)
+    next_values_give : (d : List Phrase) (a : Around) (ts : Expressions) → Here a → AreFirst (gathered_all d a role.Bound ts) s.phrases → (cell k exit test : ℕ) → Named cell → (before : List Instr)
         → Gives P before (next_values_code n (at a.block) before place name cell k exit test ts)
     unfolding gathered_all
     next_values_give d a NoExpressions home begun cell k exit test named before = one_gives P before place (instr.Jump exit) tt
@@ -175,7 +180,7 @@ module _ (s : Set) (views : List View) (o : Outline) (number : ℕ) (outlined : 
         (λ after. behind_gives P after (instr.Jump test ∷ []) (next_values_code n here (after ++ (instr.Jump test ∷ [])) place name cell (suc k) exit test others) (tt, tt)
         (next_values_give (gathered d a role.Bound t) a others home begun cell (suc k) exit test named (after ++ (instr.Jump test ∷ [])))))
 
-    begin_gives : (d : List Phrase) (a : Around) (span : Span) → a.home ≡ unit → AreFirst (gathered_span d a span) s.phrases → (c : Cells) → AllNamed c → (exit : ℕ) (before : List Instr)
+    begin_gives : (d : List Phrase) (a : Around) (span : Span) → Here a → AreFirst (gathered_span d a span) s.phrases → (c : Cells) → AllNamed c → (exit : ℕ) (before : List Instr)
         → Gives P before (begin_code n (at a.block) before place name c exit span)
     unfolding gathered_span gathered_all
     begin_gives d a (Stepped first last step) home begun c named exit before = begun_gives d a first last step home begun c named exit before
@@ -183,16 +188,16 @@ module _ (s : Set) (views : List View) (o : Outline) (number : ℕ) (outlined : 
     begin_gives d a (Listed (MoreExpressions first others)) home begun c named exit before =
         value_gives d a first home (then_ (expressions_first (gathered d a role.Bound first) a role.Bound others) begun) c.last 1 named.last before
 
-    again_gives : (d : List Phrase) (a : Around) (span : Span) → a.home ≡ unit → AreFirst (gathered_span d a span) s.phrases → (c : Cells) → AllNamed c → (exit : ℕ) (before : List Instr)
+    again_gives : (d : List Phrase) (a : Around) (span : Span) → Here a → AreFirst (gathered_span d a span) s.phrases → (c : Cells) → AllNamed c → (exit : ℕ) (before : List Instr)
         → Gives P before (again_code n (at a.block) before place name c exit span)
     unfolding gathered_span gathered_all
-    again_gives d a (Stepped first last step) home begun c named exit before = counted_gives a.block c named exit before
+    again_gives d a (Stepped first last step) home begun c named exit before = counted_gives a.block home.1 c named exit before
     again_gives d a (Listed NoExpressions) home begun c named exit before = tt
     again_gives d a (Listed (MoreExpressions first others)) home begun c named exit before =
         next_values_give (gathered d a role.Bound first) a others home begun c.last 1 exit (length before + next_values_size n (at a.block) others) named.last before
 
     -- all of a DO FOR, where its group is so
-    span_gives : (d : List Phrase) (a : Around) (span : Span) (g : Option Guard) → a.home ≡ unit → AreFirst (gathered_any (gathered_guard a) (gathered_span d a span) g) s.phrases → (c : Cells) → AllNamed c → (exits : Exits)
+    span_gives : (d : List Phrase) (a : Around) (span : Span) (g : Option Guard) → Here a → AreFirst (gathered_any (gathered_guard a) (gathered_span d a span) g) s.phrases → (c : Cells) → AllNamed c → (exits : Exits)
         (labels : List Naming) (size : ℕ) (group : List Instr → Exits → Emitted) → ((start : List Instr) (inner : Exits) → Gives P start (group start inner)) → (before : List Instr)
         → Gives P before (spanned_code n (at a.block) before exits labels place name c span g size group)
     span_gives d a span g home begun c named exits labels size group gives before =
@@ -206,7 +211,7 @@ module _ (s : Set) (views : List View) (o : Outline) (number : ℕ) (outlined : 
         (λ counted. later_span_gives f a g home begun counted place (length tested) _)))
 
   -- items, and what READ stores
-  items_give : (d : List Phrase) (a : Around) (ts : Expressions) → a.home ≡ unit → AreFirst (gathered_all d a role.Item ts) s.phrases → (before : List Instr) → Gives P before (items_code n (at a.block) before ts)
+  items_give : (d : List Phrase) (a : Around) (ts : Expressions) → Here a → AreFirst (gathered_all d a role.Item ts) s.phrases → (before : List Instr) → Gives P before (items_code n (at a.block) before ts)
   unfolding gathered_all
   items_give d a NoExpressions home begun before = none_more P before
   items_give d a (MoreExpressions first others) home begun before =
@@ -214,7 +219,7 @@ module _ (s : Set) (views : List View) (o : Outline) (number : ℕ) (outlined : 
       (tree_gives d a role.Item first home (then_ (expressions_first (gathered d a role.Item first) a role.Item others) begun) before)
       (λ middle. behind_gives P middle (instr.Item ∷ []) (items_code n (at a.block) (middle ++ (instr.Item ∷ [])) others) (tt, tt) (items_give (gathered d a role.Item first) a others home begun (middle ++ (instr.Item ∷ []))))
 
-  reads_give : (d : List Phrase) (a : Around) (ts : List Reference) → a.home ≡ unit → AreFirst (gathered_each (gathered_receiver a role.Receiver) d ts) s.phrases → (channel : ℕ) (before : List Instr)
+  reads_give : (d : List Phrase) (a : Around) (ts : List Reference) → Here a → AreFirst (gathered_each (gathered_receiver a role.Receiver) d ts) s.phrases → (channel : ℕ) (before : List Instr)
       → Gives P before (reads_code n (at a.block) before channel ts)
   reads_give d a [] home begun channel before = none_more P before
   reads_give d a (t ∷ ts) home begun channel before =
@@ -225,37 +230,37 @@ module _ (s : Set) (views : List View) (o : Outline) (number : ℕ) (outlined : 
       (λ middle. reads_give e a ts home begun channel middle)
 
   -- times and SCHEDULE
-  by_gives : (given : Option ℕ) (d : List Phrase) (a : Around) (r : Role) (t : Expression) → a.home ≡ unit → AreFirst (gathered d a r t) s.phrases → (before : List Instr) → Gives P before (time_by n (at a.block) before t given)
+  by_gives : (given : Option ℕ) (d : List Phrase) (a : Around) (r : Role) (t : Expression) → Here a → AreFirst (gathered d a r t) s.phrases → (before : List Instr) → Gives P before (time_by n (at a.block) before t given)
   by_gives None d a r t home begun before = tree_gives d a r t home begun before
   by_gives (Some m) d a r t home begun before = none_more P before
 
-  time_gives : (d : List Phrase) (a : Around) (r : Role) (t : Expression) → a.home ≡ unit → AreFirst (gathered d a r t) s.phrases → (before : List Instr) → Gives P before (time_code n (at a.block) before t)
+  time_gives : (d : List Phrase) (a : Around) (r : Role) (t : Expression) → Here a → AreFirst (gathered d a r t) s.phrases → (before : List Instr) → Gives P before (time_code n (at a.block) before t)
   time_gives d a r t home begun before = by_gives (decimal_of t) d a r t home begun before
 
-  start_gives : (d : List Phrase) (a : Around) (start : Option Start) → a.home ≡ unit → AreFirst (gathered_any (gathered_start a) d start) s.phrases → (before : List Instr) → Gives P before (start_code n (at a.block) before start)
+  start_gives : (d : List Phrase) (a : Around) (start : Option Start) → Here a → AreFirst (gathered_any (gathered_start a) d start) s.phrases → (before : List Instr) → Gives P before (start_code n (at a.block) before start)
   unfolding gathered_start
   start_gives d a None home begun before = none_more P before
   start_gives d a (Some (StartAt place t)) home begun before = time_gives d a role.Time t home begun before
   start_gives d a (Some (StartIn place t)) home begun before = time_gives d a role.Time t home begun before
   start_gives d a (Some (StartOn place t)) home begun before = none_more P before
 
-  priority_gives : (d : List Phrase) (a : Around) (priority : Option Expression) → a.home ≡ unit → AreFirst (gathered_optional d a role.Priority priority) s.phrases → (before : List Instr)
+  priority_gives : (d : List Phrase) (a : Around) (priority : Option Expression) → Here a → AreFirst (gathered_optional d a role.Priority priority) s.phrases → (before : List Instr)
       → Gives P before (priority_code n (at a.block) before priority)
   priority_gives d a None home begun before = none_more P before
   priority_gives d a (Some t) home begun before = tree_gives d a role.Priority t home begun before
 
-  round_gives : (d : List Phrase) (a : Around) (cycle : Option Cycle) → a.home ≡ unit → AreFirst (gathered_any (gathered_cycle a) d cycle) s.phrases → (before : List Instr) → Gives P before (round_code n (at a.block) before cycle)
+  round_gives : (d : List Phrase) (a : Around) (cycle : Option Cycle) → Here a → AreFirst (gathered_any (gathered_cycle a) d cycle) s.phrases → (before : List Instr) → Gives P before (round_code n (at a.block) before cycle)
   unfolding gathered_cycle
   round_gives d a None home begun before = none_more P before
   round_gives d a (Some (Cyclic place)) home begun before = none_more P before
   round_gives d a (Some (CyclicEvery place t)) home begun before = time_gives d a role.Time t home begun before
   round_gives d a (Some (CyclicAfter place t)) home begun before = time_gives d a role.Time t home begun before
 
-  until_gives : (event : Bool) (d : List Phrase) (a : Around) (r : Role) (t : Expression) → a.home ≡ unit → AreFirst (gathered d a r t) s.phrases → (before : List Instr) → Gives P before (until_code n (at a.block) before event t)
+  until_gives : (event : Bool) (d : List Phrase) (a : Around) (r : Role) (t : Expression) → Here a → AreFirst (gathered d a r t) s.phrases → (before : List Instr) → Gives P before (until_code n (at a.block) before event t)
   until_gives true d a r t home begun before = none_more P before
   until_gives false d a r t home begun before = time_gives d a r t home begun before
 
-  limit_gives : (d : List Phrase) (a : Around) (guard : Option Guard) → a.home ≡ unit → AreFirst (gathered_any (gathered_limit a) d guard) s.phrases → (before : List Instr) → Gives P before (limit_code n (at a.block) before guard)
+  limit_gives : (d : List Phrase) (a : Around) (guard : Option Guard) → Here a → AreFirst (gathered_any (gathered_limit a) d guard) s.phrases → (before : List Instr) → Gives P before (limit_code n (at a.block) before guard)
   unfolding gathered_limit
   limit_gives d a None home begun before = none_more P before
   limit_gives d a (Some (While place t)) home begun before = none_more P before
@@ -270,7 +275,7 @@ module _ (s : Set) (views : List View) (o : Outline) (number : ℕ) (outlined : 
       let until = mapped_is (schedule_by x process.0 begins.0) ended is begins.2 in
       subst (λ l. Each P l) until.2 (tt, tt)
 
-  schedule_gives : (d : List Phrase) (a : Around) (x : Schedule) → a.home ≡ unit → AreFirst (gathered_schedule d a x) s.phrases → (place : refusals.Place) (xs : List ℕ) (before : List Instr)
+  schedule_gives : (d : List Phrase) (a : Around) (x : Schedule) → Here a → AreFirst (gathered_schedule d a x) s.phrases → (place : refusals.Place) (xs : List ℕ) (before : List Instr)
       → Gives P before (schedule_code n (at a.block) before place xs x)
   unfolding gathered_schedule
   schedule_gives d a x home begun place xs before =
@@ -290,7 +295,7 @@ module _ (s : Set) (views : List View) (o : Outline) (number : ℕ) (outlined : 
       (λ third. then_gives P third (limit_code n here third x.guard) (λ fourth. emit fourth place (schedule_of here xs x)) (limit_gives k a x.guard home begun third)
       (λ fourth. emit_gives P fourth place (schedule_of here xs x) (scheduled_each here xs x)))))
 
-  pause_gives : (d : List Phrase) (a : Around) (t : Expression) → a.home ≡ unit → AreFirst (gathered d a role.Time t) s.phrases → (place : refusals.Place) (delays : Time → Delay) (before : List Instr)
+  pause_gives : (d : List Phrase) (a : Around) (t : Expression) → Here a → AreFirst (gathered d a role.Time t) s.phrases → (place : refusals.Place) (delays : Time → Delay) (before : List Instr)
       → Gives P before (pause_code n (at a.block) before place delays t)
   pause_gives d a t home begun place delays before = then_gives P before (time_code n (at a.block) before t) _ (time_gives d a role.Time t home begun before) (λ middle. one_gives P middle place _ tt)
 
@@ -308,14 +313,14 @@ module _ (s : Set) (views : List View) (o : Outline) (number : ℕ) (outlined : 
       subst (λ l. Each P l) other.2 (tt, tt)
 
   -- the group of a DO FOR or DO CASE has its place
-  said_place : (d : List Phrase) (a : Around) (node : Node) (group before : ℕ) (block : ℕ) → a.home ≡ unit → AreFirst (add d a node) s.phrases → SaysPlaces (phrase (length d) a node) group before → HasPlace (at block) group before
-  said_place d a node group before block home first says = record { phrase = phrase (length d) a node; among = among s.phrases d a node first; home = home; says = says }
+  said_place : (d : List Phrase) (a : Around) (node : Node) (group before : ℕ) (block : ℕ) → Here a → AreFirst (add d a node) s.phrases → SaysPlaces (phrase (length d) a node) group before → HasPlace (at block) group before
+  said_place d a node group before block home first says = record { phrase = phrase (length d) a node; among = among s.phrases d a node first; home = home.0; says = says }
 
   -- the mark of a group
-  marked : (m : ℕ) (d : List Phrase) (a : Around) (node : Node) → a.home ≡ unit → is_mark node ≡ true → Counts a.home m d → AreFirst (add d a node) s.phrases → slice_get (marks_of s.phrases unit) m ≡ Some (length d)
-  marked m d a node home is counts first = subst (λ k. slice_get (marks_of s.phrases k) m ≡ Some (length d)) home (mark_there s.phrases m d a node is counts first)
+  marked : (m : ℕ) (d : List Phrase) (a : Around) (node : Node) → Here a → is_mark node ≡ true → Counts a.home m d → AreFirst (add d a node) s.phrases → slice_get (marks_of s.phrases unit) m ≡ Some (length d)
+  marked m d a node home is counts first = subst (λ k. slice_get (marks_of s.phrases k) m ≡ Some (length d)) home.0 (mark_there s.phrases m d a node is counts first)
 
-  opened_site : (m : ℕ) (d : List Phrase) (a : Around) (labels : List Naming) (variable : Naming) → a.home ≡ unit → Counts a.home m d → AreFirst (add d a (OfTemporaryGroup labels variable)) s.phrases
+  opened_site : (m : ℕ) (d : List Phrase) (a : Around) (labels : List Naming) (variable : Naming) → Here a → Counts a.home m d → AreFirst (add d a (OfTemporaryGroup labels variable)) s.phrases
       → group_site (at a.block) true m ≡ at (length d)
   opened_site m d a labels variable home counts first =
       ap (λ (k : Option ℕ). elim k [ None ↦ at a.block | Some x ↦ at x ]) (marked m d a (OfTemporaryGroup labels variable) home refl counts first)
@@ -323,11 +328,11 @@ module _ (s : Set) (views : List View) (o : Outline) (number : ℕ) (outlined : 
   mutual
     unfolding gathered_statement gathered_basic gathered_alternative gathered_group gathered_statements begun_for around_for
 
-    statement_gives : (m : ℕ) (d : List Phrase) (a : Around) (x : Statement) → a.home ≡ unit → Counts a.home m d → AreFirst (gathered_statement d a x) s.phrases → (exits : Exits) (before : List Instr)
+    statement_gives : (m : ℕ) (d : List Phrase) (a : Around) (x : Statement) → Here a → Counts a.home m d → AreFirst (gathered_statement d a x) s.phrases → (exits : Exits) (before : List Instr)
         → Gives P before (statement_code n (at a.block) before exits m x)
     statement_gives m d a (Labelled labels basic) home counts begun exits before = basic_gives m (gathered_each (gathered_label a) d labels) a labels basic home (labels_count m a d labels counts) begun exits before
 
-    basic_gives : (m : ℕ) (d : List Phrase) (a : Around) (labels : List Naming) (x : Basic) → a.home ≡ unit → Counts a.home m d → AreFirst (gathered_basic d a labels x) s.phrases → (exits : Exits) (before : List Instr)
+    basic_gives : (m : ℕ) (d : List Phrase) (a : Around) (labels : List Naming) (x : Basic) → Here a → Counts a.home m d → AreFirst (gathered_basic d a labels x) s.phrases → (exits : Exits) (before : List Instr)
         → Gives P before (basic_code n (at a.block) before exits m labels x)
     basic_gives m d a labels (Null p) home counts begun exits before = none_more P before
     basic_gives m d a labels (Assignment p receivers t) home counts begun exits before =
@@ -361,7 +366,7 @@ module _ (s : Set) (views : List View) (o : Outline) (number : ℕ) (outlined : 
         let group_marked = marked m d a (OfGroup labels false) home refl counts (then_ (expression_first e (below d a) role.Case selector) selector_begun) in
         number_gives before p (cell_of n here m 0) _
         (λ cell is.
-        let named = cell_named s views o number outlined places laid unit sites a.block m (length d) 0 cell group_marked has is in
+        let named = cell_named s views o number outlined places laid unit sites a.block m (length d) 0 cell home.1 group_marked has is in
         then_gives P before (expression_code n here before selector) _ (tree_gives e (below d a) role.Case selector home selector_begun before)
         (λ valued. then_gives P valued (cases_code n here (keeping valued cell) _ p cell _ (after_alternative (suc m) alternative) group) _
         (past_gives s views o number outlined places laid unit sites valued (keeping valued cell) (cases_code n here (keeping valued cell) _ p cell _ (after_alternative (suc m) alternative) group)
@@ -386,14 +391,16 @@ module _ (s : Set) (views : List View) (o : Outline) (number : ℕ) (outlined : 
         let guard_begun = then_ (group_first h inner group) begun in
         let span_begun = then_ (any_guard_first inner f guard) guard_begun in
         let first = then_ (span_first e inner span) span_begun in
+        let within : Here inner =
+        (home.0, InGroup (length d) (phrase (length d) a (OfTemporaryGroup labels variable)) labels variable (there s.phrases d a (OfTemporaryGroup labels variable) first) refl home.0 home.1) in
         let counted = any_guard_counts (suc m) inner f guard (span_counts (suc m) e inner span (mark_more m d a (OfTemporaryGroup labels variable) refl counts)) in
         with_cells_gives before p (cells_of n (at a.block) true m) _
         (λ c is.
-        let named = cells_named s views o number outlined places laid unit sites true a.block m (length d) c (marked m d a (OfTemporaryGroup labels variable) home refl counts first)
+        let named = cells_named s views o number outlined places laid unit sites true a.block m (length d) c home.1 (marked m d a (OfTemporaryGroup labels variable) home refl counts first)
         (λ k few. said_place d a (OfTemporaryGroup labels variable) (length d) k a.block home first (inl (labels, variable, refl, refl, few))) is in
         subst (λ (here : Site). Gives P before (spanned_code n here before exits labels p variable.name c span guard (group_size n here (suc m) group) (λ start out. group_code n here start out (suc m) group)))
         (sym (opened_site m d a labels variable home counts first))
-        (span_gives p variable.name e inner span guard home guard_begun c named exits labels _ (λ start out. group_code n (at (length d)) start out (suc m) group) (λ start out. group_gives (suc m) h inner group home counted begun out start) before))
+        (span_gives p variable.name e inner span guard within guard_begun c named exits labels _ (λ start out. group_code n (at (length d)) start out (suc m) group) (λ start out. group_gives (suc m) h inner group within counted begun out start) before))
     basic_gives m d a labels (DoFor p false variable span guard group) home counts begun exits before =
         let inner : Around = around_for d a false in
         let g : List Phrase = add d a (OfGroup labels true) in
@@ -407,7 +414,7 @@ module _ (s : Set) (views : List View) (o : Outline) (number : ℕ) (outlined : 
         let counted = any_guard_counts (suc m) inner f guard (span_counts (suc m) e inner span (for_counts m d a labels false variable counts)) in
         with_cells_gives before p (cells_of n (at a.block) false m) _
         (λ c is.
-        let named = cells_named s views o number outlined places laid unit sites false a.block m (length d) c (marked m d a (OfGroup labels true) home refl counts own)
+        let named = cells_named s views o number outlined places laid unit sites false a.block m (length d) c home.1 (marked m d a (OfGroup labels true) home refl counts own)
         (λ k few. said_place g (below d a) (OfVariable variable) (length d) k a.block home first (inr (refl, refl, few))) is in
         span_gives p variable.name e inner span guard home guard_begun c named exits labels _ (λ start out. group_code n (at a.block) start out (suc m) group) (λ start out. group_gives (suc m) h inner group home counted begun out start) before)
     basic_gives m d a labels (Exit p label) home counts begun exits before = mapped (λ spot. instr.Jump spot ∷ []) _ before p (λ spot. (tt, tt))
@@ -447,7 +454,7 @@ module _ (s : Set) (views : List View) (o : Outline) (number : ℕ) (outlined : 
     basic_gives m d a labels (OffError p x) home counts begun exits before = mapped (λ (errors : ℕ × ℕ). instr.Off errors.0 errors.1 ∷ []) (numbers_of x) before p (λ errors. (tt, tt))
     basic_gives m d a labels (OnErrorStatement p x handler) home counts begun exits before = tt
 
-    direct_gives : (m : ℕ) (d : List Phrase) (a : Around) (x : Statement) → a.home ≡ unit → Counts a.home m d → AreFirst (gathered_statement d a x) s.phrases → (exits : Exits) (before : List Instr)
+    direct_gives : (m : ℕ) (d : List Phrase) (a : Around) (x : Statement) → Here a → Counts a.home m d → AreFirst (gathered_statement d a x) s.phrases → (exits : Exits) (before : List Instr)
         → Gives P before (direct_code n (at a.block) before exits m x)
     direct_gives m d a (Labelled labels (OnErrorStatement p x handler)) home counts begun exits before =
         let e : List Phrase = gathered_each (gathered_label a) d labels in
@@ -480,7 +487,7 @@ module _ (s : Set) (views : List View) (o : Outline) (number : ℕ) (outlined : 
     direct_gives m d a (Labelled labels (OnErrorResponse p x r e)) home counts begun exits before = basic_gives m (gathered_each (gathered_label a) d labels) a labels (OnErrorResponse p x r e) home (labels_count m a d labels counts) begun exits before
     direct_gives m d a (Labelled labels (OffError p x)) home counts begun exits before = basic_gives m (gathered_each (gathered_label a) d labels) a labels (OffError p x) home (labels_count m a d labels counts) begun exits before
 
-    pub block_gives : (m : ℕ) (d : List Phrase) (a : Around) (x : Statements) → a.home ≡ unit → Counts a.home m d → AreFirst (gathered_statements d a x) s.phrases → (exits : Exits) (before : List Instr)
+    pub block_gives : (m : ℕ) (d : List Phrase) (a : Around) (x : Statements) → Here a → Counts a.home m d → AreFirst (gathered_statements d a x) s.phrases → (exits : Exits) (before : List Instr)
         → Gives P before (block_code n (at a.block) before exits m x)
     block_gives m d a NoStatements home counts begun exits before = none_more P before
     block_gives m d a (MoreStatements first others) home counts begun exits before =
@@ -488,23 +495,23 @@ module _ (s : Set) (views : List View) (o : Outline) (number : ℕ) (outlined : 
         (direct_gives m d a first home counts (then_ (statements_first (gathered_statement d a first) a others) begun) exits before)
         (λ middle. block_gives (after_statement m first) (gathered_statement d a first) a others home (statement_counts m d a first counts) begun exits middle)
 
-    alternative_gives : (m : ℕ) (d : List Phrase) (a : Around) (x : Alternative) → a.home ≡ unit → Counts a.home m d → AreFirst (gathered_alternative d a x) s.phrases → (exits : Exits) (before : List Instr)
+    alternative_gives : (m : ℕ) (d : List Phrase) (a : Around) (x : Alternative) → Here a → Counts a.home m d → AreFirst (gathered_alternative d a x) s.phrases → (exits : Exits) (before : List Instr)
         → Gives P before (alternative_code n (at a.block) before exits m x)
     alternative_gives m d a NoAlternative home counts begun exits before = none_more P before
     alternative_gives m d a (Otherwise x) home counts begun exits before =
         behind_gives P before (instr.Jump _ ∷ []) (statement_code n (at a.block) (before ++ (instr.Jump _ ∷ [])) exits m x) (tt, tt) (statement_gives m d a x home counts begun exits (before ++ (instr.Jump _ ∷ [])))
 
-    uncased_gives : (m : ℕ) (d : List Phrase) (a : Around) (x : Alternative) → a.home ≡ unit → Counts a.home m d → AreFirst (gathered_alternative d a x) s.phrases → (exits : Exits) (p : refusals.Place) (before : List Instr)
+    uncased_gives : (m : ℕ) (d : List Phrase) (a : Around) (x : Alternative) → Here a → Counts a.home m d → AreFirst (gathered_alternative d a x) s.phrases → (exits : Exits) (p : refusals.Place) (before : List Instr)
         → Gives P before (uncased_code n (at a.block) before exits p m x)
     uncased_gives m d a NoAlternative home counts begun exits p before = one_gives P before p (instr.Raise 1 6) tt
     uncased_gives m d a (Otherwise x) home counts begun exits p before = statement_gives m d a x home counts begun exits before
 
-    cases_give : (m : ℕ) (d : List Phrase) (a : Around) (x : Group) → a.home ≡ unit → Counts a.home m d → AreFirst (gathered_group d a x) s.phrases → (exits : Exits) (p : refusals.Place) (cell target : ℕ) → Named cell → (before : List Instr)
+    cases_give : (m : ℕ) (d : List Phrase) (a : Around) (x : Group) → Here a → Counts a.home m d → AreFirst (gathered_group d a x) s.phrases → (exits : Exits) (p : refusals.Place) (cell target : ℕ) → Named cell → (before : List Instr)
         → Gives P before (cases_code n (at a.block) before exits p cell target m x)
     cases_give m d a (Groups list close) home counts begun exits p cell target named before =
         selected_gives m d a list home counts (then_ (close_first a (gathered_statements d a list) close) begun) exits p cell target 1 named before
 
-    selected_gives : (m : ℕ) (d : List Phrase) (a : Around) (x : Statements) → a.home ≡ unit → Counts a.home m d → AreFirst (gathered_statements d a x) s.phrases → (exits : Exits) (p : refusals.Place) (cell target k : ℕ) → Named cell
+    selected_gives : (m : ℕ) (d : List Phrase) (a : Around) (x : Statements) → Here a → Counts a.home m d → AreFirst (gathered_statements d a x) s.phrases → (exits : Exits) (p : refusals.Place) (cell target k : ℕ) → Named cell
         → (before : List Instr) → Gives P before (selected_code n (at a.block) before exits p cell target m k x)
     selected_gives m d a NoStatements home counts begun exits p cell target k named before = none_more P before
     selected_gives m d a (MoreStatements first others) home counts begun exits p cell target k named before =
@@ -514,11 +521,11 @@ module _ (s : Set) (views : List View) (o : Outline) (number : ℕ) (outlined : 
         (λ middle. behind_gives P middle (instr.Jump target ∷ []) (selected_code n (at a.block) (middle ++ (instr.Jump target ∷ [])) exits p cell target (after_statement m first) (suc k) others) (tt, tt)
         (selected_gives (after_statement m first) (gathered_statement d a first) a others home (statement_counts m d a first counts) begun exits p cell target (suc k) named (middle ++ (instr.Jump target ∷ [])))))
 
-    group_gives : (m : ℕ) (d : List Phrase) (a : Around) (x : Group) → a.home ≡ unit → Counts a.home m d → AreFirst (gathered_group d a x) s.phrases → (exits : Exits) (before : List Instr)
+    group_gives : (m : ℕ) (d : List Phrase) (a : Around) (x : Group) → Here a → Counts a.home m d → AreFirst (gathered_group d a x) s.phrases → (exits : Exits) (before : List Instr)
         → Gives P before (group_code n (at a.block) before exits m x)
     group_gives m d a (Groups list close) home counts begun exits before = statements_give m d a list home counts (then_ (close_first a (gathered_statements d a list) close) begun) exits before
 
-    statements_give : (m : ℕ) (d : List Phrase) (a : Around) (x : Statements) → a.home ≡ unit → Counts a.home m d → AreFirst (gathered_statements d a x) s.phrases → (exits : Exits) (before : List Instr)
+    statements_give : (m : ℕ) (d : List Phrase) (a : Around) (x : Statements) → Here a → Counts a.home m d → AreFirst (gathered_statements d a x) s.phrases → (exits : Exits) (before : List Instr)
         → Gives P before (statements_code n (at a.block) before exits m x)
     statements_give m d a NoStatements home counts begun exits before = none_more P before
     statements_give m d a (MoreStatements first others) home counts begun exits before =

@@ -34,6 +34,7 @@ use Rattle.hal_fit_calls.specs.Each.{Each}
 use Rattle.hal_fit_rules.specs.Begun.{AreFirst}
 use Rattle.hal_fit_rules.proofs.Marking.{Counts}
 use Rattle.hal_fit_rules.proofs.UsingUnits.{site_at, body_fits}
+use Rattle.hal_fit_rows.specs.Homes.{LeadsHome, AtHome}
 use Rattle.hal_fit_rows.specs.Purposes.{StandsIn, IsSite}
 use Rattle.hal_fit_views.specs.Naming.{Names}
 use Rattle.hal_fit_views.proofs.Adding.{Gives, none_more, some_more, then_gives, behind_gives, alone_gives}
@@ -48,7 +49,7 @@ module _ (s : Set) (views : List View) (o : Outline) (number : ℕ) (outlined : 
 
   -- a site of a unit that stands in the process
   abbrev IsHere : Site → ℕ → Type 0
-  IsHere site unit = (site.places ≡ places_of_process s o.process) × ((block : ℕ) → IsSite s o.process (within_block block site))
+  IsHere site unit = (site.places ≡ places_of_process s o.process) × ((block : ℕ) → LeadsHome s.phrases unit block → IsSite s o.process (within_block block site))
 
   -- statements directly in a unit
   abbrev AreNamed : Site → ℕ → Statements → Type 0
@@ -66,7 +67,7 @@ module _ (s : Set) (views : List View) (o : Outline) (number : ℕ) (outlined : 
       → AreNamed (site_at s places k) m (MoreStatements x NoStatements)
   unfolding gathered_statements
   one_named places k m d a x here counts begun exits before =
-      block_gives s views o number outlined places here.0 k here.1 m d (opened k a) (MoreStatements x NoStatements) refl counts begun exits before
+      block_gives s views o number outlined places here.0 k here.1 m d (opened k a) (MoreStatements x NoStatements) (refl, AtHome) counts begun exits before
 
   module _ (files : List File) (whole : s.phrases ≡ phrases_of files) (bodies : s.bodies ≡ bodies_of files s.phrases) (unit : ℕ) (b : Body) (found : body_at s unit ≡ Some b) (stands : StandsIn s o.process unit) where
     abbrev here : Site
@@ -75,7 +76,7 @@ module _ (s : Set) (views : List View) (o : Outline) (number : ℕ) (outlined : 
     statements_named : (exits : Exits) (before : List Instr) → Gives P before (block_code n here before exits 0 b.statements)
     statements_named =
         body_fits s AreNamed none_named more_named IsHere one_named files unit b whole bodies found (places_of_process s o.process)
-        (refl, (λ block. record { unit = unit; body = b; found = found; stands = stands; block = block; is = refl }))
+        (refl, (λ block leads. record { unit = unit; body = b; found = found; stands = stands; block = block; leads = leads; is = refl }))
 
     pub process_named : (before : List Instr) → Gives P before (process_code n here before b.statements)
     process_named before =

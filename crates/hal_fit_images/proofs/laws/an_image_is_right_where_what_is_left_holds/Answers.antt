@@ -59,7 +59,7 @@ returns c turns files image is accepted few_turns left =
       references = λ process. subst (λ (x : Shapes). Each (IsNumbered s x) (places_of_process s process)) shapes (c.references_of_processes_are_to_shapes.ensures turns files accepted.named accepted.parts process);
       shapes = c.the_shapes_of_an_image_are_right.ensures s views image is accepted.few;
       views = and_from (list_all (form_right image) image.views && nat_le (sum_by (spread_of image) image.views) spread_limit) (views_lie image 0 image.views)
-          (and_from (list_all (form_right image) image.views) (nat_le (sum_by (spread_of image) image.views) spread_limit) (c.views_of_an_image_are_formed.ensures s image is)
-          (and_parts (nat_le (sum_by (λ (runs : List (Run Kind)). row_count runs) image.shapes) spread_limit) (nat_le (sum_by (spread_of image) image.views) spread_limit) accepted.few).1) left.lie;
+          (and_from (list_all (form_right image) image.views) (nat_le (sum_by (spread_of image) image.views) spread_limit) (c.views_of_an_image_are_formed.ensures turns files image is)
+          (and_parts (nat_le (sum_by (λ (runs : List (Run Kind)). row_count runs) image.shapes) spread_limit) (nat_le (sum_by (spread_of image) image.views) spread_limit) accepted.few).1) (c.views_lie_where_what_is_left_of_data_holds.ensures turns files image is accepted.named accepted.parts left.views);
       names = c.the_names_of_an_image_are_right.ensures turns files views image is accepted.within accepted.program;
     }))

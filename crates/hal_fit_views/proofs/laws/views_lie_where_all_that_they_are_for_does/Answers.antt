@@ -12,6 +12,7 @@ use Rattle.hal_meaning.specs.ReportNames.{path_of}
 use Rattle.hal_meaning.specs.Sets.{Set, set_of}
 use Rattle.hal_link.specs.CalledViews.{views_of}
 use Rattle.hal_link.proofs.Linked.{image_placed}
+use Rattle.hal_fit_rows.proofs.HomingFiles.{all_home}
 use Rattle.hal_fit_rows.proofs.Made.{image_is}
 use Rattle.hal_fit_rows.proofs.Purposed.{all_purposed}
 use Rattle.hal_fit_views.proofs.Linked.{views_named}
@@ -25,4 +26,4 @@ returns c turns files image is lie =
     let long : length image.processes ≡ length (processes_of s.phrases) =
     sym (length-map image.processes (λ (p : Process). p.name)) ∙ (ap (λ (t : Tables). length t.processes) (image_placed turns files (views_of s) image is).tables ∙ length-map (processes_of s.phrases) (path_of s.phrases)) in
     subst (λ (views : List View). views_lie image 0 views ≡ true) (ap (λ (x : ImageParts). x.views) made.1)
-    (views_all s image lie long (views_of s) (all_purposed s) (views_named s (views_of s) files refl refl image is))
+    (views_all s image lie long (views_of s) (all_purposed s (all_home files)) (views_named s (views_of s) files refl refl image is))
