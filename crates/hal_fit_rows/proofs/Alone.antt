@@ -71,7 +71,7 @@ shapes_kept s =
 abbrev rows_in : Shapes → ℕ
 rows_in shapes = sum_by (λ (runs : List (Run Kind)). row_count runs) shapes
 
-one_counted : (shapes : Shapes) (k : ℕ) (runs : List (Run Kind)) → slice_get shapes k ≡ Some runs → row_count runs ≤ rows_in shapes
+pub one_counted : (shapes : Shapes) (k : ℕ) (runs : List (Run Kind)) → slice_get shapes k ≡ Some runs → row_count runs ≤ rows_in shapes
 one_counted [] k runs is = absurd (cc)
 one_counted (x ∷ xs) zero runs is =
     let sum = sum_by-cons (λ (one : List (Run Kind)). row_count one) x xs in
@@ -134,11 +134,11 @@ within (y ∷ xs) zero x is = omega arith
 within (y ∷ xs) (suc k) x is = let rest = within xs k x is in omega (arith, rest)
 
 -- where runs are, or some that are the same
-record HasSame (runs : List (Run Kind)) (shapes : Shapes) : Type 0 where
-  place : ℕ
-  found : List (Run Kind)
-  there : slice_get shapes place ≡ Some found
-  same : same_runs found runs ≡ true
+pub record HasSame (runs : List (Run Kind)) (shapes : Shapes) : Type 0 where
+  pub place : ℕ
+  pub found : List (Run Kind)
+  pub there : slice_get shapes place ≡ Some found
+  pub same : same_runs found runs ≡ true
 
 same_later : (runs x : List (Run Kind)) (xs : Shapes) → HasSame runs xs → HasSame runs (x ∷ xs)
 same_later runs x xs one = record { place = suc one.place; found = one.found; there = one.there; same = one.same }
@@ -162,7 +162,7 @@ module _ (shapes : Shapes) (kept : AreKept shapes) (few : rows_in shapes ≤ 104
   found_alike : (k : ℕ) (runs : List (Run Kind)) → slice_get shapes k ≡ Some runs → same_runs runs runs ≡ true
   found_alike k runs is = let rows = one_counted shapes k runs is in alike runs (omega (arith, rows, few))
 
-  has_same : (runs : List (Run Kind)) → HaveRuns runs shapes → HasSame runs shapes
+  pub has_same : (runs : List (Run Kind)) → HaveRuns runs shapes → HasSame runs shapes
   has_same runs (inl among) = let at = place_of shapes runs among in record { place = at.0; found = runs; there = at.1; same = found_alike at.0 runs at.1 }
   has_same runs (inr any) = any_same runs shapes any
 

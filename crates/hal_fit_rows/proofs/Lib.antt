@@ -35,3 +35,8 @@ mod HomingStatements
 pub mod HomingFiles
 pub mod Visible
 pub mod Sharing
+mod Grouping
+mod GroupingExpressions
+mod GroupingDeclarations
+mod GroupingStatements
+pub mod GroupingFiles

@@ -49,7 +49,7 @@ no_copies : (o : Option ℕ) → is_some o ≡ false → o ≡ None
 no_copies None is = refl
 no_copies (Some n) is = absurd (cc)
 
-each_among : {X : Type 0} (P : X → Type 0) (xs : List X) (x : X) → Each P xs → IsAmong x xs → P x
+pub each_among : {X : Type 0} (P : X → Type 0) (xs : List X) (x : X) → Each P xs → IsAmong x xs → P x
 each_among P [] x each within = absurd within
 each_among P (y ∷ xs) x each (inl same) = subst P (sym same) each.0
 each_among P (y ∷ xs) x each (inr later) = each_among P xs x each.1 later

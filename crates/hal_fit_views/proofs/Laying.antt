@@ -4,8 +4,11 @@ use Rattle.std.proofs.Common.{refl, sym, ap, subst, ◌∙◌, inl, inr, arith, 
 use Rattle.hal_grammar.specs.Leaves.{Naming}
 use Rattle.hal_grammar.specs.Declarations.{Attribute, Declared}
 use Rattle.hal_grammar.specs.Units.{Head, Program, Compool, Task, Procedure, Function}
+use Rattle.hal_phrases.specs.declared.around.Around.{Around}
 use Rattle.hal_phrases.specs.Phrases.{Node, Phrase, OfItem, OfTemporaryGroup, OfUnit}
-use Rattle.hal_names.specs.Laws.{IsCounted}
+use Rattle.hal_names.specs.declared.key.Key.{Key}
+use Rattle.hal_names.specs.declared.key.Space.TheVariants as space
+use Rattle.hal_names.specs.Keys.{key, own, declared_at}
 use Rattle.hal_scope.specs.Builtins.{builtin_named}
 use Rattle.hal_scope.specs.Sorts.{type_of}
 use Rattle.hal_kinds.specs.Data.{is_event_type}
@@ -41,12 +44,12 @@ use Rattle.hal_fit_layout.proofs.Parameters.{kinds_in, places_are}
 use Rattle.hal_fit_rows.proofs.LookingUp.{LooksUp}
 use Rattle.hal_fit_rows.proofs.Lying.{Opens, own_lies, item_lies}
 use Rattle.hal_fit_rows.proofs.Sharing.{cells_lie}
-use Rattle.hal_fit_rows.specs.Homes.{LeadsHome, StandsHome}
+use Rattle.hal_fit_rows.specs.Homes.{LeadsHome, StandsHome, StandsPlaced}
 use Rattle.hal_fit_rows.specs.Purposes.{StandsIn, IsSite}
 use Rattle.hal_fit_views.specs.Holding.{RefersTo, Holds, DataHold, ReferencesHold}
 use Rattle.hal_fit_views.specs.Placed.{keeps_own, is_temporary, AreWellPlaced}
 use Rattle.hal_fit_views.proofs.Reached.{ReachesIt, reaches_so, listed, stands_reached, passes_kept}
-use Rattle.hal_fit_views.proofs.Seen.{seen_item, seen_group}
+use Rattle.hal_fit_views.proofs.Seen.{seen_item, seen_first, seen_group}
 
 -- what is led to by a name that refers to data
 pub data IsDataAt (s : Set) (p : Phrase) : ℕ → Storing → Shape → Type 0 where
@@ -125,7 +128,7 @@ hidden_kinds owner (suc n) = ap (λ l. Some kind.Double ∷ l) (hidden_kinds own
 pub hidden_opens : (owner n : ℕ) → Opens owner (hidden owner (suc n)) (replicate (suc n) kind.Double)
 hidden_opens owner n = record { first = _; more = hidden owner n; is = refl; its = refl; rest = []; kinds = hidden_kinds owner (suc n) ∙ sym (append-nil (known (replicate (suc n) kind.Double))) }
 
-module _ (s : Set) (looks : LooksUp s.phrases) (home : Each (StandsHome s.phrases) s.phrases) (well : AreWellPlaced s.phrases s.constants) (image : ImageParts) (cells : images.expanded image.cells ≡ cells_of s.phrases s.constants)
+module _ (s : Set) (looks : LooksUp s.phrases) (home : Each (StandsHome s.phrases) s.phrases) (groups : Each (StandsPlaced s.phrases) s.phrases) (well : AreWellPlaced s.phrases s.constants) (image : ImageParts) (cells : images.expanded image.cells ≡ cells_of s.phrases s.constants)
     (laid : (process own : ℕ) → slice_get (processes_of s.phrases) process ≡ Some own → images.places_of image process ≡ map (own_row s (shapes_of s)) (places_of s.phrases s.constants own))
     (references : ReferencesHold s image) where
   -- at a site in a process
@@ -151,7 +154,12 @@ module _ (s : Set) (looks : LooksUp s.phrases) (home : Each (StandsHome s.phrase
     unit_there p at is name m q means there isnt keeps =
         let outside = well.outside m q there keeps in
         reaches_so s process reached.own q.around.home reached.its (subst (λ k. is_among (unit_numbers s.phrases) k ≡ true) (looks.counted q.around.home outside.phrase outside.there) (has_unit s.phrases q.around.home outside.phrase outside.there outside.is))
-        (seen_item s.phrases looks home s.constants well b.number block p at is leads reached.own its_process reach name m q means there isnt keeps)
+        (seen_item s.phrases looks home groups s.constants well b.number block p at is leads reached.own its_process reach name m q means there isnt keeps)
+
+    -- it is the first declaration of its name in its unit
+    item_key : (k : ℕ) (a : Around) (node : Node) (common : List Attribute) (item : Declared) (q : Key) → node ≡ OfItem common item → declared_at k a node ≡ Some q → q ≡ key space.Declared a.home item.name.name
+    unfolding declared_at
+    item_key k a node common item q is declares = let made = sym (ap (declared_at k a) is) ∙ declares in cc
 
     item_holds : (p : Phrase) → slice_get s.phrases b.number ≡ Some p → is_unit p.node ≡ true → (name : List ℕ) (m : ℕ) (q : Phrase) → meant s.phrases block name ≡ Some m → slice_get s.phrases m ≡ Some q
         → (common : List Attribute) (item : Declared) → q.node ≡ OfItem common item → (way : Storing) → storing s.phrases s.constants q (OfItem common item) ≡ way
@@ -180,13 +188,13 @@ module _ (s : Set) (looks : LooksUp s.phrases) (home : Each (StandsHome s.phrase
         let one = unit_there p at is name m q means there isnt keeps in
         subst (λ places. RefersTo image process (first_place places q.number) (kinds_of (shape_of s.phrases s.constants q common item))) (sym same_places)
         (subst (λ k. RefersTo image process (first_place (places_of s.phrases s.constants reached.own) k) (kinds_of (shape_of s.phrases s.constants q common item))) (sym (looks.counted m q there))
-        (references process reached.own m q common item reached.its there node stored one.reaches))
+        (references process reached.own m q common item reached.its there node (let first = seen_first s.phrases looks home groups s.constants well b.number block p at is leads name m q means there isnt keeps in subst (λ x. own s.phrases x ≡ Some m) (item_key q.number q.around q.node common item first.0 node first.1) first.2) stored one.reaches))
     item_holds p at is name m q means there common item node Unstored stored = tt
 
     group_holds : (p : Phrase) → slice_get s.phrases b.number ≡ Some p → is_unit p.node ≡ true → (name : List ℕ) (m : ℕ) (q : Phrase) → meant s.phrases block name ≡ Some m → slice_get s.phrases m ≡ Some q
         → (labels : List Naming) (variable : Naming) → q.node ≡ OfTemporaryGroup labels variable → Holds image process here q.number InPlaces temporary_shape
     group_holds p at is name m q means there labels variable node =
-        let own_home = seen_group s.phrases looks home s.constants well b.number block p at is leads name m q means there (ap is_temporary node) in
+        let own_home = seen_group s.phrases looks home groups s.constants well b.number block p at is leads name m q means there (ap is_temporary node) in
         let one = reached.reaches in
         let lies = lies_in_process s.phrases s.constants looks.counted q.around.home m q there refl reached.own one.place (one.there ∙ ap Some (sym own_home)) (subst (λ u. is_among (processes_reaching s.phrases u) reached.own ≡ true) (sym own_home) one.reaches) in
         let number = looks.counted m q there in

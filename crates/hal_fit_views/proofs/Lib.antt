@@ -15,3 +15,5 @@ mod Laying
 mod OwnPlaces
 mod Choosing
 mod ChosenViews
+mod Referring
+mod Limits

@@ -33,11 +33,12 @@ use Rattle.hal_fit_layout.specs.Owned.{LiesIn, IsStored, AreStored}
 use Rattle.hal_fit_layout.proofs.Called.{Reaches}
 use Rattle.hal_fit_layout.proofs.Owned.{lies_in_process}
 use Rattle.hal_fit_layout.proofs.Parameters.{places_are}
-use Rattle.hal_fit_rows.proofs.Alone.{place_of}
+use Rattle.hal_fit_calls.specs.Each.{Each}
+use Rattle.hal_fit_rows.proofs.Alone.{each_at, place_of}
 use Rattle.hal_fit_rows.proofs.Lying.{own_lies, parameter_lies}
+use Rattle.hal_fit_rows.specs.Homes.{StandsPlaced}
 use Rattle.hal_fit_rows.specs.Purposes.{StandsIn, IsSite, SaysPlaces, HasPlace, ForPlace, ForParameter}
 use Rattle.hal_fit_views.specs.Lying.{lies_in, CellsLie}
-use Rattle.hal_fit_views.specs.Placed.{StandInGroups}
 use Rattle.hal_fit_views.proofs.Held.{Chooses, own_held, one_chosen}
 use Rattle.hal_fit_views.proofs.Laying.{hidden_opens}
 use Rattle.hal_fit_views.proofs.Reached.{ReachesIt, stands_reached}
@@ -103,7 +104,7 @@ module _ (s : Set) (counted : IsCounted s.phrases) (image : ImageParts)
         own_held image process here group before (replicate (suc n) kind.Double) from [] (target.Cell kind.Double) (in_image group (replicate (suc n) kind.Double) doubles) begins
         (one_chosen image (replicate (suc n) kind.Double) before kind.Double (same_at (suc n) before kind.Double few))
 
-    place_held : StandInGroups s.phrases → (rows : List Dimension) (k : Kind) (from : Base) → ForPlace here rows k from → lies_in image process (cell_view from rows k) ≡ true
+    place_held : Each (StandsPlaced s.phrases) s.phrases → (rows : List Dimension) (k : Kind) (from : Base) → ForPlace here rows k from → lies_in image process (cell_view from rows k) ≡ true
     place_held groups rows k from one =
         subst (λ ds. lies_in image process (cell_view from ds k) ≡ true) (sym one.plain)
         (subst (λ x. lies_in image process (cell_view from [] x) ≡ true) (sym one.kind) (by one.has.says))
@@ -117,7 +118,7 @@ module _ (s : Set) (counted : IsCounted s.phrases) (image : ImageParts)
             let there : slice_get s.phrases one.group ≡ Some one.has.phrase = subst (λ m. slice_get s.phrases m ≡ Some one.has.phrase) (sym number ∙ itself.3) at.1 in
             hidden_held one.group one.has.phrase 4 one.before from there one.has.home (ap (places_at s.phrases s.constants one.has.phrase) itself.2) itself.4 one.begins
         by (inr child) =
-            let g = groups at.0 one.has.phrase at.1 child.0 in
+            let g = (each_at (StandsPlaced s.phrases) s.phrases at.0 one.has.phrase groups at.1).0 child.0 in
             let there : slice_get s.phrases one.group ≡ Some g.group = subst (λ m. slice_get s.phrases m ≡ Some g.group) child.1 g.there in
             let said = any_says s.phrases g.group.number one.has.phrase one.has.among child.0 (child.1 ∙ sym (counted one.group g.group there)) in
             hidden_held one.group g.group 3 one.before from there (g.home ∙ one.has.home)
@@ -127,5 +128,5 @@ module _ (s : Set) (counted : IsCounted s.phrases) (image : ImageParts)
   parameters_lie stored process site rows k from at one =
       parameter_held process at.unit at.block at.body at.found at.stands stored rows k from (subst (λ (x : Site). ForParameter x rows k from) at.is one)
 
-  pub places_lie : StandInGroups s.phrases → CellsLie s image ForPlace
+  pub places_lie : Each (StandsPlaced s.phrases) s.phrases → CellsLie s image ForPlace
   places_lie groups process site rows k from at one = place_held process at.unit at.block at.body at.found at.stands groups rows k from (subst (λ (x : Site). ForPlace x rows k from) at.is one)

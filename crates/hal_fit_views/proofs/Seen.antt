@@ -15,12 +15,13 @@ use Rattle.hal_meaning.specs.Bodies.{is_unit, meant, processes_of, reaches, reac
 use Rattle.hal_meaning.specs.Places.{storing}
 use Rattle.hal_reach.specs.Places.{is_among}
 use Rattle.hal_fit_calls.specs.Each.{Each}
+use Rattle.hal_fit_rows.proofs.Alone.{each_at}
 use Rattle.hal_fit_rows.proofs.LookingUp.{LooksUp}
 use Rattle.hal_fit_rows.proofs.Visible.{same_phrase, outward, not_in_file, to_home, IsFileAt, IsGiven, IsNear, IsUnitOf, IsPooled, nearest_is, included_is, within_itself, reaches_around}
-use Rattle.hal_fit_rows.specs.Homes.{LeadsHome, AtHome, InGroup, StandsHome, Encloses, Itself, IsOpenUnit}
+use Rattle.hal_fit_rows.specs.Homes.{LeadsHome, AtHome, InGroup, StandsHome, Encloses, Itself, Beyond, IsOpenUnit, IsOuter, IsUnit, IsFile, StandsPlaced}
 use Rattle.hal_fit_views.specs.Placed.{keeps_own, is_temporary, has_own, AreWellPlaced}
 
-module _ (ps : List Phrase) (looks : LooksUp ps) (home : Each (StandsHome ps) ps) (vs : Known) (well : AreWellPlaced ps vs) where
+module _ (ps : List Phrase) (looks : LooksUp ps) (home : Each (StandsHome ps) ps) (placed : Each (StandsPlaced ps) ps) (vs : Known) (well : AreWellPlaced ps vs) where
   abbrev Near : ℕ → List ℕ → ℕ → Type 0
   Near block name m = IsNear ps looks home well.items block name m
 
@@ -77,6 +78,35 @@ module _ (ps : List Phrase) (looks : LooksUp ps) (home : Each (StandsHome ps) ps
     by (OfTemporaryGroup labels variable) so pools = absurd (cc)
     by other so pools = absurd (cc)
 
+  -- no unit and no file stands in a group
+  IsFileNode : Phrase → Type 0
+  IsFileNode q = (prefaces : List Preface) × (prefaces_of q.node ≡ Some prefaces)
+
+  no_unit : (node : Node) → is_temporary node ≡ true → is_unit node ≡ true → ⊥
+  no_unit (OfTemporaryGroup labels variable) is unit = absurd (cc)
+  no_unit other is unit = absurd (cc)
+
+  group_itself : (m : ℕ) (p q : Phrase) → slice_get ps m ≡ Some p → is_temporary p.node ≡ true → slice_get ps m ≡ Some q → (is_unit q.node ≡ true) ⊎ IsFileNode q → ⊥
+  unfolding IsFileNode
+  group_itself m p q there is at (inl unit) = no_unit p.node is (subst (λ (x : Phrase). is_unit x.node ≡ true) (sym (same m p q there at)) unit)
+  group_itself m p q there is at (inr file) = no_file m p there is (record { phrase = q; there = at; prefaces = file.0; is = file.1 })
+
+  no_group : (m : ℕ) (p : Phrase) → slice_get ps m ≡ Some p → is_temporary p.node ≡ true → (b : ℕ) → Encloses ps m b → (q : Phrase) → slice_get ps b ≡ Some q → (is_unit q.node ≡ true) ⊎ IsFileNode q → ⊥
+  unfolding IsFileNode
+  no_group m p there is _ Itself q at outer = group_itself m p q there is at outer
+  no_group m p there is b (Beyond k x at_x none rest) q at (inr file) =
+      let alike = ap (λ (y : Phrase). prefaces_of y.node) (same k x q at_x at) in
+      let some = file.1 in
+      absurd (cc)
+  no_group m p there is b (Beyond k x at_x none rest) q at (inl unit) =
+      let alike = same k x q at_x at in
+      let stands = (each_at (StandsPlaced ps) ps k x placed at_x).1 (subst (λ (y : Phrase). is_unit y.node ≡ true) (sym alike) unit) in
+      by stands.direct stands.outer (no_group m p there is x.around.block rest)
+    where
+      by : x.around.block ≡ x.around.home → IsOuter ps x.around.home → ((g : Phrase) → slice_get ps x.around.block ≡ Some g → (is_unit g.node ≡ true) ⊎ IsFileNode g → ⊥) → ⊥
+      by direct (IsUnit g at_g unit_g) further = further g (subst (λ n. slice_get ps n ≡ Some g) (sym direct) at_g) (inl unit_g)
+      by direct (IsFile g prefaces at_g some) further = further g (subst (λ n. slice_get ps n ≡ Some g) (sym direct) at_g) (inr (prefaces, some))
+
   -- what a name means, and what that stands for
   record IsMeant (block : ℕ) (name : List ℕ) (m : ℕ) : Type 0 where
     declared : ℕ
@@ -91,9 +121,25 @@ module _ (ps : List Phrase) (looks : LooksUp ps) (home : Each (StandsHome ps) ps
 
   -- in a unit, of which the block is one
   module _ (unit block : ℕ) (q : Phrase) (at_unit : slice_get ps unit ≡ Some q) (is_one : is_unit q.node ≡ true) (leads : LeadsHome ps unit block) where
+    -- an item with own places is found around the block
+    item_near : (name : List ℕ) (m : ℕ) (p : Phrase) → slice_get ps m ≡ Some p → keeps_own (storing ps vs p p.node) ≡ true → Near block name m ⊎ Given name m → Near block name m
+    item_near name m p there keeps (inl near) = near
+    item_near name m p there keeps (inr given) = by (included_is ps looks home well.items given.prefaces name m given.is) where
+      outside : IsOpenUnit ps p.around.home
+      outside = well.outside m p there keeps
+
+      by : UnitOf m ⊎ Pooled m → Near block name m
+      by (inl one) = absurd (not_in_file ps looks home well.items p.around.home p.around.home outside (subst File (sym (item_home one.owner one.name m p one.found there keeps)) one.file) Itself)
+      by (inr pooled) =
+          let owner = item_home pooled.pool pooled.name m p pooled.found there keeps in
+          let phrases = same pooled.pool outside.phrase pooled.phrase (subst (λ n. slice_get ps n ≡ Some outside.phrase) owner outside.there) pooled.there in
+          let isnt = outside.no_pool in
+          let is = subst (λ (x : Phrase). is_compool_unit x.node ≡ true) (sym phrases) pooled.is in
+          absurd (cc)
+
     -- a group around the block stands in the unit
     in_group : (m : ℕ) (p : Phrase) → slice_get ps m ≡ Some p → is_temporary p.node ≡ true → (b : ℕ) → LeadsHome ps unit b → Encloses ps m b → p.around.home ≡ unit
-    in_group m p there is _ AtHome around = absurd (well.groups m p unit q there is at_unit is_one around)
+    in_group m p there is _ AtHome around = absurd (no_group m p there is unit around q at_unit (inl is_one))
     in_group m p there is _ (InGroup k g labels variable at_k node its rest) around = by (outward ps looks home well.items m k g at_k around) (in_group m p there is g.around.block rest) where
       by : (m ≡ k) ⊎ Encloses ps m g.around.block → (Encloses ps m g.around.block → p.around.home ≡ unit) → p.around.home ≡ unit
       by (inl here) further = ap (λ (x : Phrase). x.around.home) (same k p g (subst (λ n. slice_get ps n ≡ Some p) here there) at_k) ∙ its
@@ -109,9 +155,16 @@ module _ (ps : List Phrase) (looks : LooksUp ps) (home : Each (StandsHome ps) ps
       by (inr pooled) =
           absurd (no_pool m p pooled.phrase there (subst (λ n. slice_get ps n ≡ Some pooled.phrase) (sym (group_home pooled.pool pooled.name m p pooled.found there is)) pooled.there) is pooled.is)
 
+    found_so : (name : List ℕ) (m : ℕ) (p : Phrase) → meant ps block name ≡ Some m → slice_get ps m ≡ Some p → is_temporary p.node ≡ false → keeps_own (storing ps vs p p.node) ≡ true → Near block name m ⊎ Given name m
+    found_so name m p is there isnt keeps =
+        let one = meant_is block name m is in
+        let has : has_own ps vs p ≡ true = ap (λ b. b || keeps_own (storing ps vs p p.node)) isnt ∙ keeps in
+        let itself = well.alone one.declared m p one.stands there has in
+        subst (λ n. Near block name n ⊎ Given name n) itself (nearest_is ps looks home well.items (length ps) block name one.declared one.means_it)
+
     module _ (k : ℕ) (process : is_among (processes_of ps) k ≡ true) (reach : reaches ps k unit ≡ true) where
-      item_seen : (name : List ℕ) (m : ℕ) (p : Phrase) → slice_get ps m ≡ Some p → keeps_own (storing ps vs p p.node) ≡ true → Near block name m ⊎ Given name m → reaches ps k p.around.home ≡ true
-      item_seen name m p there keeps (inl near) =
+      item_seen : (name : List ℕ) (m : ℕ) (p : Phrase) → slice_get ps m ≡ Some p → keeps_own (storing ps vs p p.node) ≡ true → Near block name m → reaches ps k p.around.home ≡ true
+      item_seen name m p there keeps near =
           let outside = well.outside m p there keeps in
           let owner = item_home near.owner name m p near.found there keeps in
           let around = to_home ps looks home well.items p.around.home unit block outside leads (subst (λ n. Encloses ps n block) (sym owner) near.around) in
@@ -120,26 +173,17 @@ module _ (ps : List Phrase) (looks : LooksUp ps) (home : Each (StandsHome ps) ps
           by : (reaches_within (unit_count ps) ps k p.around.home ≡ true) ⊎ Encloses ps p.around.home k → reaches ps k p.around.home ≡ true
           by (inl so) = so
           by (inr beyond) = subst (λ n. reaches ps k n ≡ true) (sym (well.inner m p k there keeps process beyond)) (within_itself ps looks home well.items (unit_count ps) k)
-      item_seen name m p there keeps (inr given) = by (included_is ps looks home well.items given.prefaces name m given.is) where
-        outside : IsOpenUnit ps p.around.home
-        outside = well.outside m p there keeps
-
-        by : UnitOf m ⊎ Pooled m → reaches ps k p.around.home ≡ true
-        by (inl one) = absurd (not_in_file ps looks home well.items p.around.home p.around.home outside (subst File (sym (item_home one.owner one.name m p one.found there keeps)) one.file) Itself)
-        by (inr pooled) =
-            let owner = item_home pooled.pool pooled.name m p pooled.found there keeps in
-            let phrases = same pooled.pool outside.phrase pooled.phrase (subst (λ n. slice_get ps n ≡ Some outside.phrase) owner outside.there) pooled.there in
-            let isnt = outside.no_pool in
-            let is = subst (λ (x : Phrase). is_compool_unit x.node ≡ true) (sym phrases) pooled.is in
-            absurd (cc)
 
       -- an item that a name means there, with own places
       pub seen_item : (name : List ℕ) (m : ℕ) (p : Phrase) → meant ps block name ≡ Some m → slice_get ps m ≡ Some p → is_temporary p.node ≡ false → keeps_own (storing ps vs p p.node) ≡ true → reaches ps k p.around.home ≡ true
-      seen_item name m p is there isnt keeps =
-          let one = meant_is block name m is in
-          let has : has_own ps vs p ≡ true = ap (λ b. b || keeps_own (storing ps vs p p.node)) isnt ∙ keeps in
-          let itself = well.alone one.declared m p one.stands there has in
-          item_seen name m p there keeps (subst (λ n. Near block name n ⊎ Given name n) itself (nearest_is ps looks home well.items (length ps) block name one.declared one.means_it))
+      seen_item name m p is there isnt keeps = item_seen name m p there keeps (item_near name m p there keeps (found_so name m p is there isnt keeps))
+
+    -- it is the first declaration of its name in its unit
+    pub seen_first : (name : List ℕ) (m : ℕ) (p : Phrase) → meant ps block name ≡ Some m → slice_get ps m ≡ Some p → is_temporary p.node ≡ false → keeps_own (storing ps vs p p.node) ≡ true
+        → (q : Key) × (declared_at p.number p.around p.node ≡ Some q) × (own ps q ≡ Some m)
+    seen_first name m p is there isnt keeps =
+        let near = item_near name m p there keeps (found_so name m p is there isnt keeps) in
+        (key space.Declared near.owner name, declares_there near.owner name m p near.found there, near.found)
 
     -- a TEMPORARY variable that a name means there
     pub seen_group : (name : List ℕ) (m : ℕ) (p : Phrase) → meant ps block name ≡ Some m → slice_get ps m ≡ Some p → is_temporary p.node ≡ true → p.around.home ≡ unit

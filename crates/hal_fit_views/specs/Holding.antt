@@ -2,6 +2,8 @@
 use Rattle.std.specs.Prelude.{◌≡◌, ℕ, true, List, Some, slice_get}
 use Rattle.hal_grammar.specs.Declarations.{Attribute, Declared}
 use Rattle.hal_phrases.specs.Phrases.{Phrase, OfItem}
+use Rattle.hal_names.specs.declared.key.Space.TheVariants as space
+use Rattle.hal_names.specs.Keys.{key, own}
 use Rattle.hal_values.specs.declared.value.Kind.{Kind}
 use Rattle.hal_code.specs.declared.image.ImageParts.{ImageParts}
 use Rattle.hal_code.specs.declared.row.OwnPlace.TheVariants as place
@@ -39,6 +41,6 @@ DataHold s image =
 -- references to the data of ASSIGN parameters lead to their kinds, in each process that reaches the unit
 abbrev pub ReferencesHold : Set → ImageParts → Type 0
 ReferencesHold s image =
-    (process own m : ℕ) (p : Phrase) (common : List Attribute) (item : Declared) → slice_get (processes_of s.phrases) process ≡ Some own → slice_get s.phrases m ≡ Some p → p.node ≡ OfItem common item
-    → storing s.phrases s.constants p (OfItem common item) ≡ ByReference → is_among (processes_reaching s.phrases p.around.home) own ≡ true
-    → RefersTo image process (first_place (places_of s.phrases s.constants own) m) (kinds_of (shape_of s.phrases s.constants p common item))
+    (process its m : ℕ) (p : Phrase) (common : List Attribute) (item : Declared) → slice_get (processes_of s.phrases) process ≡ Some its → slice_get s.phrases m ≡ Some p → p.node ≡ OfItem common item
+    → own s.phrases (key space.Declared p.around.home item.name.name) ≡ Some m → storing s.phrases s.constants p (OfItem common item) ≡ ByReference → is_among (processes_reaching s.phrases p.around.home) its ≡ true
+    → RefersTo image process (first_place (places_of s.phrases s.constants its) m) (kinds_of (shape_of s.phrases s.constants p common item))

@@ -1,23 +1,19 @@
 -- What is left to be known of a set, so that the views of its image lie in memory.
-use Rattle.std.specs.Prelude.{◌≡◌, ◌≤◌, ℕ, List, [], ◌∷◌, Some}
+use Rattle.std.specs.Prelude.{◌≡◌, ℕ, List, [], ◌∷◌, Some}
 use Rattle.hal_base.specs.declared.refusal.Place.{Place}
 use Rattle.hal_grammar.specs.Leaves.{Naming}
 use Rattle.hal_grammar.specs.Expressions.{Refers, Subscript}
 use Rattle.hal_phrases.specs.declared.role.Role.{Role}
 use Rattle.hal_phrases.specs.Phrases.{OfReference}
 use Rattle.hal_code.specs.declared.image.ImageParts.{ImageParts}
-use Rattle.hal_meaning.specs.Elements.{Component, Shape, copy_size, chosen}
-use Rattle.hal_meaning.specs.Places.{Storing}
+use Rattle.hal_meaning.specs.Elements.{Component, chosen}
 use Rattle.hal_meaning.specs.Sets.{Set}
 use Rattle.hal_agreement.specs.Sites.{Site}
-use Rattle.hal_storage.specs.referents.Referents.{DataOf}
 use Rattle.hal_gen_expr.specs.Led.{Led, led_by}
-use Rattle.hal_gen_expr.specs.Numbering.{most}
 use Rattle.hal_gen_expr.specs.Referents.{referent}
 use Rattle.hal_fit_rows.specs.Purposes.{IsSite, Says}
-use Rattle.hal_fit_views.specs.Holding.{ReferencesHold}
 use Rattle.hal_fit_views.specs.Lying.{AreasLie}
-use Rattle.hal_fit_views.specs.Placed.{AreWellPlaced, StandInGroups}
+use Rattle.hal_fit_views.specs.Placed.{AreWellPlaced}
 
 -- there is a component
 abbrev pub LeadSomewhere : List Component → Type 0
@@ -30,19 +26,10 @@ PathsLead s =
     (process : ℕ) (site : Site) (role : Role) (place : Place) (name : List ℕ) (path : List Naming) (subscript : Subscript) (led : Led) → IsSite s process site → Says site (OfReference role (Refers place name path subscript))
     → led_by path (referent site name) ≡ Some led → LeadSomewhere (chosen led.path led.shape.components)
 
--- a copy of data has fewer elements than are counted
-abbrev pub CopiesAreFew : Set → Type 0
-CopiesAreFew s = (process : ℕ) (site : Site) (name : List ℕ) (declared : ℕ) (way : Storing) (shape : Shape) → IsSite s process site → referent site name ≡ DataOf declared way shape → copy_size shape.components ≤ most
-
 pub record ViewsLeft (s : Set) (image : ImageParts) : Type 0 where
   -- rules of names, types and calls, and the grammar: data with own places stand where a process that names them reaches them
   pub placed : AreWellPlaced s.phrases s.constants
-  pub groups : StandInGroups s.phrases
-  -- linking gives the references of ASSIGN parameters the shapes of their data
-  pub references : ReferencesHold s image
   -- rules of names
   pub lead : PathsLead s
-  -- limits
-  pub few : CopiesAreFew s
   -- rules of types: arguments have as many elements of such kinds as their parameters
   pub areas : AreasLie s image

@@ -1,13 +1,15 @@
 //! What holds of the views that the code of an image names.
 
-ghost use Rattle.std.specs.Prelude.{◌≡◌, ℕ, true, List, Ok};
+ghost use Rattle.std.specs.Prelude.{◌≡◌, ◌≤◌, ℕ, true, List, Ok};
+ghost use Rattle.hal_base.specs.declared.limits.TheConstants.{CELL_LIMIT};
 ghost use Rattle.hal_grammar.specs.Units.{File};
 ghost use Rattle.hal_phrases.specs.GatheredUnits.{phrases_of};
 ghost use Rattle.hal_scope.specs.Rules.{IsSound, rows};
 ghost use Rattle.hal_meaning.specs.Sets.{Set, set_of};
 ghost use Rattle.hal_code.specs.declared.image.ImageParts.{ImageParts};
 ghost use Rattle.hal_code.specs.declared.row.View.{View};
-ghost use Rattle.hal_code.specs.Right.{process_names, views_lie};
+ghost use Rattle.hal_code.specs.Right.{cell_count, process_names, views_lie};
+ghost use Rattle.hal_verify.specs.Limits.{spread_kept};
 ghost use Rattle.hal_link.specs.CalledViews.{views_of};
 ghost use Rattle.hal_link.specs.Linking.{image_of};
 ghost use Rattle.hal_fit_rows.specs.Parts.{HaveParts};
@@ -35,11 +37,11 @@ pub fn views_lie_where_all_that_they_are_for_does()
 {}
 
 /// And so they do in a set that breaks no rule of names, whose STRUCTUREs have parts, where data with own places stand where processes that name them reach them, and what
-/// is left of paths, limits, references and arguments holds: the elements of data to which names lead, those among which subscripts choose, own places of groups, and input
+/// is left of paths and arguments holds, and whose image has few cells: the elements of data to which names lead, those among which subscripts choose, own places of groups, and input
 /// parameters lie where they are stored (image document, When an image is right).
 pub fn views_lie_where_what_is_left_of_data_holds()
     ensures { (turns : ℕ) (files : List File) (image : ImageParts) → image_of (set_of turns files) (views_of (set_of turns files)) ≡ Ok image → IsSound rows (phrases_of files) → HaveParts (phrases_of files)
-        → ViewsLeft (set_of turns files) image → views_lie image 0 image.views ≡ true }
+        → spread_kept image ≡ true → cell_count image ≤ CELL_LIMIT → ViewsLeft (set_of turns files) image → views_lie image 0 image.views ≡ true }
 {
     phrases_are_counted();
     a_key_is_found_at_its_first_declaration();
