@@ -14,6 +14,7 @@ use Rattle.hal_code.specs.declared.row.View.{View}
 use Rattle.hal_code.specs.Blocks.{block_places}
 use Rattle.hal_code.specs.Images.{row_count}
 use Rattle.hal_code.specs.Memory.{spread_limit, spread_of}
+use Rattle.hal_code.specs.Right as right
 use Rattle.hal_code.specs.Right.{rows_right}
 use Rattle.hal_meaning.specs.Bodies.{processes_of}
 use Rattle.hal_meaning.specs.Calls.{is_function}
@@ -130,6 +131,14 @@ module _ (s : Set) (counted : IsCounted s.phrases) (views : List View) (image : 
     -- all blocks
     pub all_fit : AllFit s image
     all_fit = record { few = few; blocks = λ number row found. known_fits number row found (given.known number row found) }
+
+-- it has few cells
+pub cells_of_image : (s : Set) (views : List View) (image : ImageParts) → image_of s views ≡ Ok image → s.tables.cells ≡ cells_of s.phrases s.constants → length s.tables.processes ≡ length (processes_of s.phrases)
+    → IsCounted s.phrases → AreReentrant s.phrases → cell_count s.phrases s.constants ≤ CELL_LIMIT → right.cell_count image ≤ CELL_LIMIT
+cells_of_image s views image is cells long counted reentrant few =
+    let linked = image_is s views image is in
+    let no_more = few_cells s views linked.0 counted reentrant cells long in
+    subst (λ one. right.cell_count one ≤ CELL_LIMIT) linked.1 (omega (arith, no_more, few))
 
 -- and rows
 pub rows_of_image : (s : Set) (views : List View) (image : ImageParts) → image_of s views ≡ Ok image → IsTables s.tables → s.tables.cells ≡ cells_of s.phrases s.constants

@@ -1,49 +1,21 @@
 -- Units that a process reaches: its own one, those that it calls, and what these call.
-use Rattle.std.specs.Prelude.{◌≡◌, ℕ, zero, suc, ◌==◌, Bool, true, false, ◌&&◌, ◌||◌, List, [], ◌∷◌, cond, filter, filter_map, Option, Some, None, slice_get, if◌then◌else◌}
+use Rattle.std.specs.Prelude.{◌≡◌, ℕ, ◌==◌, Bool, true, false, ◌&&◌, ◌||◌, List, [], ◌∷◌, filter_map, Option, Some, None, slice_get, if◌then◌else◌}
 use Rattle.std.specs.List.{cons_option}
 use Rattle.std.proofs.Common.{refl, sym, ap, subst, ◌∙◌, inl, inr}
 use Rattle.std.proofs.lemmas.Bool.{and_from, and_parts, eqb-true, eq-eqb, or_left, or_right}
-use Rattle.hal_phrases.specs.Phrases.{Node, Phrase, OfUnit}
+use Rattle.hal_phrases.specs.Phrases.{Phrase}
 use Rattle.hal_scope.specs.Rules.{IsAmong}
-use Rattle.hal_meaning.specs.Bodies.{callee, callees, is_process, is_unit, processes_of, reaches}
+use Rattle.hal_meaning.specs.Bodies.{callee, callees, processes_of, reaches}
 use Rattle.hal_meaning.specs.Places.{unit_numbers}
 use Rattle.hal_meaning.specs.Sets.{Set}
 use Rattle.hal_reach.specs.Places.{is_among}
-use Rattle.hal_reach.proofs.Callees.{has_callees, has_unit}
+use Rattle.hal_reach.proofs.Callees.{has_callees}
 use Rattle.hal_reach.proofs.Within.{Has, HasAll}
 use Rattle.hal_fit_calls.proofs.Reached.{reaches_callee, reaches_itself, reaches_on}
-use Rattle.hal_fit_layout.proofs.Called.{Reaches, from_member}
+use Rattle.hal_fit_layout.proofs.Called.{Reaches}
 use Rattle.hal_fit_rows.proofs.Calling.{placed}
+use Rattle.hal_fit_views.proofs.Reached.{listed, kept, kept_passes, unit_of}
 use Rattle.hal_fit_images.specs.Blocks.{reached}
-
--- a number with a place in a list is among its members
-listed : (ns : List ℕ) (n k : ℕ) → slice_get ns n ≡ Some k → is_among ns k ≡ true
-listed [] n k is = absurd (cc)
-listed (x ∷ ns) zero k is = or_left (x == k) (is_among ns k) (eq-eqb x k (let same : x ≡ k = cc in same))
-listed (x ∷ ns) (suc n) k is = or_right (x == k) (is_among ns k) (listed ns n k is)
-
--- what is kept of a list passes the test
-passes_by : (test : ℕ → Bool) (n q : ℕ) (ns : List ℕ) (b : Bool) → (n == q) ≡ b → test n ≡ true → (is_among ns q ≡ true → test q ≡ true) → (b || is_among ns q) ≡ true → test q ≡ true
-passes_by test n q ns true same passes later is = subst (λ k. test k ≡ true) (eqb-true n q same) passes
-passes_by test n q ns false other passes later is = later is
-
-kept_passes : (test : ℕ → Bool) (ns : List ℕ) (q : ℕ) → is_among (filter test ns) q ≡ true → test q ≡ true
-kept_passes test [] q is = absurd (cc)
-kept_passes test (n ∷ ns) q is = by (test n) refl (kept_passes test ns q) is where
-  by : (b : Bool) → test n ≡ b → (is_among (filter test ns) q ≡ true → test q ≡ true) → is_among (cond b (n ∷ filter test ns) (filter test ns)) q ≡ true → test q ≡ true
-  by true passes later found = passes_by test n q (filter test ns) (n == q) refl passes later found
-  by false isnt later found = later found
-
--- and what passes it is kept
-kept : (test : ℕ → Bool) (ns : List ℕ) (q : ℕ) → test q ≡ true → is_among ns q ≡ true → is_among (filter test ns) q ≡ true
-kept test [] q passes is = absurd (cc)
-kept test (n ∷ ns) q passes is = by (n == q) refl (test n) refl (kept test ns q passes) is where
-  by : (b : Bool) → (n == q) ≡ b → (c : Bool) → test n ≡ c → (is_among ns q ≡ true → is_among (filter test ns) q ≡ true) → (b || is_among ns q) ≡ true
-      → is_among (cond c (n ∷ filter test ns) (filter test ns)) q ≡ true
-  by true same true so later is = or_left (n == q) (is_among (filter test ns) q) same
-  by true same false isnt later is = let found = subst (λ k. test k ≡ true) (sym (eqb-true n q same)) passes in absurd (cc)
-  by false other true so later is = or_right (n == q) (is_among (filter test ns) q) (later is)
-  by false other false isnt later is = later is
 
 -- a member of a list all of whose members are units is one
 pub one_of : (ns xs : List ℕ) (k : ℕ) → HasAll ns xs → Has xs k → Has ns k
@@ -72,20 +44,6 @@ called_among ps c q (x ∷ qs) p (inr later) its is =
 
 pub has_callee : (ps : List Phrase) (c q : ℕ) (p : Phrase) → IsAmong p ps → p.around.home ≡ c → callee ps p ≡ Some q → Has (callees ps c) q
 has_callee ps c q p among its is = called_among ps c q ps p among its is
-
--- the unit of a process is one of the set's
-process_unit : (node : Node) → is_process node ≡ true → is_unit node ≡ true
-process_unit (OfUnit name head declarations) is = refl
-process_unit other is = absurd (cc)
-
-unit_by : (ps : List Phrase) (k n : ℕ) (p : Phrase) → slice_get ps n ≡ Some p → (b : Bool) → is_process p.node ≡ b → (if b then Some p.number else None) ≡ Some k → Has (unit_numbers ps) k
-unit_by ps k n p there true is gives = let number : p.number ≡ k = cc in subst (Has (unit_numbers ps)) number (has_unit ps n p there (process_unit p.node is))
-unit_by ps k n p there false is gives = absurd (cc)
-
-unit_of : (ps : List Phrase) (n k : ℕ) → slice_get (processes_of ps) n ≡ Some k → Has (unit_numbers ps) k
-unit_of ps n k is =
-    let found = from_member (λ (p : Phrase). if is_process p.node then Some p.number else None) ps n k is in
-    unit_by ps k found.place found.member found.there (is_process found.member.node) refl found.gives
 
 module _ (s : Set) (process k : ℕ) (its : slice_get (processes_of s.phrases) process ≡ Some k) where
   reached_is : (unit : ℕ) → reached s process unit ≡ (is_among (unit_numbers s.phrases) unit && reaches s.phrases k unit)

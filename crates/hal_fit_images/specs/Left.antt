@@ -7,13 +7,13 @@ use Rattle.hal_meaning.specs.Runs.{places_of_process}
 use Rattle.hal_meaning.specs.Sets.{Set, body_at}
 use Rattle.hal_code.specs.declared.image.ImageParts.{ImageParts}
 use Rattle.hal_code.specs.declared.row.Block.{Block}
-use Rattle.hal_code.specs.Right.{views_lie}
 use Rattle.hal_agreement.specs.PlacedBlocks.{unit_site}
 use Rattle.hal_fit_expr.specs.Uses.{Uses}
 use Rattle.hal_fit_rules.specs.Used.{PhraseKnown}
 use Rattle.hal_fit_names.specs.Known.{is_left_node}
 use Rattle.hal_fit_names.specs.Serving.{ServesUnit}
 use Rattle.hal_fit_names.specs.Used.{NamesAreOwn}
+use Rattle.hal_fit_views.specs.Left.{ViewsLeft}
 use Rattle.hal_fit_images.specs.Blocks.{ground_of}
 
 -- what phrases of a unit name that are left is known in the block with this number and row, by all that serves the unit
@@ -27,5 +27,5 @@ pub record AreLeft (s : Set) (image : ImageParts) : Type 0 where
   pub owned : NamesAreOwn s.phrases
   -- references with a path are known
   pub known : (number unit : ℕ) (row : Block) (b : Body) → slice_get image.blocks number ≡ Some row → body_at s unit ≡ Some b → LeftIsKnown s image number row b
-  -- views lie in memory
-  pub lie : views_lie image 0 image.views ≡ true
+  -- what is left of data, so that views lie in memory
+  pub views : ViewsLeft s image

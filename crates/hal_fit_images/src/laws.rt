@@ -23,6 +23,7 @@ use hal_fit_rows::{
 };
 use hal_fit_rules::the_statements_of_each_known_unit_fit;
 use hal_fit_spelled::what_right_words_spell_is_spelled;
+use hal_fit_views::views_lie_where_what_is_left_of_data_holds;
 use hal_link::each_block_of_a_linked_image_is_of_a_process_or_a_unit;
 use hal_meaning::a_set_is_a_load;
 use hal_names::phrases_are_counted;
@@ -55,6 +56,7 @@ pub fn an_image_is_right_where_what_is_left_holds()
     the_names_of_an_image_are_right();
     the_shapes_of_an_image_are_right();
     views_of_an_image_are_formed();
+    views_lie_where_what_is_left_of_data_holds();
     each_block_of_a_linked_image_is_of_a_process_or_a_unit();
     an_image_of_blocks_that_fit_is_right();
 }

@@ -71,7 +71,7 @@ shapes_kept s =
 abbrev rows_in : Shapes → ℕ
 rows_in shapes = sum_by (λ (runs : List (Run Kind)). row_count runs) shapes
 
-one_counted : (shapes : Shapes) (k : ℕ) (runs : List (Run Kind)) → slice_get shapes k ≡ Some runs → row_count runs ≤ rows_in shapes
+pub one_counted : (shapes : Shapes) (k : ℕ) (runs : List (Run Kind)) → slice_get shapes k ≡ Some runs → row_count runs ≤ rows_in shapes
 one_counted [] k runs is = absurd (cc)
 one_counted (x ∷ xs) zero runs is =
     let sum = sum_by-cons (λ (one : List (Run Kind)). row_count one) x xs in
@@ -95,7 +95,7 @@ few_shapes (x ∷ xs) joined some =
     let rest = few_shapes xs joined.1 some.1 in
     omega (arith, sum, first, rest)
 
-each_at : {X : Type 0} (P : X → Type 0) (xs : List X) (k : ℕ) (x : X) → Each P xs → slice_get xs k ≡ Some x → P x
+pub each_at : {X : Type 0} (P : X → Type 0) (xs : List X) (k : ℕ) (x : X) → Each P xs → slice_get xs k ≡ Some x → P x
 each_at P [] k x each is = absurd (cc)
 each_at P (y ∷ xs) zero x each is = subst P (let same : y ≡ x = cc in same) each.0
 each_at P (y ∷ xs) (suc k) x each is = each_at P xs k x each.1 is
@@ -134,11 +134,11 @@ within (y ∷ xs) zero x is = omega arith
 within (y ∷ xs) (suc k) x is = let rest = within xs k x is in omega (arith, rest)
 
 -- where runs are, or some that are the same
-record HasSame (runs : List (Run Kind)) (shapes : Shapes) : Type 0 where
-  place : ℕ
-  found : List (Run Kind)
-  there : slice_get shapes place ≡ Some found
-  same : same_runs found runs ≡ true
+pub record HasSame (runs : List (Run Kind)) (shapes : Shapes) : Type 0 where
+  pub place : ℕ
+  pub found : List (Run Kind)
+  pub there : slice_get shapes place ≡ Some found
+  pub same : same_runs found runs ≡ true
 
 same_later : (runs x : List (Run Kind)) (xs : Shapes) → HasSame runs xs → HasSame runs (x ∷ xs)
 same_later runs x xs one = record { place = suc one.place; found = one.found; there = one.there; same = one.same }
@@ -150,7 +150,7 @@ any_same runs (x ∷ xs) is = by (same_runs x runs) refl is (any_same runs xs) w
   by true same any later = record { place = zero; found = x; there = refl; same = same }
   by false other any later = same_later runs x xs (later any)
 
-place_of : {X : Type 0} (xs : List X) (x : X) → IsAmong x xs → (k : ℕ) × (slice_get xs k ≡ Some x)
+pub place_of : {X : Type 0} (xs : List X) (x : X) → IsAmong x xs → (k : ℕ) × (slice_get xs k ≡ Some x)
 place_of [] x among = absurd among
 place_of (y ∷ xs) x (inl same) = (zero, ap Some (sym same))
 place_of (y ∷ xs) x (inr later) = let found = place_of xs x later in (suc found.0, found.1)
@@ -162,7 +162,7 @@ module _ (shapes : Shapes) (kept : AreKept shapes) (few : rows_in shapes ≤ 104
   found_alike : (k : ℕ) (runs : List (Run Kind)) → slice_get shapes k ≡ Some runs → same_runs runs runs ≡ true
   found_alike k runs is = let rows = one_counted shapes k runs is in alike runs (omega (arith, rows, few))
 
-  has_same : (runs : List (Run Kind)) → HaveRuns runs shapes → HasSame runs shapes
+  pub has_same : (runs : List (Run Kind)) → HaveRuns runs shapes → HasSame runs shapes
   has_same runs (inl among) = let at = place_of shapes runs among in record { place = at.0; found = runs; there = at.1; same = found_alike at.0 runs at.1 }
   has_same runs (inr any) = any_same runs shapes any
 

@@ -138,7 +138,7 @@ pub record HasUnit (turns : ℕ) (files : List File) (unit : ℕ) (head : Head) 
   pub head_is : body.head ≡ head
   pub number : body.number ≡ unit
 
-head_unit : (node : Node) (head : Head) → unit_head node ≡ Some head → is_unit node ≡ true
+pub head_unit : (node : Node) (head : Head) → unit_head node ≡ Some head → is_unit node ≡ true
 head_unit (OfUnit name own declarations) head is = refl
 head_unit other head is = absurd (cc)
 

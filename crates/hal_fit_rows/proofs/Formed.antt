@@ -107,9 +107,9 @@ type_copies ps vs p attributes (Some (CharacterKind place size)) = tt
 
 -- a shape of declared data
 pub record IsFormed (shape : Shape) : Type 0 where
-  kinds : Each HasKind shape.components
-  sizes : Each HasSizes shape.components
-  copies : AreCopies shape.copies
+  pub kinds : Each HasKind shape.components
+  pub sizes : Each HasSizes shape.components
+  pub copies : AreCopies shape.copies
 
 item_formed : (ps : List Phrase) (vs : Known) (p : Phrase) (common : List Attribute) (item : Declared) → IsFormed (shape_of ps vs p common item)
 item_formed ps vs p common item =
@@ -120,7 +120,7 @@ temporary_formed : IsFormed tree.temporary_shape
 temporary_formed = record { kinds = (refl, tt); sizes = (tt, tt); copies = tt }
 
 -- that of the data to which a name refers
-abbrev OfData : Referent → Type 0
+abbrev pub OfData : Referent → Type 0
 OfData r = (k : ℕ) (way : Storing) (shape : Shape) → r ≡ DataOf k way shape → IsFormed shape
 
 no_event : (o : Option ℕ) → OfData (elim o [ None ↦ Unmeant | Some e ↦ EventOf e ])
@@ -162,7 +162,7 @@ referent_formed ps vs block name = by (meant ps block name) where
   by (Some k) = of_phrase ps vs (slice_get ps k)
 
 -- those of the components to which names lead
-each_kept : (P : Component → Type 0) (test : Component → Bool) (cs : List Component) → Each P cs → Each P (filter test cs)
+pub each_kept : (P : Component → Type 0) (test : Component → Bool) (cs : List Component) → Each P cs → Each P (filter test cs)
 each_kept P test [] each = tt
 each_kept P test (c ∷ cs) each = by (test c) (each_kept P test cs each.1) where
   by : (b : Bool) → Each P (filter test cs) → Each P (cond b (c ∷ filter test cs) (filter test cs))
@@ -173,7 +173,7 @@ pub first_kind : (cs : List Component) → Each HasKind cs → is_kind (kind_of_
 first_kind [] each = refl
 first_kind (c ∷ cs) each = each.0
 
-first_sizes : (cs : List Component) → Each HasSizes cs → Each IsSome (sizes_of_first cs)
+pub first_sizes : (cs : List Component) → Each HasSizes cs → Each IsSome (sizes_of_first cs)
 first_sizes [] each = tt
 first_sizes (c ∷ cs) each = each.0
 
@@ -228,7 +228,7 @@ rows_places (d ∷ ds) each =
     and_from (nat_le 1 d.size) (list_all (λ (x : Dimension). nat_le 1 x.size) (map row_of ds)) (le-leb 1 d.size (let some = each.0 in omega (arith, some))) (rows_places ds each.1)
 
 -- what leads to data has a shape of declared data
-led_formed : (path : List Naming) (r : Referent) → OfData r → (l : Led) → led_by path r ≡ Some l → IsFormed l.shape
+pub led_formed : (path : List Naming) (r : Referent) → OfData r → (l : Led) → led_by path r ≡ Some l → IsFormed l.shape
 led_formed path (DataOf k way shape) of l is = subst IsFormed (let same : led_to path k way shape ≡ l = cc in ap (λ (x : Led). x.shape) same) (of k way shape refl)
 led_formed path (ConstantOf v) of l is = absurd (cc)
 led_formed path (EventOf e) of l is = absurd (cc)

@@ -1,6 +1,6 @@
 mod Rules
 pub mod Made
-mod LookingUp
+pub mod LookingUp
 pub mod Calling
 pub mod Small
 pub mod Shaped
@@ -11,8 +11,8 @@ mod PlainStatements
 mod Told
 mod ToldDeclarations
 mod ToldUnits
-mod Bodied
-mod Filled
+pub mod Bodied
+pub mod Filled
 mod Templates
 pub mod Stored
 mod Referring
@@ -23,7 +23,7 @@ pub mod Alone
 pub mod Referred
 pub mod Purposed
 pub mod Formed
-mod Lines
+pub mod Lines
 mod Shown
 pub mod Reported
 pub mod Named
@@ -35,3 +35,8 @@ mod HomingStatements
 pub mod HomingFiles
 pub mod Visible
 pub mod Sharing
+mod Grouping
+mod GroupingExpressions
+mod GroupingDeclarations
+mod GroupingStatements
+pub mod GroupingFiles

@@ -38,11 +38,11 @@ use Rattle.hal_fit_rows.proofs.Filled.{product_some}
 use Rattle.hal_fit_rows.proofs.Formed.{HasSizes, type_sizes}
 
 -- what stands behind a list
-get_behind : {X : Type 0} (xs ys : List X) (m : ℕ) → slice_get (xs ++ ys) (length xs + m) ≡ slice_get ys m
+pub get_behind : {X : Type 0} (xs ys : List X) (m : ℕ) → slice_get (xs ++ ys) (length xs + m) ≡ slice_get ys m
 get_behind [] ys m = let same : zero + m ≡ m = omega arith in ap (slice_get ys) same
 get_behind (x ∷ xs) ys m = let same : suc (length xs) + m ≡ suc (length xs + m) = omega arith in ap (slice_get (x ∷ (xs ++ ys))) same ∙ get_behind xs ys m
 
-get_first : {X : Type 0} (xs ys : List X) (i : ℕ) (x : X) → slice_get xs i ≡ Some x → slice_get (xs ++ ys) i ≡ Some x
+pub get_first : {X : Type 0} (xs ys : List X) (i : ℕ) (x : X) → slice_get xs i ≡ Some x → slice_get (xs ++ ys) i ≡ Some x
 get_first [] ys i x is = absurd (cc)
 get_first (y ∷ xs) ys zero x is = is
 get_first (y ∷ xs) ys (suc i) x is = get_first xs ys i x is
@@ -91,6 +91,25 @@ element_at path (c ∷ cs) is = by (leads path c.path) refl is (element_at path 
         low = (let all = size in let less = rest.low in omega (arith, sum, all, less));
       }
 
+-- with its number, where fewer elements lie before it than are counted
+pub element_below : (path : List Naming) (shape : Shape) (one : Element) → shape.copies ≡ None → element_in path shape.components ≡ Some one → one.before < counted → slice_get (kinds_of shape) one.before ≡ Some one.kind
+element_below path shape one single is low = by (is_one (chosen path shape.components)) refl is where
+  cs : List Component
+  cs = shape.components
+
+  kinds : kinds_of shape ≡ flat_map kinds_of_component cs
+  kinds = ap (λ (o : Option ℕ). kinds_of (record { copies = o; components = cs })) single ∙ append-nil (flat_map kinds_of_component cs)
+
+  by : (b : Bool) → is_one (chosen path cs) ≡ b → (if b then Some (an_element (min (offset path cs) counted) (kind_of_first (chosen path cs))) else None) ≡ Some one → slice_get (kinds_of shape) one.before ≡ Some one.kind
+  by true so made =
+      let found = element_at path cs so in
+      let whole : an_element (min (offset path cs) counted) (kind_of_first (chosen path cs)) ≡ one = cc in
+      let here : min (offset path cs) counted ≡ one.before = ap (λ (x : Element). x.before) whole in
+      let exact : one.before ≡ copy_size (before path cs) = omega (arith, here, low) in
+      ap (λ l. slice_get l one.before) kinds
+      ∙ (ap (slice_get (flat_map kinds_of_component cs)) exact ∙ (found.there ∙ ap (λ (x : Element). Some x.kind) whole))
+  by false isnt made = absurd (cc)
+
 -- with its number, where elements are few
 pub element_there : (path : List Naming) (shape : Shape) (one : Element) → shape.copies ≡ None → copy_size shape.components ≤ counted → element_in path shape.components ≡ Some one → slice_get (kinds_of shape) one.before ≡ Some one.kind
 element_there path shape one single few is = by (is_one (chosen path shape.components)) refl is where
@@ -134,15 +153,15 @@ lies_one memory at (x ∷ ks) (suc i) k lies is =
     ap (λ n. lies_from memory n (k ∷ [])) further ∙ lies_one memory (suc at) ks i k (later_found x (lies_from memory (suc at) ks) (slice_get memory at) lies) is
 
 -- kinds of data that lie among own places
-record Opens (number : ℕ) (owned : List Place) (ks : List Kind) : Type 0 where
-  first : Place
-  more : List Place
-  is : owned ≡ first ∷ more
-  its : first.owner ≡ number
-  rest : List (Option Kind)
-  kinds : kinds_in owned ≡ known ks ++ rest
+pub record Opens (number : ℕ) (owned : List Place) (ks : List Kind) : Type 0 where
+  pub first : Place
+  pub more : List Place
+  pub is : owned ≡ first ∷ more
+  pub its : first.owner ≡ number
+  pub rest : List (Option Kind)
+  pub kinds : kinds_in owned ≡ known ks ++ rest
 
-own_lies : (s : Set) (shapes : Shapes) (places : List Place) (number : ℕ) (owned : List Place) (ks : List Kind) → LiesIn places number owned → Opens number owned ks
+pub own_lies : (s : Set) (shapes : Shapes) (places : List Place) (number : ℕ) (owned : List Place) (ks : List Kind) → LiesIn places number owned → Opens number owned ks
     → lies_from (own_memory (map (own_row s shapes) places)) (first_place places number) ks ≡ true
 own_lies s shapes places number owned ks lies opens =
     let here : places ≡ lies.before ++ (opens.first ∷ (opens.more ++ lies.behind)) = lies.is ∙ ap (λ l. lies.before ++ (l ++ lies.behind)) opens.is in
@@ -160,7 +179,7 @@ own_lies s shapes places number owned ks lies opens =
     ∙ lies_behind (kinds_in lies.before) ks (opens.rest ++ kinds_in lies.behind))
 
 -- the places of an item, and of the variable of a group
-item_opens : (number : ℕ) (automatic : Bool) (ks : List Kind) (vs : List Value) → length vs ≡ length ks → 0 < length ks → Opens number (places_from number automatic ks vs) ks
+pub item_opens : (number : ℕ) (automatic : Bool) (ks : List Kind) (vs : List Value) → length vs ≡ length ks → 0 < length ks → Opens number (places_from number automatic ks vs) ks
 item_opens number automatic [] vs long some = absurd (omega (arith, some))
 item_opens number automatic (k ∷ ks) [] long some = absurd (omega (arith, long))
 item_opens number automatic (k ∷ ks) (v ∷ vs) long some =
@@ -171,7 +190,7 @@ item_opens number automatic (k ∷ ks) (v ∷ vs) long some =
       kinds_all (l ∷ ls) (w ∷ ws) same = ap (λ rest. Some l ∷ rest) (kinds_all ls ws (omega (arith, same)))
 
 -- the kinds of an item in own places lie there
-item_lies : (s : Set) (shapes : Shapes) → IsCounted s.phrases → (process m : ℕ) (p : Phrase) (k : ℕ) → slice_get s.phrases k ≡ Some p → (common : List Attribute) (item : Declared) → p.node ≡ OfItem common item
+pub item_lies : (s : Set) (shapes : Shapes) → IsCounted s.phrases → (process m : ℕ) (p : Phrase) (k : ℕ) → slice_get s.phrases k ≡ Some p → (common : List Attribute) (item : Declared) → p.node ≡ OfItem common item
     → storing s.phrases s.constants p (OfItem common item) ≡ InPlaces → slice_get (unit_numbers s.phrases) m ≡ Some p.around.home → is_among (processes_reaching s.phrases p.around.home) process ≡ true
     → 0 < length (kinds_of (shape_of s.phrases s.constants p common item))
     → lies_from (own_memory (map (own_row s shapes) (places_of s.phrases s.constants process))) (first_place (places_of s.phrases s.constants process) k) (kinds_of (shape_of s.phrases s.constants p common item)) ≡ true
@@ -188,7 +207,7 @@ item_lies s shapes counted_so process m p k there common item node stored named 
     own_lies s shapes (places_of s.phrases s.constants process) k (places_from k (has_mark Automatic attributes) ks values) ks own
     (item_opens k (has_mark Automatic attributes) ks values (first_long s.phrases s.constants p attributes ks) some)
 
-some_kind : (ks : List Kind) (i : ℕ) (k : Kind) → slice_get ks i ≡ Some k → 0 < length ks
+pub some_kind : (ks : List Kind) (i : ℕ) (k : Kind) → slice_get ks i ≡ Some k → 0 < length ks
 some_kind [] i k is = absurd (cc)
 some_kind (x ∷ ks) i k is = omega arith
 

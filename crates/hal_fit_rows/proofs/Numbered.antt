@@ -18,16 +18,17 @@ use Rattle.hal_constants.specs.Naming.{is_value_item}
 use Rattle.hal_constants.specs.Known.{Known, known}
 use Rattle.hal_values.specs.declared.value.Kind.{Kind}
 use Rattle.hal_values.specs.declared.value.Value.{Value}
-use Rattle.hal_meaning.specs.Bodies.{is_unit}
+use Rattle.hal_meaning.specs.Bodies.{Body, is_unit}
 use Rattle.hal_meaning.specs.Calls.{Parameter, parameter_named, outputs_of}
 use Rattle.hal_meaning.specs.Elements.{kinds_of, shape_of}
 use Rattle.hal_meaning.specs.InitialValues.{first_values}
 use Rattle.hal_meaning.specs.Places.{Storing, InCells, InPlaces, ByReference, Unstored, group_among, parameter_at, parameter, home_shares, is_in_unit, storing_of_data, storing_of_item, storing, places_from, hidden, places_of_item, is_for_or_case, places_at}
 use Rattle.hal_meaning.specs.Runs.{places_of_process}
-use Rattle.hal_meaning.specs.Sets.{Set, set_of}
+use Rattle.hal_meaning.specs.Sets.{body_at, Set, set_of}
 use Rattle.hal_link.specs.Shapes.{shapes_of}
 use Rattle.hal_fit_calls.specs.Each.{Each}
 use Rattle.hal_fit_layout.specs.Owned.{has_one}
+use Rattle.hal_fit_layout.specs.Owned.{IsStored}
 use Rattle.hal_fit_layout.specs.Rows.{IsNumbered}
 use Rattle.hal_fit_calls.proofs.Each.{each_if}
 use Rattle.hal_fit_layout.proofs.Parameters.{parameter_is}
@@ -65,13 +66,14 @@ output_by ps vs p common item true is stored = record { in_unit = is; output = o
 output_by ps vs p common item false isnt stored = absurd (cc)
 
 -- a parameter of a block is a phrase of it
-record IsParameterAt (ps : List Phrase) (home : ℕ) : Type 0 where
+record IsParameterAt (ps : List Phrase) (home : ℕ) (wanted : List ℕ) : Type 0 where
   number : ℕ
   phrase : Phrase
   there : slice_get ps number ≡ Some phrase
   name : Naming
   node : phrase.node ≡ OfParameter name true
   at_home : phrase.around.home ≡ home
+  its_name : name.name ≡ wanted
 
 parameter_node : (node : Node) → parameter_at node ≡ Some true → (name : Naming) × (node ≡ OfParameter name true)
 parameter_node (OfParameter name output) is = (name, ap (OfParameter name) (let same : output ≡ true = cc in same))
@@ -92,10 +94,10 @@ module _ (files : List File) (looks : LooksUp (phrases_of files)) (sound : IsSou
   abbrev s : Set
   s = set_of turns files
 
-  parameter_there : (home : ℕ) (name : List ℕ) → parameter ps home name ≡ Some true → IsParameterAt ps home
+  parameter_there : (home : ℕ) (name : List ℕ) → parameter ps home name ≡ Some true → IsParameterAt ps home name
   unfolding declared_at
   parameter_there home name is = by (own ps (key space.Parameter home name)) refl is where
-    found_there : (number : ℕ) → own ps (key space.Parameter home name) ≡ Some number → (o : Option Phrase) → slice_get ps number ≡ o → option_and_then (λ (p : Phrase). parameter_at p.node) o ≡ Some true → IsParameterAt ps home
+    found_there : (number : ℕ) → own ps (key space.Parameter home name) ≡ Some number → (o : Option Phrase) → slice_get ps number ≡ o → option_and_then (λ (p : Phrase). parameter_at p.node) o ≡ Some true → IsParameterAt ps home name
     found_there number found None there so = absurd (cc)
     found_there number found (Some p) there so =
         let node = parameter_node p.node so in
@@ -111,24 +113,51 @@ module _ (files : List File) (looks : LooksUp (phrases_of files)) (sound : IsSou
           name = node.0;
           node = node.1;
           at_home = (let inner : key space.Parameter p.around.home node.0.name ≡ key space.Parameter home name = cc in ap (λ (k : Key). k.owner) inner);
+          its_name = (let inner : key space.Parameter p.around.home node.0.name ≡ key space.Parameter home name = cc in ap (λ (k : Key). k.name) inner);
         }
 
-    by : (o : Option ℕ) → own ps (key space.Parameter home name) ≡ o → option_and_then (λ (p : Phrase). parameter_at p.node) (option_and_then (slice_get ps) o) ≡ Some true → IsParameterAt ps home
+    by : (o : Option ℕ) → own ps (key space.Parameter home name) ≡ o → option_and_then (λ (p : Phrase). parameter_at p.node) (option_and_then (slice_get ps) o) ≡ Some true → IsParameterAt ps home name
     by None found so = absurd (cc)
     by (Some number) found so = found_there number found (slice_get ps number) refl so
 
-  -- where an item is stored as a reference there are shapes
-  shapes_there : (p : Phrase) (item : Declared) → IsOutput ps p item → AreSome (shapes_of s)
-  shapes_there p item output =
+  -- an item that is stored as a reference is an ASSIGN parameter of its unit
+  pub record IsStoredOutput (p : Phrase) (item : Declared) : Type 0 where
+    pub name : Naming
+    pub its_name : name.name ≡ item.name.name
+    pub body : Body
+    pub found : body_at s p.around.home ≡ Some body
+    pub among : IsAmong body s.bodies
+    pub number : body.number ≡ p.around.home
+    pub named : IsAmong name (outputs_of body.head)
+    pub stored : IsStored s p.around.home name ByReference
+
+  stored_output : (p : Phrase) (item : Declared) → IsOutput ps p item → IsStoredOutput p item
+  stored_output p item output =
       let at = parameter_there p.around.home item.name.name output.output in
       let listed = subst (IsToldNode ps at.phrase) at.node (told_at files looks sound at.number at.phrase at.there) in
       let owner : slice_get ps p.around.home ≡ Some listed.phrase = ap (slice_get ps) (sym at.at_home) ∙ listed.there in
       let head = head_of_unit listed.phrase.node listed.head (unit_so (slice_get ps p.around.home) listed.phrase owner output.in_unit) listed.is in
       let unit = unit_has files looks.counted turns p.around.home listed.phrase listed.head owner head in
-      let stored = parameter_stored files looks sound parts turns p.around.home listed.phrase listed.head owner head true at.name listed.listed in
-      let named = parameter_is s p.around.home at.name ByReference stored in
-      shapes_some s unit.body unit.among at.name (subst (λ (h : Head). IsAmong at.name (outputs_of h)) (sym unit.head_is) listed.listed)
-      (subst (λ n. has_one (kinds_of (parameter_named s n at.name).shape) ≡ true) (sym unit.number) (ap (λ (q : Parameter). has_one (kinds_of q.shape)) named ∙ stored.some))
+      record {
+        name = at.name;
+        its_name = at.its_name;
+        body = unit.body;
+        found = unit.found;
+        among = unit.among;
+        number = unit.number;
+        named = subst (λ (h : Head). IsAmong at.name (outputs_of h)) (sym unit.head_is) listed.listed;
+        stored = parameter_stored files looks sound parts turns p.around.home listed.phrase listed.head owner head true at.name listed.listed;
+      }
+
+  pub reference_stored : (p : Phrase) (common : List Attribute) (item : Declared) → storing ps (known ps) p (OfItem common item) ≡ ByReference → IsStoredOutput p item
+  reference_stored p common item is = stored_output p item (output_by ps (known ps) p common item (is_in_unit ps p.around.home) refl is)
+
+  -- where one is there are shapes
+  shapes_there : (p : Phrase) (item : Declared) → IsOutput ps p item → AreSome (shapes_of s)
+  shapes_there p item output =
+      let one = stored_output p item output in
+      let named = parameter_is s p.around.home one.name ByReference one.stored in
+      shapes_some s one.body one.among one.name one.named (subst (λ n. has_one (kinds_of (parameter_named s n one.name).shape) ≡ true) (sym one.number) (ap (λ (q : Parameter). has_one (kinds_of q.shape)) named ∙ one.stored.some))
 
   from_numbered : (owner : ℕ) (automatic : Bool) (ks : List Kind) (vs : List Value) → Each (IsNumbered s (shapes_of s)) (places_from owner automatic ks vs)
   from_numbered owner automatic [] vs = tt

@@ -37,7 +37,7 @@ cell_kinds group (k ∷ ks) [] long = absurd (omega (arith, long))
 cell_kinds group (k ∷ ks) (v ∷ vs) long = ap (λ l. Some k ∷ l) (cell_kinds group ks vs (omega (arith, long)))
 
 -- the kinds of an item lie there
-cells_lie : (s : Set) (image : ImageParts) → expanded image.cells ≡ cells_of s.phrases s.constants → (p : Phrase) (k : ℕ) → slice_get s.phrases k ≡ Some p → (common : List Attribute) (item : Declared) → p.node ≡ OfItem common item
+pub cells_lie : (s : Set) (image : ImageParts) → expanded image.cells ≡ cells_of s.phrases s.constants → (p : Phrase) (k : ℕ) → slice_get s.phrases k ≡ Some p → (common : List Attribute) (item : Declared) → p.node ≡ OfItem common item
     → (group : ℕ) → storing s.phrases s.constants p (OfItem common item) ≡ InCells group
     → lies_from (shared_memory image) (first_cell s.phrases s.constants k) (kinds_of (shape_of s.phrases s.constants p common item)) ≡ true
 cells_lie s image laid p k there common item node group stored =

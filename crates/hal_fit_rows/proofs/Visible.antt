@@ -33,30 +33,30 @@ then_some f None y is = absurd (cc)
 then_some f (Some x) y is = (x, refl, is)
 
 module _ (ps : List Phrase) (looks : LooksUp ps) (home : Each (StandsHome ps) ps) (items : ItemsStandForData ps) where
-  same_phrase : (k : ℕ) (p q : Phrase) → slice_get ps k ≡ Some p → slice_get ps k ≡ Some q → p ≡ q
+  pub same_phrase : (k : ℕ) (p q : Phrase) → slice_get ps k ≡ Some p → slice_get ps k ≡ Some q → p ≡ q
   same_phrase k p q one other = let both : Some p ≡ Some q = sym one ∙ other in cc
 
   around_both : (a b c : ℕ) → Encloses ps a b → Encloses ps b c → Encloses ps a c
   around_both a b _ first Itself = first
   around_both a b _ first (Beyond k p there none rest) = Beyond k p there none (around_both a b p.around.block first rest)
 
-  outward : (unit k : ℕ) (p : Phrase) → slice_get ps k ≡ Some p → Encloses ps unit k → (unit ≡ k) ⊎ Encloses ps unit p.around.block
+  pub outward : (unit k : ℕ) (p : Phrase) → slice_get ps k ≡ Some p → Encloses ps unit k → (unit ≡ k) ⊎ Encloses ps unit p.around.block
   outward unit _ p there Itself = inl refl
   outward unit _ p there (Beyond k q at none rest) = inr (subst (λ (x : Phrase). Encloses ps unit x.around.block) (same_phrase k q p at there) rest)
 
   -- a file
-  record IsFileAt (k : ℕ) : Type 0 where
-    phrase : Phrase
-    there : slice_get ps k ≡ Some phrase
-    prefaces : List Preface
-    is : prefaces_of phrase.node ≡ Some prefaces
+  pub record IsFileAt (k : ℕ) : Type 0 where
+    pub phrase : Phrase
+    pub there : slice_get ps k ≡ Some phrase
+    pub prefaces : List Preface
+    pub is : prefaces_of phrase.node ≡ Some prefaces
 
   unit_no_file : (node : Node) → is_unit node ≡ true → prefaces_of node ≡ None
   unfolding prefaces_of
   unit_no_file (OfUnit name head declarations) is = refl
   unit_no_file other is = absurd (cc)
 
-  not_in_file : (unit k : ℕ) → IsOpenUnit ps unit → IsFileAt k → Encloses ps unit k → ⊥
+  pub not_in_file : (unit k : ℕ) → IsOpenUnit ps unit → IsFileAt k → Encloses ps unit k → ⊥
   not_in_file unit _ one file Itself =
       let same = same_phrase unit one.phrase file.phrase one.there file.there in
       let none = unit_no_file one.phrase.node one.is in
@@ -71,7 +71,7 @@ module _ (ps : List Phrase) (looks : LooksUp ps) (home : Each (StandsHome ps) ps
   group_no_unit node labels variable is unit = let so : is_unit (OfTemporaryGroup labels variable) ≡ true = ap is_unit (sym is) ∙ unit in absurd (cc)
 
   -- what stands around a block of a unit stands around the unit
-  to_home : (unit own_home block : ℕ) → IsOpenUnit ps unit → LeadsHome ps own_home block → Encloses ps unit block → Encloses ps unit own_home
+  pub to_home : (unit own_home block : ℕ) → IsOpenUnit ps unit → LeadsHome ps own_home block → Encloses ps unit block → Encloses ps unit own_home
   to_home unit own_home _ one AtHome around = around
   to_home unit own_home _ one (InGroup k p labels variable there node its rest) around = by (outward unit k p there around) (to_home unit own_home p.around.block one rest) where
     by : (unit ≡ k) ⊎ Encloses ps unit p.around.block → (Encloses ps unit p.around.block → Encloses ps unit own_home) → Encloses ps unit own_home
@@ -80,18 +80,18 @@ module _ (ps : List Phrase) (looks : LooksUp ps) (home : Each (StandsHome ps) ps
         absurd (group_no_unit p.node labels variable node (subst (λ (x : Phrase). is_unit x.node ≡ true) phrase one.is))
     by (inr later) further = further later
 
-  stands : (k : ℕ) (p : Phrase) → slice_get ps k ≡ Some p → StandsHome ps p
+  pub stands : (k : ℕ) (p : Phrase) → slice_get ps k ≡ Some p → StandsHome ps p
   stands k p there = each_at (StandsHome ps) ps k p home there
 
   -- how a name is found
-  record IsGiven (name : List ℕ) (m : ℕ) : Type 0 where
-    prefaces : List Preface
-    is : included ps prefaces name ≡ Some m
+  pub record IsGiven (name : List ℕ) (m : ℕ) : Type 0 where
+    pub prefaces : List Preface
+    pub is : included ps prefaces name ≡ Some m
 
-  record IsNear (block : ℕ) (name : List ℕ) (m : ℕ) : Type 0 where
-    owner : ℕ
-    around : Encloses ps owner block
-    found : own ps (key space.Declared owner name) ≡ Some m
+  pub record IsNear (block : ℕ) (name : List ℕ) (m : ℕ) : Type 0 where
+    pub owner : ℕ
+    pub around : Encloses ps owner block
+    pub found : own ps (key space.Declared owner name) ≡ Some m
 
   abbrev outer_search : ℕ → ℕ → List ℕ → Option ℕ
   outer_search n block name = elim (slice_get ps block) [
@@ -99,7 +99,7 @@ module _ (ps : List Phrase) (looks : LooksUp ps) (home : Each (StandsHome ps) ps
     | Some p ↦ elim (prefaces_of p.node) [ None ↦ nearest ps n p.around.block name | Some prefaces ↦ included ps prefaces name ]
   ]
 
-  nearest_is : (n block : ℕ) (name : List ℕ) (m : ℕ) → nearest ps n block name ≡ Some m → IsNear block name m ⊎ IsGiven name m
+  pub nearest_is : (n block : ℕ) (name : List ℕ) (m : ℕ) → nearest ps n block name ≡ Some m → IsNear block name m ⊎ IsGiven name m
   unfolding nearest
   nearest_is zero block name m is = absurd (cc)
   nearest_is (suc n) block name m is = by (either_or (own ps (key space.Declared block name)) (outer_search n block name) m is) (λ outer so. nearest_is n outer name m so) where
@@ -123,11 +123,11 @@ module _ (ps : List Phrase) (looks : LooksUp ps) (home : Each (StandsHome ps) ps
     by (inr later) further = at_block (slice_get ps block) refl later further
 
   -- the unit of a file is declared in a file
-  record IsUnitOf (m : ℕ) : Type 0 where
-    owner : ℕ
-    name : List ℕ
-    found : own ps (key space.Declared owner name) ≡ Some m
-    file : IsFileAt owner
+  pub record IsUnitOf (m : ℕ) : Type 0 where
+    pub owner : ℕ
+    pub name : List ℕ
+    pub found : own ps (key space.Declared owner name) ≡ Some m
+    pub file : IsFileAt owner
 
   abbrev is_of_file : Option Key → Bool
   is_of_file o = elim o [ None ↦ false | Some q ↦ same_space space.Unit q.space ]
@@ -170,7 +170,7 @@ module _ (ps : List Phrase) (looks : LooksUp ps) (home : Each (StandsHome ps) ps
   pool_unit (OfUnit name head declarations) is = refl
   pool_unit other is = absurd (cc)
 
-  declared_home : (owner : ℕ) (name : List ℕ) (m : ℕ) (c : Phrase) → own ps (key space.Declared owner name) ≡ Some m → slice_get ps m ≡ Some c → is_unit c.node ≡ true → c.around.home ≡ owner
+  pub declared_home : (owner : ℕ) (name : List ℕ) (m : ℕ) (c : Phrase) → own ps (key space.Declared owner name) ≡ Some m → slice_get ps m ≡ Some c → is_unit c.node ≡ true → c.around.home ≡ owner
   declared_home owner name m c found there is =
       let first = looks.found (key space.Declared owner name) m found in
       let same = same_phrase m first.declaring c first.there there in
@@ -207,14 +207,14 @@ module _ (ps : List Phrase) (looks : LooksUp ps) (home : Each (StandsHome ps) ps
     by d there other is = itself_called owner name m d c found there (ap (meant_at ps d) is) at called
 
   -- what an INCLUDE gives
-  record IsPooled (m : ℕ) : Type 0 where
-    pool : ℕ
-    phrase : Phrase
-    there : slice_get ps pool ≡ Some phrase
-    is : is_compool_unit phrase.node ≡ true
-    name : List ℕ
-    found : own ps (key space.Declared pool name) ≡ Some m
-    unit : IsUnitOf pool
+  pub record IsPooled (m : ℕ) : Type 0 where
+    pub pool : ℕ
+    pub phrase : Phrase
+    pub there : slice_get ps pool ≡ Some phrase
+    pub is : is_compool_unit phrase.node ≡ true
+    pub name : List ℕ
+    pub found : own ps (key space.Declared pool name) ≡ Some m
+    pub unit : IsUnitOf pool
 
   pooled_is : (u : ℕ) (name : List ℕ) (m : ℕ) → IsUnitOf u → given_by ps u name ≡ Some m → IsPooled m
   unfolding given_by
@@ -236,7 +236,7 @@ module _ (ps : List Phrase) (looks : LooksUp ps) (home : Each (StandsHome ps) ps
       by u one true same = inl (subst IsUnitOf (let here : u ≡ m = cc in here) one)
       by u one false given = inr (pooled_is u name m one given)
 
-  included_is : (prefaces : List Preface) (name : List ℕ) (m : ℕ) → included ps prefaces name ≡ Some m → IsUnitOf m ⊎ IsPooled m
+  pub included_is : (prefaces : List Preface) (name : List ℕ) (m : ℕ) → included ps prefaces name ≡ Some m → IsUnitOf m ⊎ IsPooled m
   unfolding included shown_by
   included_is [] name m is = absurd (cc)
   included_is (Include place unit ∷ prefaces) name m is = by (either_or (shown ps unit.name name) (included ps prefaces name) m is) (included_is prefaces name m) where
@@ -371,7 +371,7 @@ module _ (ps : List Phrase) (looks : LooksUp ps) (home : Each (StandsHome ps) ps
     by true same any later = or_left (test n) (list_any test ns) (subst (λ k. test k ≡ true) (sym (eqb-true n q same)) so)
     by false other any later = or_right (test n) (list_any test ns) (later any so)
 
-  within_itself : (n q : ℕ) → reaches_within n ps q q ≡ true
+  pub within_itself : (n q : ℕ) → reaches_within n ps q q ≡ true
   within_itself zero q = eq-eqb q q refl
   within_itself (suc n) q = or_left (q == q) (list_any (λ k. reaches_within n ps k q) (callees ps q)) (eq-eqb q q refl)
 

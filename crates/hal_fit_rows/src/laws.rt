@@ -90,12 +90,12 @@ pub fn references_of_processes_are_to_shapes()
 /// Each view of a set has a purpose: it gives cells that phrases of a unit name where they stand in a process which has or calls the unit (image document, The image of a
 /// set).
 pub fn each_view_of_a_set_has_a_purpose()
-    ensures { (s : Set) → Each (HasPurpose s) (views_of s) }
+    ensures { (turns : ℕ) (files : List File) → Each (HasPurpose (set_of turns files)) (views_of (set_of turns files)) }
 {}
 
 /// So the views of a linked image have kinds in their ranges or shapes that are there, and dimensions with places (image document, When an image is right).
 pub fn views_of_an_image_are_formed()
-    ensures { (s : Set) (image : ImageParts) → image_of s (views_of s) ≡ Ok image → list_all (form_right image) image.views ≡ true }
+    ensures { (turns : ℕ) (files : List File) (image : ImageParts) → image_of (set_of turns files) (views_of (set_of turns files)) ≡ Ok image → list_all (form_right image) image.views ≡ true }
 {}
 
 /// The names of the report of a linked image of a set within its limits are right: the elements that they show are there, among the shared cells, the own places of the

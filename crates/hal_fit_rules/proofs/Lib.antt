@@ -26,11 +26,11 @@ mod Outside
 mod Leaving
 pub mod Happening
 mod Procedures
-mod Marking
+pub mod Marking
 mod Ruling
 mod Using
 mod UsingStatements
-mod UsingUnits
+pub mod UsingUnits
 mod Parameters
 pub mod Calling
 pub mod Constants

@@ -39,27 +39,27 @@ use Rattle.hal_fit_rules.proofs.Stating.{statements_fit}
 use Rattle.hal_fit_rules.proofs.UsingStatements.{statements_agree}
 
 -- where the statements of the unit with this number stand
-abbrev site_at : Set → List Place → ℕ → Site
+abbrev pub site_at : Set → List Place → ℕ → Site
 site_at s places k = record { set = s; places = places; unit = k; block = k; marks = marks_of s.phrases k }
 
--- statements that are looked at as inside of an UPDATE block or outside, and fit one by one where this is known of their unit
-module _ (image : ImageParts) (g : Ground) (u : Bool → Uses) (s : Set) (within : Bool) (Known : Site → ℕ → Type 0)
+-- what holds of the statements of a unit, one by one, where something is known of their unit
+module _ (s : Set) (Fits : Site → ℕ → Statements → Type 0) (none : (site : Site) (m : ℕ) → Fits site m NoStatements)
+    (more : (site : Site) (m : ℕ) (x : Statement) (others : Statements) → Fits site m (MoreStatements x NoStatements) → Fits site (after_statement m x) others → Fits site m (MoreStatements x others)) (Known : Site → ℕ → Type 0)
     (one : (places : List Place) (k m : ℕ) (d : List Phrase) (a : Around) (x : Statement) → Known (site_at s places k) k → Counts k m d → AreFirst (gathered_statement d (opened k a) x) s.phrases
-    → StatementsFit image g u within (site_at s places k) m (MoreStatements x NoStatements)) where
+    → Fits (site_at s places k) m (MoreStatements x NoStatements)) where
   -- the statements of a unit with this number fit where that is known
   abbrev pub UnitFits : ℕ → Statements → Type 0
-  UnitFits k x = (places : List Place) → Known (site_at s places k) k → StatementsFit image g u within (site_at s places k) 0 x
+  UnitFits k x = (places : List Place) → Known (site_at s places k) k → Fits (site_at s places k) 0 x
 
   -- those among its elements, where the unit's own phrase stands before them
   elements_fit : (places : List Place) (k m : ℕ) (d : List Phrase) (a : Around) (x : Elements) → Known (site_at s places k) k → k < length d → Counts k m d
-      → AreFirst (gathered_elements d (opened k a) x) s.phrases → StatementsFit image g u within (site_at s places k) m (statements_of x)
+      → AreFirst (gathered_elements d (opened k a) x) s.phrases → Fits (site_at s places k) m (statements_of x)
   unfolding gathered_elements
-  elements_fit places k m d a NoElements known low counts begun = tt
+  elements_fit places k m d a NoElements known low counts begun = none (site_at s places k) m
   elements_fit places k m d a (StatementFirst x others) known low counts begun =
-      let e : List Phrase = gathered_statement d (opened k a) x in (
-        (one places k m d a x known counts (then_ (elements_first e (opened k a) others) begun)).0,
-        elements_fit places k (after_statement m x) e a others known (omega (arith, low, (statement_goes 0 0 d (opened k a) x).grows)) (statement_counts m d (opened k a) x counts) begun,
-      )
+      let e : List Phrase = gathered_statement d (opened k a) x in
+      more (site_at s places k) m x (statements_of others) (one places k m d a x known counts (then_ (elements_first e (opened k a) others) begun))
+      (elements_fit places k (after_statement m x) e a others known (omega (arith, low, (statement_goes 0 0 d (opened k a) x).grows)) (statement_counts m d (opened k a) x counts) begun)
   elements_fit places k m d a (BlockFirst b others) known low counts begun =
       let e : List Phrase = gathered_block d (opened k a) b in
       elements_fit places k m e a others known (omega (arith, low, block_grows d (opened k a) b))
@@ -178,8 +178,8 @@ module _ (image : ImageParts) (g : Ground) (u : Bool → Uses) (s : Set) (within
       (λ k low. file_leaves k d f (λ j from to. apart j k (omega (arith, to, low)))) (file_units d f) (files_units e fs)
 
   -- bodies
-  abbrev BodyFits : Body → Type 0
-  BodyFits b = (places : List Place) → Known (unit_site s places b) b.number → StatementsFit image g u within (unit_site s places b) 0 b.statements
+  abbrev pub BodyFits : Body → Type 0
+  BodyFits b = (places : List Place) → Known (unit_site s places b) b.number → Fits (unit_site s places b) 0 b.statements
 
   abbrev BodiesFit : List Body → Type 0
   BodiesFit [] = Unit {0}
@@ -209,7 +209,7 @@ module _ (image : ImageParts) (g : Ground) (u : Bool → Uses) (s : Set) (within
   found_fit k (b ∷ bs) c fits found = found_by k b c bs (b.number == k) refl fits.0 (found_fit k bs c fits.1) found
 
   -- a unit of the set of these files
-  body_fits : (files : List File) (k : ℕ) (b : Body) → s.phrases ≡ phrases_of files → s.bodies ≡ bodies_of files s.phrases → body_at s k ≡ Some b → BodyFits b
+  pub body_fits : (files : List File) (k : ℕ) (b : Body) → s.phrases ≡ phrases_of files → s.bodies ≡ bodies_of files s.phrases → body_at s k ≡ Some b → BodyFits b
   body_fits files k b whole bodies found =
       found_fit k (bodies_of files s.phrases) b (all_fit files whole) (ap (λ bs. find (λ (x : Body). x.number == k) bs) (sym bodies) ∙ found)
 
@@ -238,10 +238,10 @@ module _ (image : ImageParts) (g : Ground) (s : Set) (sound : IsSound type_rows 
   pub unit_fits : (u : Bool → Uses) (files : List File) (k : ℕ) (b : Body) → s.phrases ≡ phrases_of files → s.bodies ≡ bodies_of files s.phrases → body_at s k ≡ Some b
       → (places : List Place) → UnitKnown image g u (unit_site s places b) b.number → StatementsFit image g u false (unit_site s places b) 0 b.statements
   unit_fits u files k b whole bodies found places known =
-      body_fits image g u s false (UnitKnown image g u) (statement_fit u) files k b whole bodies found places known
+      body_fits s (λ site m x. StatementsFit image g u false site m x) (λ site m. tt) (λ site m x others first rest. (first.0, rest)) (UnitKnown image g u) (statement_fit u) files k b whole bodies found places known
 
   pub unit_inside : (v : Uses) (files : List File) (k : ℕ) (b : Body) → s.phrases ≡ phrases_of files → s.bodies ≡ bodies_of files s.phrases → body_at s k ≡ Some b
       → (places : List Place) → UnitKnown image g (λ inside. v) (unit_site s places b) b.number → IsHarmless s.phrases b.number
       → StatementsFit image g (λ inside. v) true (unit_site s places b) 0 b.statements
   unit_inside v files k b whole bodies found places known harmless =
-      body_fits image g (λ inside. v) s true (KnownInside v) (statement_inside v) files k b whole bodies found places (known, harmless)
+      body_fits s (λ site m x. StatementsFit image g (λ inside. v) true site m x) (λ site m. tt) (λ site m x others first rest. (first.0, rest)) (KnownInside v) (statement_inside v) files k b whole bodies found places (known, harmless)

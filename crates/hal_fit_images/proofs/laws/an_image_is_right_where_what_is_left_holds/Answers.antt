@@ -22,7 +22,7 @@ use Rattle.hal_link.specs.Shapes.{Shapes, shapes_of}
 use Rattle.hal_fit_calls.specs.Each.{Each}
 use Rattle.hal_fit_layout.specs.Rows.{IsNumbered}
 use Rattle.hal_fit_rows.proofs.Made.{image_is}
-use Rattle.hal_fit_images.proofs.Knowing.{all_fit, rows_of_image}
+use Rattle.hal_fit_images.proofs.Knowing.{all_fit, cells_of_image, rows_of_image}
 use Rattle.hal_fit_images.proofs.Serving.{AreGiven}
 use Rattle.hal_fit_images.proofs.Units.{UnitsAreKnown, units_are_known}
 use Rattle.hal_fit_images.proofs.laws.an_image_is_right_where_what_is_left_holds.Goals as goal
@@ -54,22 +54,24 @@ returns c turns files image is accepted few_turns left =
       own = blocks.own turns files views image is;
       few = tables.few_processes;
     } in
+    let reentrant = c.a_set_that_breaks_no_rule_of_calls_has_no_cycles.ensures.reentrant (phrases_of files) counted accepted.called in
+    let long = length-map (processes_of (phrases_of files)) (path_of (phrases_of files)) in
+    let cells = cells_of_image s views image is refl long counted reentrant accepted.within.cells in
     let units : UnitsAreKnown s image =
     units_are_known s image counted left (λ unit b found. c.units_have_bodies.ensures.unit files s unit b refl refl found)
     (λ g u places b serves stands rest.
     c.units_are_known_where_what_is_left_is.ensures image g u files (unit_site s places b) b.number refl refl refl serves left.owned stands
-    (record { tables = (image_placed turns files views image is).tables; processes = length-map (processes_of (phrases_of files)) (path_of (phrases_of files)); events = refl }) accepted.named accepted.typed
+    (record { tables = (image_placed turns files views image is).tables; processes = long; events = refl }) accepted.named accepted.typed
     (words.literals files accepted.spelled) (words.lists files accepted.spelled) rest) in
     let shapes : shapes_of s ≡ image.shapes = ap (λ (x : ImageParts). x.shapes) (image_is s views image is).1 in
     c.an_image_of_blocks_that_fit_is_right.ensures turns files views image is
     (all_fit s counted views image is tables.few_processes (stored.inputs turns files accepted.named parts) (stored.outputs turns files accepted.named parts) accepted.few given units)
-    (rows_of_image s views image is tables refl (length-map (processes_of (phrases_of files)) (path_of (phrases_of files))) counted
-    (c.a_set_that_breaks_no_rule_of_calls_has_no_cycles.ensures.reentrant (phrases_of files) counted accepted.called) accepted.within.cells (blocks.own turns files views image is)
+    (rows_of_image s views image is tables refl long counted reentrant accepted.within.cells (blocks.own turns files views image is)
     (record {
       references = λ process. subst (λ (x : Shapes). Each (IsNumbered s x) (places_of_process s process)) shapes (c.references_of_processes_are_to_shapes.ensures turns files accepted.named parts process);
       shapes = c.the_shapes_of_an_image_are_right.ensures s views image is accepted.few;
       views = and_from (list_all (form_right image) image.views && nat_le (sum_by (spread_of image) image.views) spread_limit) (views_lie image 0 image.views)
-          (and_from (list_all (form_right image) image.views) (nat_le (sum_by (spread_of image) image.views) spread_limit) (c.views_of_an_image_are_formed.ensures s image is)
-          (and_parts (nat_le (sum_by (λ (runs : List (Run Kind)). row_count runs) image.shapes) spread_limit) (nat_le (sum_by (spread_of image) image.views) spread_limit) accepted.few).1) left.lie;
+          (and_from (list_all (form_right image) image.views) (nat_le (sum_by (spread_of image) image.views) spread_limit) (c.views_of_an_image_are_formed.ensures turns files image is)
+          (and_parts (nat_le (sum_by (λ (runs : List (Run Kind)). row_count runs) image.shapes) spread_limit) (nat_le (sum_by (spread_of image) image.views) spread_limit) accepted.few).1) (c.views_lie_where_what_is_left_of_data_holds.ensures turns files image is accepted.named parts accepted.few cells left.views);
       names = c.the_names_of_an_image_are_right.ensures turns files views image is accepted.within accepted.program;
     }))

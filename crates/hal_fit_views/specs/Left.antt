@@ -1,0 +1,35 @@
+-- What is left to be known of a set, so that the views of its image lie in memory.
+use Rattle.std.specs.Prelude.{◌≡◌, ℕ, List, [], ◌∷◌, Some}
+use Rattle.hal_base.specs.declared.refusal.Place.{Place}
+use Rattle.hal_grammar.specs.Leaves.{Naming}
+use Rattle.hal_grammar.specs.Expressions.{Refers, Subscript}
+use Rattle.hal_phrases.specs.declared.role.Role.{Role}
+use Rattle.hal_phrases.specs.Phrases.{OfReference}
+use Rattle.hal_code.specs.declared.image.ImageParts.{ImageParts}
+use Rattle.hal_meaning.specs.Elements.{Component, chosen}
+use Rattle.hal_meaning.specs.Sets.{Set}
+use Rattle.hal_agreement.specs.Sites.{Site}
+use Rattle.hal_gen_expr.specs.Led.{Led, led_by}
+use Rattle.hal_gen_expr.specs.Referents.{referent}
+use Rattle.hal_fit_rows.specs.Purposes.{IsSite, Says}
+use Rattle.hal_fit_views.specs.Lying.{AreasLie}
+use Rattle.hal_fit_views.specs.Placed.{AreWellPlaced}
+
+-- there is a component
+abbrev pub LeadSomewhere : List Component → Type 0
+LeadSomewhere [] = ⊥
+LeadSomewhere (c ∷ cs) = Unit {0}
+
+-- the path of a reference with a subscript leads to components of the data that its name means
+abbrev pub PathsLead : Set → Type 0
+PathsLead s =
+    (process : ℕ) (site : Site) (role : Role) (place : Place) (name : List ℕ) (path : List Naming) (subscript : Subscript) (led : Led) → IsSite s process site → Says site (OfReference role (Refers place name path subscript))
+    → led_by path (referent site name) ≡ Some led → LeadSomewhere (chosen led.path led.shape.components)
+
+pub record ViewsLeft (s : Set) (image : ImageParts) : Type 0 where
+  -- rules of names, types and calls, and the grammar: data with own places stand where a process that names them reaches them
+  pub placed : AreWellPlaced s.phrases s.constants
+  -- rules of names
+  pub lead : PathsLead s
+  -- rules of types: arguments have as many elements of such kinds as their parameters
+  pub areas : AreasLie s image

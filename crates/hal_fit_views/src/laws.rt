@@ -1,0 +1,51 @@
+//! What holds of the views that the code of an image names.
+
+ghost use Rattle.std.specs.Prelude.{◌≡◌, ◌≤◌, ℕ, true, List, Ok};
+ghost use Rattle.hal_base.specs.declared.limits.TheConstants.{CELL_LIMIT};
+ghost use Rattle.hal_grammar.specs.Units.{File};
+ghost use Rattle.hal_phrases.specs.GatheredUnits.{phrases_of};
+ghost use Rattle.hal_scope.specs.Rules.{IsSound, rows};
+ghost use Rattle.hal_meaning.specs.Sets.{Set, set_of};
+ghost use Rattle.hal_code.specs.declared.image.ImageParts.{ImageParts};
+ghost use Rattle.hal_code.specs.declared.row.View.{View};
+ghost use Rattle.hal_code.specs.Right.{cell_count, process_names, views_lie};
+ghost use Rattle.hal_verify.specs.Limits.{spread_kept};
+ghost use Rattle.hal_link.specs.CalledViews.{views_of};
+ghost use Rattle.hal_link.specs.Linking.{image_of};
+ghost use Rattle.hal_fit_rows.specs.Parts.{HaveParts};
+ghost use Rattle.hal_fit_views.specs.Left.{ViewsLeft};
+ghost use Rattle.hal_fit_views.specs.Lying.{PurposesLie};
+ghost use Rattle.hal_fit_views.specs.Naming.{NamesView};
+
+use hal_fit_rows::parameters_of_units_are_stored;
+use hal_names::{
+    a_key_is_found_at_its_first_declaration, phrases_are_counted, what_is_meant_declares_the_name,
+};
+
+/// The blocks of a process name views that are for what phrases of its units name where they stand in it: for data, for own places of groups, for input parameters of the units
+/// that it calls, and for arguments (image document, The image of a set).
+pub fn the_blocks_of_a_process_name_views_for_its_phrases()
+    ensures { (turns : ℕ) (files : List File) (views : List View) (image : ImageParts) → image_of (set_of turns files) views ≡ Ok image → (process view : ℕ)
+        → process_names image view process ≡ true → NamesView (set_of turns files) views process view }
+{}
+
+/// So the views of a linked image lie in memory where those do that are for something at a site of a process, in that process: a view of own places fits each process
+/// whose blocks name it, and at least one (image document, When an image is right).
+pub fn views_lie_where_all_that_they_are_for_does()
+    ensures { (turns : ℕ) (files : List File) (image : ImageParts) → image_of (set_of turns files) (views_of (set_of turns files)) ≡ Ok image
+        → PurposesLie (set_of turns files) image → views_lie image 0 image.views ≡ true }
+{}
+
+/// And so they do in a set that breaks no rule of names, whose STRUCTUREs have parts, where data with own places stand where processes that name them reach them, and what
+/// is left of paths and arguments holds, and whose image has few cells: the elements of data to which names lead, those among which subscripts choose, own places of groups, and input
+/// parameters lie where they are stored (image document, When an image is right).
+pub fn views_lie_where_what_is_left_of_data_holds()
+    ensures { (turns : ℕ) (files : List File) (image : ImageParts) → image_of (set_of turns files) (views_of (set_of turns files)) ≡ Ok image → IsSound rows (phrases_of files) → HaveParts (phrases_of files)
+        → spread_kept image ≡ true → cell_count image ≤ CELL_LIMIT → ViewsLeft (set_of turns files) image → views_lie image 0 image.views ≡ true }
+{
+    phrases_are_counted();
+    a_key_is_found_at_its_first_declaration();
+    what_is_meant_declares_the_name();
+    parameters_of_units_are_stored();
+    views_lie_where_all_that_they_are_for_does();
+}
