@@ -27,5 +27,6 @@ mod Parametered
 mod Homing
 mod Temporary
 mod Worth
+mod Processes
 mod Channelled
 mod UnitsKnown

@@ -1,13 +1,16 @@
 -- What a unit declares stands for itself.
-use Rattle.std.proofs.Common.{◌≡◌, ℕ, Bool, true, false, not, List, Option, Some, None, slice_get, refl, ap, ◌∙◌}
+use Rattle.std.proofs.Common.{◌≡◌, ℕ, Bool, true, false, not, List, Option, Some, None, slice_get, refl, sym, ap, ◌∙◌}
 use Rattle.std.specs.Option.{option_and_then}
+use Rattle.hal_grammar.specs.Leaves.{Naming}
+use Rattle.hal_grammar.specs.Declarations.{Attribute, Declared, Declaration}
+use Rattle.hal_grammar.specs.Units.{Head}
 use Rattle.hal_phrases.specs.Phrases.{Node, Phrase, OfFile, OfTemplate, OfUnit, OfItem}
 use Rattle.hal_names.specs.Means.{means}
-use Rattle.hal_meaning.specs.Bodies.{is_unit, pooled_at, meant_at, standing_for}
+use Rattle.hal_meaning.specs.Bodies.{is_called, is_called_head, is_unit, pooled_at, meant_at, standing_for}
 use Rattle.hal_meaning.specs.Places.{is_in_unit}
 use Rattle.hal_agreement.specs.Sites.{Site}
 use Rattle.hal_fit_rules.specs.Owned.{IsOwn}
-use Rattle.hal_fit_names.specs.Suited.{is_templated}
+use Rattle.hal_fit_names.specs.Suited.{is_templated, shows_parts}
 
 unit_pools : (ps : List Phrase) (name : List ℕ) (n : Node) → is_unit n ≡ true → pooled_at ps name n ≡ None
 unit_pools ps name (OfUnit of head declarations) is = refl
@@ -34,3 +37,24 @@ own_number ps k p there plain =
 -- so a name that means it is own
 pub own_name : (site : Site) (name : List ℕ) (k : ℕ) (p : Phrase) → means site.set.phrases site.block name ≡ Some k → slice_get site.set.phrases k ≡ Some p → is_templated site.set.phrases p p.node ≡ false → IsOwn site name
 own_name site name k p meant there plain = record { number = k; meant = meant; phrase = p; there = there; own = own_number site.set.phrases k p there plain }
+
+-- no template, or that of a unit that isn't called
+pub data IsShown (ps : List Phrase) (p : Phrase) : Type 0 where
+  Plain : is_templated ps p p.node ≡ false → IsShown ps p
+  Written : (template : Naming) (head : Head) (declarations : List Declaration) → p.node ≡ OfTemplate template head declarations → is_called_head head ≡ false → IsShown ps p
+
+pub shown_so : (ps : List Phrase) (p : Phrase) (n : Node) → p.node ≡ n → shows_parts ps p n ≡ false → IsShown ps p
+shown_so ps p (OfTemplate template head declarations) is none = Written template head declarations is none
+shown_so ps p (OfItem common item) is none = Plain (ap (is_templated ps p) is ∙ none)
+shown_so ps p other is none = Plain (ap (is_templated ps p) is)
+
+-- what is called is no template
+pub called_plain : (ps : List Phrase) (p : Phrase) (n : Node) → is_called n ≡ true → is_templated ps p n ≡ false
+called_plain ps p (OfUnit name head declarations) is = refl
+called_plain ps p (OfTemplate name head declarations) is = absurd (cc)
+called_plain ps p (OfItem common item) is = absurd (cc)
+called_plain ps p other is = absurd (cc)
+
+-- and neither is data that none of a COMPOOL declares
+pub item_plain : (ps : List Phrase) (p : Phrase) (common : List Attribute) (item : Declared) → p.node ≡ OfItem common item → shows_parts ps p p.node ≡ false → is_templated ps p p.node ≡ false
+item_plain ps p common item is none = ap (is_templated ps p) is ∙ (ap (shows_parts ps p) (sym is) ∙ none)

@@ -12,6 +12,7 @@ use Rattle.hal_values.specs.declared.value.Value.TheVariants as value
 use Rattle.hal_constants.specs.declared.constant.Constant.{Constant}
 use Rattle.hal_constants.specs.declared.constant.Constant.TheVariants as constant
 use Rattle.hal_sound_values.specs.Right.{IsRight}
+use Rattle.hal_meaning.specs.Bodies.{is_called_head}
 use Rattle.hal_meaning.specs.Places.{is_in_unit}
 use Rattle.hal_fit_classes.specs.Kinded.{IsFitLiteral}
 
@@ -52,3 +53,9 @@ abbrev pub is_templated : List Phrase → Phrase → Node → Bool
 is_templated ps p (OfTemplate name head declarations) = true
 is_templated ps p (OfItem common item) = not (is_in_unit ps p.around.home)
 is_templated ps p other = false
+
+-- whether it is one by which a part of its unit is seen: the template of a unit that is called, or what a COMPOOL's declares
+abbrev pub shows_parts : List Phrase → Phrase → Node → Bool
+shows_parts ps p (OfTemplate name head declarations) = is_called_head head
+shows_parts ps p (OfItem common item) = not (is_in_unit ps p.around.home)
+shows_parts ps p other = false

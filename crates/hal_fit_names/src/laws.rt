@@ -20,6 +20,7 @@ ghost use Rattle.hal_scope.specs.Sorts.{type_of, usage_of};
 ghost use Rattle.hal_kinds.specs.Attributes.{sizes_of};
 ghost use Rattle.hal_kinds.specs.Classes.{class_of};
 ghost use Rattle.hal_kinds.specs.Data.{is_event_type, is_structure_type};
+ghost use Rattle.hal_templates.specs.Rules.{template_rows};
 ghost use Rattle.hal_types.specs.Rules.{type_rows};
 ghost use Rattle.hal_values.specs.declared.value.Kind as values;
 ghost use Rattle.hal_constants.specs.declared.constant.Constant.TheVariants as constant;
@@ -57,6 +58,7 @@ use hal_fit_constants::what_the_checks_know_is_constant;
 use hal_names::{
     a_key_is_found_at_its_first_declaration, phrases_are_counted, what_is_meant_declares_the_name,
 };
+use hal_templates::a_written_template_gives_what_its_unit_shows;
 
 /// In a set of files that breaks no rule of names or types, no operand of an expression is wrong where a constant is needed, and a value of it is a right one of
 /// the class of the expression; this is so for each phrase in the block of the expression, before which other constants may stand (language document, Kinds).
@@ -229,11 +231,12 @@ pub fn constants_have_values()
 }
 
 /// So a unit is known, as the law of statements asks, by all that serves it, where this is known of the phrases that are left: references with a path, but for operands of
-/// event expressions. What is left of names is that they mean nothing of written templates.
+/// event expressions. What is left of names is that they mean no written templates of units that are called and nothing that one of a COMPOOL declares; one of a process
+/// stands for the process, as no rule of templates is broken.
 pub fn units_are_known_where_what_is_left_is()
     ensures { (image : ImageParts) (g : Ground) (u : Bool → Uses) (files : List File) (site : Site) (home : ℕ) → site.set.phrases ≡ phrases_of files → site.set.bodies ≡ bodies_of files site.set.phrases
-        → HasConstants site → ServesUnit site.set image u home → NamesAreOwn site.set.phrases → IsHome g site home → HasEvents image site → IsSound rows (phrases_of files)
-        → IsSound type_rows (phrases_of files) → HasFitLiterals (phrases_of files) → AreSpelled (phrases_of files)
+        → HasConstants site → ServesUnit site.set image u home → NamesAreOwn site.set.phrases → IsHome g site home → HasEvents image site → IsSound template_rows (phrases_of files)
+        → IsSound rows (phrases_of files) → IsSound type_rows (phrases_of files) → HasFitLiterals (phrases_of files) → AreSpelled (phrases_of files)
         → ((q : Phrase) → IsAmong q site.set.phrases → q.around.home ≡ home → is_left_node q.node ≡ true → PhraseKnown image g u site q) → UnitKnown image g u site home }
 {
     phrases_are_counted();
@@ -242,4 +245,5 @@ pub fn units_are_known_where_what_is_left_is()
     temporary_variables_mean_themselves();
     what_the_checks_know_is_constant();
     constants_have_values();
+    a_written_template_gives_what_its_unit_shows();
 }

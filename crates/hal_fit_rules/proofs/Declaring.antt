@@ -150,23 +150,33 @@ temporary_alike ps p labels variable = record {
 }
 
 module _ (u : Uses) (site : Site) where
+  -- a name means what its declaration stands for
+  pub meant_standing : (name : List ℕ) (k j : ℕ) (q : Phrase) → means site.set.phrases site.block name ≡ Some k → standing_for site.set.phrases k ≡ j → slice_get site.set.phrases j ≡ Some q
+      → name_meant (here_at site) name [] ≡ meant_by (here_at site) [] q q.node
+  meant_standing name k j q meant stands there =
+      ap (λ o. elim o [ None ↦ builtin_meant name | Some i ↦ declaration_meant (here_at site) [] i ])
+      (ap (λ (o : Option ℕ). elim o [ None ↦ None | Some i ↦ Some (standing_for site.set.phrases i) ]) meant ∙ ap Some stands)
+      ∙ ap (λ (o : Option Phrase). elim o [ None ↦ MeantNothing | Some p ↦ meant_by (here_at site) [] p p.node ]) there
+
   pub meant_itself : (name : List ℕ) (own : IsOwn site name) → name_meant (here_at site) name [] ≡ meant_by (here_at site) [] own.phrase own.phrase.node
-  meant_itself name own =
-      ap (λ o. elim o [ None ↦ builtin_meant name | Some k ↦ declaration_meant (here_at site) [] k ])
-      (ap (λ (o : Option ℕ). elim o [ None ↦ None | Some k ↦ Some (standing_for site.set.phrases k) ]) own.meant ∙ ap Some own.own)
-      ∙ ap (λ (o : Option Phrase). elim o [ None ↦ MeantNothing | Some p ↦ meant_by (here_at site) [] p p.node ]) own.there
+  meant_itself name own = meant_standing name own.number own.number own.phrase own.meant own.own own.there
+
+  -- a name with a path agrees where its declaration does with what it means
+  pub agrees_as : (path : List Naming) (name : List ℕ) (k : ℕ) (p : Phrase) (n : Node) (m : Meant) → means site.set.phrases site.block name ≡ Some k → slice_get site.set.phrases k ≡ Some p → p.node ≡ n
+      → name_meant (here_at site) name [] ≡ m → NodeAgrees u site site.set.phrases p path n m → NameAgrees u site site.set.phrases site.block name path
+  agrees_as path name k p n m meant there declares whole agrees =
+      let of_node : NodeAgrees u site site.set.phrases p path p.node m = subst (λ (x : Node). NodeAgrees u site site.set.phrases p path x m) (sym declares) agrees in
+      let of_phrase : PhraseAgrees u site site.set.phrases path (slice_get site.set.phrases k) m =
+      subst (λ (o : Option Phrase). PhraseAgrees u site site.set.phrases path o m) (sym there) of_node in
+      let of_number : DeclarationAgrees u site site.set.phrases name path (means site.set.phrases site.block name) m =
+      subst (λ (o : Option ℕ). DeclarationAgrees u site site.set.phrases name path o m) (sym meant) of_phrase in
+      subst (λ (x : Meant). DeclarationAgrees u site site.set.phrases name path (means site.set.phrases site.block name) x) (sym whole) of_number
 
   -- a name with a path agrees where what declares it does
   pub agrees_at : (path : List Naming) (name : List ℕ) (own : IsOwn site name) (n : Node) (m : Meant) → own.phrase.node ≡ n → meant_by (here_at site) [] own.phrase n ≡ m
       → NodeAgrees u site site.set.phrases own.phrase path n m → NameAgrees u site site.set.phrases site.block name path
   agrees_at path name own n m declares is agrees =
-      let whole : name_meant (here_at site) name [] ≡ m = meant_itself name own ∙ (ap (meant_by (here_at site) [] own.phrase) declares ∙ is) in
-      let of_node : NodeAgrees u site site.set.phrases own.phrase path own.phrase.node m = subst (λ (x : Node). NodeAgrees u site site.set.phrases own.phrase path x m) (sym declares) agrees in
-      let of_phrase : PhraseAgrees u site site.set.phrases path (slice_get site.set.phrases own.number) m =
-      subst (λ (o : Option Phrase). PhraseAgrees u site site.set.phrases path o m) (sym own.there) of_node in
-      let of_number : DeclarationAgrees u site site.set.phrases name path (means site.set.phrases site.block name) m =
-      subst (λ (o : Option ℕ). DeclarationAgrees u site site.set.phrases name path o m) (sym own.meant) of_phrase in
-      subst (λ (x : Meant). DeclarationAgrees u site site.set.phrases name path (means site.set.phrases site.block name) x) (sym whole) of_number
+      agrees_as path name own.number own.phrase n m own.meant own.there declares (meant_itself name own ∙ (ap (meant_by (here_at site) [] own.phrase) declares ∙ is)) agrees
 
   -- a name alone
   pub agrees_by : (name : List ℕ) (own : IsOwn site name) (n : Node) (m : Meant) → own.phrase.node ≡ n → meant_by (here_at site) [] own.phrase n ≡ m → NodeAgrees u site site.set.phrases own.phrase [] n m

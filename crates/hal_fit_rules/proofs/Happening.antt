@@ -5,7 +5,7 @@ use Rattle.std.specs.Option.{option_or, option_and_then}
 use Rattle.std.proofs.lemmas.Bool.{and_from, eqb-true, ltb-true, eq-eqb, lt-ltb}
 use Rattle.hal_grammar.specs.Declarations.{Kind, IntegerKind, BooleanKind, EventKind, BitKind, CharacterKind, StructureKind, Attribute, Declared}
 use Rattle.hal_grammar.specs.Units.{Head, Program, Compool, Task, Procedure, Function}
-use Rattle.hal_phrases.specs.Phrases.{Phrase, OfUnit, OfItem}
+use Rattle.hal_phrases.specs.Phrases.{Phrase, OfTemplate, OfUnit, OfItem}
 use Rattle.hal_names.specs.Laws.{IsCounted}
 use Rattle.hal_scope.specs.Rules.{IsAmong}
 use Rattle.hal_scope.specs.Sorts.{type_of}
@@ -17,7 +17,7 @@ use Rattle.hal_kinds.specs.Data.{class_of_type, has_copies, dimensions_of, data_
 use Rattle.hal_meaning.specs.Bodies.{is_process, is_process_head, processes_of}
 use Rattle.hal_meaning.specs.Events.{declared_events, event_of, is_event, place_in}
 use Rattle.hal_meaning.specs.Places.{is_in_unit}
-use Rattle.hal_meaning.specs.Variables.{MeantEvent, MeantNothing, event_meant, head_meant}
+use Rattle.hal_meaning.specs.Variables.{MeantEvent, MeantNothing, event_meant, head_meant, meant_by}
 use Rattle.hal_code.specs.Sorts.{B}
 use Rattle.hal_agreement.specs.Sites.{Site, here_at}
 use Rattle.hal_fit_expr.specs.Uses.{Uses}
@@ -25,8 +25,8 @@ use Rattle.hal_fit_expr.specs.Sorted.{sort_of_meant}
 use Rattle.hal_fit_classes.specs.Kinded.{sort_of_class}
 use Rattle.hal_fit_rules.specs.Agreeing.{NameAgrees}
 use Rattle.hal_fit_rules.specs.Owned.{IsOwn}
-use Rattle.hal_fit_rules.specs.Happening.{IsEvent, IsProcess, AsksAll}
-use Rattle.hal_fit_rules.proofs.Declaring.{agrees_by}
+use Rattle.hal_fit_rules.specs.Happening.{IsEvent, IsProcess, IsWrittenProcess, AsksAll}
+use Rattle.hal_fit_rules.proofs.Declaring.{agrees_as, agrees_by, meant_standing}
 use Rattle.hal_fit_rules.proofs.Leaving.{found_among}
 
 -- where a number is first in a list
@@ -189,6 +189,22 @@ module _ (u : Uses) (site : Site) (asks : AsksAll u site) (counted : IsCounted s
       let one = process_numbered site own.number own.phrase own.there same is in
       agrees_by u site name own (OfUnit is.name is.head is.declarations) (MeantEvent one.event) is.declares
       (process_meant site own.phrase.number is.head is.process ∙ meant_event own.phrase.number one.event (ap (event_of site.set.phrases) same ∙ one.is)) (record {
+        found = class.Bits;
+        known = process_class is.head is.process;
+        sorted = λ c s of_c worth. event_sorted u site one.event asks one.small ∙ (ap (option_and_then sort_of_class) (sym (process_class is.head is.process) ∙ of_c) ∙ worth);
+      })
+
+  -- and a written template of one
+  pub written_process_agrees : (name : List ℕ) → IsWrittenProcess site name → NameAgrees u site site.set.phrases site.block name []
+  written_process_agrees name is =
+      let unit = is.standing in
+      let process = unit.is in
+      let same = counted unit.unit unit.phrase unit.there in
+      let one = process_numbered site unit.unit unit.phrase unit.there same process in
+      agrees_as u site [] name is.number is.phrase (OfTemplate is.template is.head is.declarations) (MeantEvent one.event) is.meant is.there is.declares
+      (meant_standing u site name is.number unit.unit unit.phrase is.meant unit.stands unit.there
+      ∙ (ap (meant_by (here_at site) [] unit.phrase) process.declares
+      ∙ (process_meant site unit.phrase.number process.head process.process ∙ meant_event unit.phrase.number one.event (ap (event_of site.set.phrases) same ∙ one.is)))) (record {
         found = class.Bits;
         known = process_class is.head is.process;
         sorted = λ c s of_c worth. event_sorted u site one.event asks one.small ∙ (ap (option_and_then sort_of_class) (sym (process_class is.head is.process) ∙ of_c) ∙ worth);
