@@ -114,7 +114,7 @@ module _ (site : Site) (named : IsSound rows site.set.phrases) (sound : IsSound 
         → declaration_referent site.set.phrases site.set.constants (standing_for site.set.phrases k) ≡ ConstantOf v
     of_node r there (OfItem common item) node worth =
         let both = item_value (is_value_item common item) (is_before site.set.phrases q r) (value_at (known site.set.phrases) r.number) v worth in
-        ap (declaration_referent site.set.phrases site.set.constants) (own_number site.set.phrases k r there (item_plain site.set.phrases r common item node (owned q.around.block name k r means_it there)))
+        ap (declaration_referent site.set.phrases site.set.constants) (own_number site.set.phrases k r there (item_plain site.set.phrases r common item node both.0 (owned q.around.block name k r means_it there)))
         ∙ (ap (λ (x : Option Phrase). elim x [ None ↦ Unmeant | Some p ↦ phrase_referent site.set.phrases site.set.constants p ]) there
         ∙ item_refers r common item v (at_among site.set.phrases k r there) node both.0 both.1)
     of_node r there other node worth = absurd (cc)

@@ -1,5 +1,5 @@
 -- Names of values agree in a set that breaks no rule, where what is left is known.
-use Rattle.std.proofs.Common.{◌≡◌, ℕ, Bool, true, false, not, ◌&&◌, ◌||◌, List, [], ◌++◌, Option, Some, None, slice_get, refl, sym, ap, ◌∙◌, inl, inr}
+use Rattle.std.proofs.Common.{◌≡◌, ◌⊎◌, ℕ, Bool, true, false, not, ◌&&◌, ◌||◌, List, [], ◌++◌, Option, Some, None, slice_get, refl, sym, ap, ◌∙◌, inl, inr}
 use Rattle.std.specs.Prelude.{nat_lt, if◌then◌else◌}
 use Rattle.std.specs.Option.{option_and_then, is_some}
 use Rattle.hal_base.specs.declared.refusal.Place.{Place}
@@ -40,7 +40,7 @@ use Rattle.hal_attributes.specs.Typed.{untyped, is_no_variable, misplaced_event}
 use Rattle.hal_uses.specs.Receivers.{is_input_parameter, is_component, put_fault, put, is_integer, counted_fault, variable_fault, varied, may_receive, received_by, received, reference_receives, misreceived}
 use Rattle.hal_types.specs.Rules.{attribute_rows, operand_rows, use_rows, size_rows, type_rows}
 use Rattle.hal_constants.specs.Naming.{is_value_item}
-use Rattle.hal_meaning.specs.Bodies.{is_called_head, is_process_head}
+use Rattle.hal_meaning.specs.Bodies.{is_called_head, is_process_head, standing_for}
 use Rattle.hal_meaning.specs.Places.{is_in_unit}
 use Rattle.hal_code.specs.declared.image.ImageParts.{ImageParts}
 use Rattle.hal_meaning.specs.Variables.{name_meant}
@@ -48,7 +48,7 @@ use Rattle.hal_agreement.specs.Sites.{Site, here_at}
 use Rattle.hal_fit_expr.specs.Uses.{Uses}
 use Rattle.hal_fit_rules.specs.Agreeing.{NameAgrees, FormAgrees}
 use Rattle.hal_fit_rules.specs.Happening.{IsEvent}
-use Rattle.hal_fit_rules.specs.Owned.{IsOwn, IsStructureData}
+use Rattle.hal_fit_rules.specs.Owned.{IsOwn, IsPlainData, IsStructureData}
 use Rattle.hal_fit_rules.specs.Passing.{IsProcedure}
 use Rattle.hal_fit_rules.specs.Passed.{ProcedureAgrees}
 use Rattle.hal_fit_rules.specs.Received.{CellsAgree}
@@ -63,10 +63,12 @@ use Rattle.hal_fit_rules.proofs.Structuring.{structure_agrees, structure_cells}
 use Rattle.hal_fit_rules.proofs.Unbroken.{among_first, unbroken, ruled_none, no_rule, of_uses}
 use Rattle.hal_fit_names.specs.Named.{AreFunctions, AreLeft, AreProcedures, FunctionParameters}
 use Rattle.hal_fit_names.specs.Serving.{MayAsk}
-use Rattle.hal_fit_names.specs.Suited.{HasFitLiterals, AreDeclared, is_templated}
+use Rattle.hal_fit_names.specs.Standing.{StandsForData}
+use Rattle.hal_fit_names.specs.Suited.{HasFitLiterals, AreDeclared, is_plain, is_templated}
 use Rattle.hal_fit_names.proofs.Asking.{asked_all, asked_runtime, eventful_sort}
 use Rattle.hal_fit_names.proofs.Declaring.{plain_data}
-use Rattle.hal_fit_names.proofs.Owning.{IsShown, Plain, Written, own_number, shown_so}
+use Rattle.hal_fit_names.proofs.Owning.{IsShown, Plain, Pooled, Written, own_number, shown_so}
+use Rattle.hal_fit_names.proofs.Pooled.{all_false, pooled_agree, pooled_cells, pooled_formed}
 use Rattle.hal_fit_names.proofs.Placing.{NodePlaced, at_among}
 use Rattle.hal_fit_names.proofs.Suiting.{unless_true}
 
@@ -260,6 +262,11 @@ uncalled ps q (Compool place) none fits = absurd (cc)
 uncalled ps q (Procedure place inputs outputs mode) none fits = absurd (cc)
 uncalled ps q (Function place inputs returns mode) none fits = absurd (cc)
 
+-- a name means plain data, which stand for those of a COMPOOL or for themselves
+data IsPlainName (site : Site) (name : List ℕ) (k : ℕ) (p : Phrase) (common : List Attribute) (item : Declared) : Type 0 where
+  ForData : (t : Kind) → type_of common item ≡ Some t → is_event_type (Some t) ≡ false → is_structure_type (Some t) ≡ false → is_value_item common item ≡ false → StandsForData site.set.phrases k p common item → IsPlainName site name k p common item
+  ForItself : (own : IsOwn site name) → IsPlainData site own.phrase → IsPlainName site name k p common item
+
 limit_fits : (ps : List Phrase) (q : Phrase) (name : List ℕ) (o : Option ℕ) → is_in_event ps q ≡ false
     → ◌≡◌ {A = Bool} (elim o [ None ↦ fits_named name usage.EventOrTime | Some k ↦ fits_declared ps q usage.EventOrTime (sort_at ps k) ]) (elim o [ None ↦ fits_named name usage.Value | Some k ↦ fits_declared ps q usage.Value (sort_at ps k) ])
 limit_fits ps q name None calm = fits_same (builtin_named name)
@@ -351,6 +358,35 @@ module _ (u : Uses) (site : Site) (named : IsSound rows site.set.phrases) (sound
   builtin_by name may None undeclared is known_ fits = absurd (cc)
   builtin_by name may (Some b) undeclared is known_ fits = builtin_agrees u site name (record { undeclared = undeclared; function = b; named = is; alone = alone_form (form_of b) known_ fits; asked = λ asking. asked_runtime u site name b may undeclared is asking })
 
+  -- plain data
+  plainly : (name : List ℕ) (left : AreLeft site name) (k : ℕ) (p : Phrase) (common : List Attribute) (item : Declared) → means site.set.phrases site.block name ≡ Some k → slice_get site.set.phrases k ≡ Some p → p.node ≡ OfItem common item
+      → is_plain common item ≡ true → IsPlainName site name k p common item
+  plainly name left k p common item meant there is plain = by (type_of common item) refl (item_typed p common item (at_among site.set.phrases k p there) is) (left.pooled k p common item meant there is) where
+    by : (o : Option Kind) → type_of common item ≡ o → is_some o ≡ true → StandsForData site.set.phrases k p common item ⊎ (standing_for site.set.phrases k ≡ k) → IsPlainName site name k p common item
+    by None typed some stands = absurd (cc)
+    by (Some t) typed some (inl stands) =
+        let parts = all_false (is_event_type (type_of common item)) (is_structure_type (type_of common item)) (is_value_item common item) plain in
+        ForData t typed (ap is_event_type (sym typed) ∙ parts.0) (ap is_structure_type (sym typed) ∙ parts.1) parts.2 stands
+    by (Some t) typed some (inr itself) =
+        let parts = all_false (is_event_type (type_of common item)) (is_structure_type (type_of common item)) (is_value_item common item) plain in
+        ForItself (record { number = k; meant = meant; phrase = p; there = there; own = itself })
+        (plain_data site.set.phrases named sound counted declared literals site refl has p (placed p (at_among site.set.phrases k p there)) common item t is typed parts.2 (ap is_event_type (sym typed) ∙ parts.0) (ap is_structure_type (sym typed) ∙ parts.1))
+
+  plain_agrees : (name : List ℕ) (k : ℕ) (p : Phrase) (common : List Attribute) (item : Declared) → means site.set.phrases site.block name ≡ Some k → slice_get site.set.phrases k ≡ Some p → p.node ≡ OfItem common item → IsPlainName site name k p common item
+      → NameAgrees u site site.set.phrases site.block name []
+  plain_agrees name k p common item meant there is (ForData t typed eventless plain stored stands) = pooled_agree u site named sound counted declared literals has placed k p name common item t meant there is typed eventless plain stored stands
+  plain_agrees name k p common item meant there is (ForItself own data_) = plain_data_agree u site name own data_
+
+  plain_cells : (name : List ℕ) (k : ℕ) (p : Phrase) (common : List Attribute) (item : Declared) → means site.set.phrases site.block name ≡ Some k → slice_get site.set.phrases k ≡ Some p → p.node ≡ OfItem common item → IsPlainName site name k p common item
+      → CellsAgree site.set.phrases [] (means site.set.phrases site.block name) (name_meant (here_at site) name [])
+  plain_cells name k p common item meant there is (ForData t typed eventless plain stored stands) = pooled_cells u site named sound counted declared literals has placed k p name common item t meant there is typed eventless plain stored stands
+  plain_cells name k p common item meant there is (ForItself own data_) = plain_cells_agree u site name own data_
+
+  plain_forms : (name : List ℕ) (k : ℕ) (p : Phrase) (common : List Attribute) (item : Declared) → means site.set.phrases site.block name ≡ Some k → slice_get site.set.phrases k ≡ Some p → p.node ≡ OfItem common item → IsPlainName site name k p common item
+      → FormAgrees u site site.set.phrases site.block name
+  plain_forms name k p common item meant there is (ForData t typed eventless plain stored stands) = pooled_formed u site named sound counted declared literals has placed k p name common item t meant there is typed eventless plain stored stands
+  plain_forms name k p common item meant there is (ForItself own data_) = data_formed u site name own data_
+
   -- a name that means a declaration
   named_as : (name : List ℕ) (left : AreLeft site name) (may : MayAsk u site name) (functions : AreFunctions u site name) (owner k : ℕ) (q p : Phrase) → means site.set.phrases site.block name ≡ Some k → slice_get site.set.phrases k ≡ Some p
       → declared_at p.number p.around p.node ≡ Some (key space.Declared owner name) → IsShown site.set.phrases p → fits_declared site.set.phrases q usage.Value (sort_of p.node) ≡ true → NameAgrees u site site.set.phrases site.block name []
@@ -371,6 +407,7 @@ module _ (u : Uses) (site : Site) (named : IsSound rows site.set.phrases) (sound
         process = process.0;
         standing = left.standing k p template head declarations meant there is process.0;
       })
+  named_as name left may functions owner k q p meant there declares (Pooled common item is plain) fits = plain_agrees name k p common item meant there is (plainly name left k p common item meant there is plain)
 
   meant_by_name : (name : List ℕ) (left : AreLeft site name) (may : MayAsk u site name) (functions : AreFunctions u site name) (q : Phrase) (o : Option ℕ) → means site.set.phrases site.block name ≡ o → (is_some o || is_known_builtin name usage.Value) ≡ true
       → elim o [ None ↦ fits_named name usage.Value | Some k ↦ fits_declared site.set.phrases q usage.Value (sort_at site.set.phrases k) ] ≡ true → NameAgrees u site site.set.phrases site.block name []
@@ -451,12 +488,13 @@ module _ (u : Uses) (site : Site) (named : IsSound rows site.set.phrases) (sound
   node_receives name own q (OfStructure structure parts) is within fits may = absurd (cc)
   node_receives name own q other is within fits may = absurd (cc)
 
-  received_as : (name : List ℕ) (k : ℕ) (q p : Phrase) → means site.set.phrases site.block name ≡ Some k → slice_get site.set.phrases k ≡ Some p → IsShown site.set.phrases p → fits_declared site.set.phrases q usage.Receiver (sort_of p.node) ≡ true
+  received_as : (name : List ℕ) (left : AreLeft site name) (k : ℕ) (q p : Phrase) → means site.set.phrases site.block name ≡ Some k → slice_get site.set.phrases k ≡ Some p → IsShown site.set.phrases p → fits_declared site.set.phrases q usage.Receiver (sort_of p.node) ≡ true
       → may_receive site.set.phrases p p.node ≡ true → CellsAgree site.set.phrases [] (means site.set.phrases site.block name) (name_meant (here_at site) name [])
   unfolding may_receive
-  received_as name k q p meant there (Plain plain) fits may = node_receives name (record { number = k; meant = meant; phrase = p; there = there; own = own_number site.set.phrases k p there plain }) q p.node refl (at_among site.set.phrases k p there) fits may
-  received_as name k q p meant there (Written template head declarations is none) fits may =
+  received_as name left k q p meant there (Plain plain) fits may = node_receives name (record { number = k; meant = meant; phrase = p; there = there; own = own_number site.set.phrases k p there plain }) q p.node refl (at_among site.set.phrases k p there) fits may
+  received_as name left k q p meant there (Written template head declarations is none) fits may =
       let other : may_receive site.set.phrases p (OfTemplate template head declarations) ≡ true = ap (may_receive site.set.phrases p) (sym is) ∙ may in absurd (cc)
+  received_as name left k q p meant there (Pooled common item is plain) fits may = plain_cells name k p common item meant there is (plainly name left k p common item meant there is plain)
 
   no_builtin : {X : Type 0} (o : Option Builtin) → elim o [ None ↦ false | Some b ↦ is_known usage.Receiver (form_of b) ] ≡ true
       → elim o [ None ↦ true | Some b ↦ not (is_known usage.Receiver (form_of b)) || fits_builtin usage.Receiver (form_of b) ] ≡ true → X
@@ -470,7 +508,7 @@ module _ (u : Uses) (site : Site) (named : IsSound rows site.set.phrases) (sound
   received_by_name name left q place (Some k) meant known_ fits none =
       let first = (declared site.block name k meant).1 in
       let p : Phrase = first.declaring in
-      received_as name k q p meant first.there (shown_so site.set.phrases p p.node refl (left.untemplated k p meant first.there))
+      received_as name left k q p meant first.there (shown_so site.set.phrases p p.node refl (left.untemplated k p meant first.there))
       (ap (λ o. fits_declared site.set.phrases q usage.Receiver (option_and_then (λ (x : Phrase). sort_of x.node) o)) (sym first.there) ∙ fits)
       (may_be_received (may_receive site.set.phrases p p.node) (709, place) (ap (option_and_then (received_by site.set.phrases place)) (sym first.there) ∙ none))
 
@@ -502,12 +540,13 @@ module _ (u : Uses) (site : Site) (named : IsSound rows site.set.phrases) (sound
   node_puts name own x (OfTemporaryGroup labels variable) is within none = temporary_cells_agree u site name own (record { labels = labels; variable = variable; declares = is })
   node_puts name own x other is within none = absurd (cc)
 
-  put_as : (name : List ℕ) (x : Subscript) (k : ℕ) (p : Phrase) → means site.set.phrases site.block name ≡ Some k → slice_get site.set.phrases k ≡ Some p → IsShown site.set.phrases p → put_fault site.set.phrases p [] x p.node ≡ None
+  put_as : (name : List ℕ) (left : AreLeft site name) (x : Subscript) (k : ℕ) (p : Phrase) → means site.set.phrases site.block name ≡ Some k → slice_get site.set.phrases k ≡ Some p → IsShown site.set.phrases p → put_fault site.set.phrases p [] x p.node ≡ None
       → CellsAgree site.set.phrases [] (means site.set.phrases site.block name) (name_meant (here_at site) name [])
   unfolding put_fault
-  put_as name x k p meant there (Plain plain) none = node_puts name (record { number = k; meant = meant; phrase = p; there = there; own = own_number site.set.phrases k p there plain }) x p.node refl (at_among site.set.phrases k p there) none
-  put_as name x k p meant there (Written template head declarations is uncalled_) none =
+  put_as name left x k p meant there (Plain plain) none = node_puts name (record { number = k; meant = meant; phrase = p; there = there; own = own_number site.set.phrases k p there plain }) x p.node refl (at_among site.set.phrases k p there) none
+  put_as name left x k p meant there (Written template head declarations is uncalled_) none =
       let other : put_fault site.set.phrases p [] x (OfTemplate template head declarations) ≡ None = ap (put_fault site.set.phrases p [] x) (sym is) ∙ none in absurd (cc)
+  put_as name left x k p meant there (Pooled common item is plain) none = plain_cells name k p common item meant there is (plainly name left k p common item meant there is plain)
 
   put_by_name : (name : List ℕ) (left : AreLeft site name) (x : Subscript) (place : Place) (o : Option ℕ) → means site.set.phrases site.block name ≡ o → (is_some o || is_known_builtin name usage.Output) ≡ true
       → ◌≡◌ {A = Option (ℕ × Place)} (elim o [ None ↦ if is_some (builtin_named name) then Some (722, place) else None | Some k ↦ elim (slice_get site.set.phrases k) [ None ↦ None | Some r ↦ at place (put_fault site.set.phrases r [] x r.node) ] ]) None
@@ -516,7 +555,7 @@ module _ (u : Uses) (site : Site) (named : IsSound rows site.set.phrases) (sound
   put_by_name name left x place (Some k) meant known_ none =
       let first = (declared site.block name k meant).1 in
       let p : Phrase = first.declaring in
-      put_as name x k p meant first.there (shown_so site.set.phrases p p.node refl (left.untemplated k p meant first.there))
+      put_as name left x k p meant first.there (shown_so site.set.phrases p p.node refl (left.untemplated k p meant first.there))
       (no_rule place (put_fault site.set.phrases p [] x p.node)
       (ap (λ (o : Option Phrase). elim o [ None ↦ None | Some r ↦ at place (put_fault site.set.phrases r [] x r.node) ]) (sym first.there) ∙ none))
 
@@ -563,6 +602,10 @@ module _ (u : Uses) (site : Site) (named : IsSound rows site.set.phrases) (sound
       event_known image site counted events e own (node_event e.name.name own owner q p.node refl (at_among site.set.phrases k p there) declares plain fits)
   event_as image e owner k q p events meant there declares (Written template head declarations is none) fits =
       unchanged site.set.phrases q head none (ap (λ n. fits_declared site.set.phrases q usage.Event (sort_of n)) (sym is) ∙ fits)
+  event_as image e owner k q p events meant there declares (Pooled common item is plain) fits =
+      absurd (let other : true ≡ false =
+      sym (event_type site.set.phrases q (type_of common item) (ap (λ n. fits_declared site.set.phrases q usage.Event (sort_of n)) (sym is) ∙ fits))
+      ∙ (all_false (is_event_type (type_of common item)) (is_structure_type (type_of common item)) (is_value_item common item) plain).0 in cc)
 
   event_by_name : (image : ImageParts) (e : Eventful) (q : Phrase) (o : Option ℕ) → AreLeft site e.name.name → HasEvents image site → means site.set.phrases site.block e.name.name ≡ o → (is_some o || is_known_builtin e.name.name usage.Event) ≡ true
       → elim o [ None ↦ fits_named e.name.name usage.Event | Some k ↦ fits_declared site.set.phrases q usage.Event (sort_at site.set.phrases k) ] ≡ true → EventAgrees image site site.set.phrases site.block e
@@ -607,12 +650,13 @@ module _ (u : Uses) (site : Site) (named : IsSound rows site.set.phrases) (sound
   node_varies name own (OfTemporaryGroup labels variable) is within none = temporary_cells_agree u site name own (record { labels = labels; variable = variable; declares = is })
   node_varies name own other is within none = absurd (cc)
 
-  varied_as : (name : List ℕ) (k : ℕ) (p : Phrase) → means site.set.phrases site.block name ≡ Some k → slice_get site.set.phrases k ≡ Some p → IsShown site.set.phrases p → variable_fault site.set.phrases p p.node ≡ None
+  varied_as : (name : List ℕ) (left : AreLeft site name) (k : ℕ) (p : Phrase) → means site.set.phrases site.block name ≡ Some k → slice_get site.set.phrases k ≡ Some p → IsShown site.set.phrases p → variable_fault site.set.phrases p p.node ≡ None
       → CellsAgree site.set.phrases [] (means site.set.phrases site.block name) (name_meant (here_at site) name [])
   unfolding variable_fault
-  varied_as name k p meant there (Plain plain) none = node_varies name (record { number = k; meant = meant; phrase = p; there = there; own = own_number site.set.phrases k p there plain }) p.node refl (at_among site.set.phrases k p there) none
-  varied_as name k p meant there (Written template head declarations is uncalled_) none =
+  varied_as name left k p meant there (Plain plain) none = node_varies name (record { number = k; meant = meant; phrase = p; there = there; own = own_number site.set.phrases k p there plain }) p.node refl (at_among site.set.phrases k p there) none
+  varied_as name left k p meant there (Written template head declarations is uncalled_) none =
       let other : variable_fault site.set.phrases p (OfTemplate template head declarations) ≡ None = ap (variable_fault site.set.phrases p) (sym is) ∙ none in absurd (cc)
+  varied_as name left k p meant there (Pooled common item is plain) none = plain_cells name k p common item meant there is (plainly name left k p common item meant there is plain)
 
   varied_by_name : (name : List ℕ) (left : AreLeft site name) (place : Place) (o : Option ℕ) → means site.set.phrases site.block name ≡ o → (is_some o || is_known_builtin name usage.Variable) ≡ true
       → ◌≡◌ {A = Option (ℕ × Place)} (elim o [ None ↦ if is_some (builtin_named name) then Some (712, place) else None | Some k ↦ elim (slice_get site.set.phrases k) [ None ↦ None | Some r ↦ at place (variable_fault site.set.phrases r r.node) ] ]) None
@@ -621,7 +665,7 @@ module _ (u : Uses) (site : Site) (named : IsSound rows site.set.phrases) (sound
   varied_by_name name left place (Some k) meant known_ none =
       let first = (declared site.block name k meant).1 in
       let p : Phrase = first.declaring in
-      varied_as name k p meant first.there (shown_so site.set.phrases p p.node refl (left.untemplated k p meant first.there))
+      varied_as name left k p meant first.there (shown_so site.set.phrases p p.node refl (left.untemplated k p meant first.there))
       (no_rule place (variable_fault site.set.phrases p p.node) (ap (λ (o : Option Phrase). elim o [ None ↦ None | Some r ↦ at place (variable_fault site.set.phrases r r.node) ]) (sym first.there) ∙ none))
 
   pub variable_agrees : (q : Phrase) (name : Naming) → AreLeft site name.name → IsAmong q site.set.phrases → q.node ≡ OfVariable name → q.around.block ≡ site.block
@@ -690,6 +734,7 @@ module _ (u : Uses) (site : Site) (named : IsSound rows site.set.phrases) (sound
       node_forms name left functions parameters (record { number = k; meant = meant; phrase = p; there = there; own = own_number site.set.phrases k p there plain }) f place ts p.node refl (at_among site.set.phrases k p there) plain none
   formed_as name left functions parameters f place ts k p meant there (Written template head declarations is uncalled_) none =
       unformed site.set.phrases f.around.block place head ts uncalled_ (ap (declared_fault site.set.phrases f place ts p) (sym is) ∙ none)
+  formed_as name left functions parameters f place ts k p meant there (Pooled common item is plain) none = plain_forms name k p common item meant there is (plainly name left k p common item meant there is plain)
 
   builtin_forms : (name : List ℕ) (o : Option Builtin) → means site.set.phrases site.block name ≡ None → builtin_named name ≡ o → elim o [ None ↦ false | Some b ↦ is_known usage.CallForm (form_of b) ] ≡ true → FormAgrees u site site.set.phrases site.block name
   builtin_forms name None undeclared is known_ = absurd (cc)
@@ -738,12 +783,14 @@ module _ (u : Uses) (site : Site) (named : IsSound rows site.set.phrases) (sound
 
   called_as : (name : Naming) (procedures : AreProcedures u site name.name) (owner k : ℕ) (q p : Phrase) → means site.set.phrases site.block name.name ≡ Some k → slice_get site.set.phrases k ≡ Some p
       → declared_at p.number p.around p.node ≡ Some (key space.Declared owner name.name) → IsShown site.set.phrases p → fits_declared site.set.phrases q usage.Called (sort_of p.node) ≡ true → ProcedureAgrees u site site.set.phrases site.block name
-  unfolding sort_of
+  unfolding sort_of sort_of_type
   called_as name procedures owner k q p meant there declares (Plain plain) fits =
       let own : IsOwn site name.name = record { number = k; meant = meant; phrase = p; there = there; own = own_number site.set.phrases k p there plain } in
       procedure_agrees u site name own counted (node_called name.name procedures own owner q p.node refl declares plain fits)
   called_as name procedures owner k q p meant there declares (Written template head declarations is none) fits =
       uncalled site.set.phrases q head none (ap (λ n. fits_declared site.set.phrases q usage.Called (sort_of n)) (sym is) ∙ fits)
+  called_as name procedures owner k q p meant there declares (Pooled common item is plain) fits =
+      absurd (no_call site.set.phrases q (type_of common item) (ap (λ n. fits_declared site.set.phrases q usage.Called (sort_of n)) (sym is) ∙ fits))
 
   called_by_name : (name : Naming) (left : AreLeft site name.name) (procedures : AreProcedures u site name.name) (q : Phrase) (o : Option ℕ) → means site.set.phrases site.block name.name ≡ o → (is_some o || is_known_builtin name.name usage.Called) ≡ true
       → elim o [ None ↦ fits_named name.name usage.Called | Some k ↦ fits_declared site.set.phrases q usage.Called (sort_at site.set.phrases k) ] ≡ true → ProcedureAgrees u site site.set.phrases site.block name

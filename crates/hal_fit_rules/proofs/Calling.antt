@@ -32,17 +32,22 @@ use Rattle.hal_fit_rules.proofs.Happening.{event_data, event_numbered, when_true
 use Rattle.hal_fit_rules.proofs.Parameters.{parameters_agree}
 
 module _ (u : Uses) (site : Site) where
-  -- a call form agrees where what declares its name does
+  -- a call form agrees where the declaration of its name does with what the name means
+  pub formed_as : (name : List ℕ) (k : ℕ) (p : Phrase) (n : Node) (m : Meant) → means site.set.phrases site.block name ≡ Some k → slice_get site.set.phrases k ≡ Some p → p.node ≡ n → name_meant (here_at site) name [] ≡ m
+      → NodeFormed u site site.set.phrases k p n m → FormAgrees u site site.set.phrases site.block name
+  formed_as name k p n m meant there declares whole formed =
+      let of_node : NodeFormed u site site.set.phrases k p p.node m = subst (λ (x : Node). NodeFormed u site site.set.phrases k p x m) (sym declares) formed in
+      let of_phrase : PhraseFormed u site site.set.phrases k (slice_get site.set.phrases k) m =
+      subst (λ (o : Option Phrase). PhraseFormed u site site.set.phrases k o m) (sym there) of_node in
+      let of_number : DeclarationFormed u site site.set.phrases name (means site.set.phrases site.block name) m =
+      subst (λ (o : Option ℕ). DeclarationFormed u site site.set.phrases name o m) (sym meant) of_phrase in
+      subst (λ (x : Meant). DeclarationFormed u site site.set.phrases name (means site.set.phrases site.block name) x) (sym whole) of_number
+
+  -- so where what declares it does
   pub formed_by : (name : List ℕ) (own : IsOwn site name) (n : Node) (m : Meant) → own.phrase.node ≡ n → meant_by (here_at site) [] own.phrase n ≡ m → NodeFormed u site site.set.phrases own.number own.phrase n m
       → FormAgrees u site site.set.phrases site.block name
   formed_by name own n m declares is formed =
-      let whole : name_meant (here_at site) name [] ≡ m = meant_itself u site name own ∙ (ap (meant_by (here_at site) [] own.phrase) declares ∙ is) in
-      let of_node : NodeFormed u site site.set.phrases own.number own.phrase own.phrase.node m = subst (λ (x : Node). NodeFormed u site site.set.phrases own.number own.phrase x m) (sym declares) formed in
-      let of_phrase : PhraseFormed u site site.set.phrases own.number (slice_get site.set.phrases own.number) m =
-      subst (λ (o : Option Phrase). PhraseFormed u site site.set.phrases own.number o m) (sym own.there) of_node in
-      let of_number : DeclarationFormed u site site.set.phrases name (means site.set.phrases site.block name) m =
-      subst (λ (o : Option ℕ). DeclarationFormed u site site.set.phrases name o m) (sym own.meant) of_phrase in
-      subst (λ (x : Meant). DeclarationFormed u site site.set.phrases name (means site.set.phrases site.block name) x) (sym whole) of_number
+      formed_as name own.number own.phrase n m own.meant own.there declares (meant_itself u site name own ∙ (ap (meant_by (here_at site) [] own.phrase) declares ∙ is)) formed
 
   -- the parameters of a unit, by the number of its phrase
   parameters_of : (k unit : ℕ) (names : List Naming) → unit ≡ k → AreParameters site unit names → ParametersAgree site site.set.phrases k unit names
