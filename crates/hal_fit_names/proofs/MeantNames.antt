@@ -55,19 +55,19 @@ use Rattle.hal_fit_rules.specs.Received.{CellsAgree}
 use Rattle.hal_fit_rules.specs.Signalled.{EventAgrees, HasEvents}
 use Rattle.hal_fit_rules.specs.Valued.{HasConstants}
 use Rattle.hal_fit_rules.proofs.Constants.{constant_agrees, constant_formed}
-use Rattle.hal_fit_rules.proofs.Calling.{procedure_agrees, data_formed, temporary_formed, event_formed, function_formed, builtin_formed}
+use Rattle.hal_fit_rules.proofs.Calling.{procedure_agrees, data_formed, temporary_formed, event_formed, event_formed_as, function_formed, builtin_formed}
 use Rattle.hal_fit_rules.proofs.Declaring.{plain_data_agree, plain_cells_agree, temporary_agrees, temporary_cells_agree, builtin_agrees, function_agrees}
-use Rattle.hal_fit_rules.proofs.Eventful.{event_known}
-use Rattle.hal_fit_rules.proofs.Happening.{event_agrees, process_agrees, written_process_agrees}
+use Rattle.hal_fit_rules.proofs.Eventful.{event_known, event_known_as}
+use Rattle.hal_fit_rules.proofs.Happening.{event_agrees, event_agrees_as, process_agrees, written_process_agrees}
 use Rattle.hal_fit_rules.proofs.Structuring.{structure_agrees, structure_cells}
 use Rattle.hal_fit_rules.proofs.Unbroken.{among_first, unbroken, ruled_none, no_rule, of_uses}
 use Rattle.hal_fit_names.specs.Named.{AreFunctions, AreLeft, AreProcedures, FunctionParameters}
 use Rattle.hal_fit_names.specs.Serving.{MayAsk}
 use Rattle.hal_fit_names.specs.Standing.{StandsForData}
-use Rattle.hal_fit_names.specs.Suited.{HasFitLiterals, AreDeclared, is_plain, is_templated}
+use Rattle.hal_fit_names.specs.Suited.{HasFitLiterals, AreDeclared, is_in_file, is_plain, is_templated}
 use Rattle.hal_fit_names.proofs.Asking.{asked_all, asked_runtime, eventful_sort}
 use Rattle.hal_fit_names.proofs.Declaring.{plain_data}
-use Rattle.hal_fit_names.proofs.Owning.{IsShown, Plain, Pooled, Written, own_number, shown_so}
+use Rattle.hal_fit_names.proofs.Owning.{IsShown, Plain, Pooled, PooledEvent, Written, own_number, shown_so}
 use Rattle.hal_fit_names.proofs.Pooled.{all_false, pooled_agree, pooled_cells, pooled_formed}
 use Rattle.hal_fit_names.proofs.Placing.{NodePlaced, at_among}
 use Rattle.hal_fit_names.proofs.Suiting.{unless_true}
@@ -362,14 +362,14 @@ module _ (u : Uses) (site : Site) (named : IsSound rows site.set.phrases) (sound
   plainly : (name : List ℕ) (left : AreLeft site name) (k : ℕ) (p : Phrase) (common : List Attribute) (item : Declared) → means site.set.phrases site.block name ≡ Some k → slice_get site.set.phrases k ≡ Some p → p.node ≡ OfItem common item
       → is_plain common item ≡ true → IsPlainName site name k p common item
   plainly name left k p common item meant there is plain = by (type_of common item) refl (item_typed p common item (at_among site.set.phrases k p there) is) (left.pooled k p common item meant there is) where
-    by : (o : Option Kind) → type_of common item ≡ o → is_some o ≡ true → StandsForData site.set.phrases k p common item ⊎ (standing_for site.set.phrases k ≡ k) → IsPlainName site name k p common item
+    by : (o : Option Kind) → type_of common item ≡ o → is_some o ≡ true → StandsForData site.set.phrases k p common item ⊎ ((standing_for site.set.phrases k ≡ k) × (is_in_file site.set.phrases p.around.home ≡ false)) → IsPlainName site name k p common item
     by None typed some stands = absurd (cc)
     by (Some t) typed some (inl stands) =
         let parts = all_false (is_event_type (type_of common item)) (is_structure_type (type_of common item)) (is_value_item common item) plain in
         ForData t typed (ap is_event_type (sym typed) ∙ parts.0) (ap is_structure_type (sym typed) ∙ parts.1) parts.2 stands
     by (Some t) typed some (inr itself) =
         let parts = all_false (is_event_type (type_of common item)) (is_structure_type (type_of common item)) (is_value_item common item) plain in
-        ForItself (record { number = k; meant = meant; phrase = p; there = there; own = itself })
+        ForItself (record { number = k; meant = meant; phrase = p; there = there; own = itself.0 })
         (plain_data site.set.phrases named sound counted declared literals site refl has p (placed p (at_among site.set.phrases k p there)) common item t is typed parts.2 (ap is_event_type (sym typed) ∙ parts.0) (ap is_structure_type (sym typed) ∙ parts.1))
 
   plain_agrees : (name : List ℕ) (k : ℕ) (p : Phrase) (common : List Attribute) (item : Declared) → means site.set.phrases site.block name ≡ Some k → slice_get site.set.phrases k ≡ Some p → p.node ≡ OfItem common item → IsPlainName site name k p common item
@@ -386,6 +386,26 @@ module _ (u : Uses) (site : Site) (named : IsSound rows site.set.phrases) (sound
       → FormAgrees u site site.set.phrases site.block name
   plain_forms name k p common item meant there is (ForData t typed eventless plain stored stands) = pooled_formed u site named sound counted declared literals has placed k p name common item t meant there is typed eventless plain stored stands
   plain_forms name k p common item meant there is (ForItself own data_) = data_formed u site name own data_
+
+  -- an event that a template of a COMPOOL declares stands for one
+  stood_for : (name : List ℕ) (left : AreLeft site name) (k : ℕ) (p : Phrase) (common : List Attribute) (item : Declared) → means site.set.phrases site.block name ≡ Some k → slice_get site.set.phrases k ≡ Some p → p.node ≡ OfItem common item
+      → is_in_file site.set.phrases p.around.home ≡ true → StandsForData site.set.phrases k p common item
+  stood_for name left k p common item meant there is filed = by (left.pooled k p common item meant there is) where
+    by : StandsForData site.set.phrases k p common item ⊎ ((standing_for site.set.phrases k ≡ k) × (is_in_file site.set.phrases p.around.home ≡ false)) → StandsForData site.set.phrases k p common item
+    by (inl stands) = stands
+    by (inr itself) = absurd (let other : true ≡ false = sym filed ∙ itself.1 in cc)
+
+  event_for : (k : ℕ) (p : Phrase) (common : List Attribute) (item : Declared) → is_event_type (type_of common item) ≡ true → (stands : StandsForData site.set.phrases k p common item) → IsEvent site stands.phrase
+  event_for k p common item eventful stands =
+      let eventful_too : is_event_type (type_of stands.other_common stands.other) ≡ true = sym stands.same.attributes.words.event ∙ eventful in
+      record {
+        common = stands.other_common;
+        item = stands.other;
+        declares = stands.declares;
+        eventful = eventful_too;
+        sized = event_single stands.phrase stands.other_common stands.other (at_among site.set.phrases stands.phrase.number stands.phrase stands.there) stands.declares eventful_too;
+        within = stands.within;
+      }
 
   -- a name that means a declaration
   named_as : (name : List ℕ) (left : AreLeft site name) (may : MayAsk u site name) (functions : AreFunctions u site name) (owner k : ℕ) (q p : Phrase) → means site.set.phrases site.block name ≡ Some k → slice_get site.set.phrases k ≡ Some p
@@ -408,6 +428,10 @@ module _ (u : Uses) (site : Site) (named : IsSound rows site.set.phrases) (sound
         standing = left.standing k p template head declarations meant there is process.0;
       })
   named_as name left may functions owner k q p meant there declares (Pooled common item is plain) fits = plain_agrees name k p common item meant there is (plainly name left k p common item meant there is plain)
+  named_as name left may functions owner k q p meant there declares (PooledEvent common item is eventful filed) fits =
+      let stands = stood_for name left k p common item meant there is filed in
+      event_agrees_as u site (asked_all u site name k p meant there may (eventful_sort p common item is eventful)) counted name k p common item meant there is eventful
+      (event_single p common item (at_among site.set.phrases k p there) is eventful) stands.phrase.number stands.phrase stands.stands stands.there (event_for k p common item eventful stands)
 
   meant_by_name : (name : List ℕ) (left : AreLeft site name) (may : MayAsk u site name) (functions : AreFunctions u site name) (q : Phrase) (o : Option ℕ) → means site.set.phrases site.block name ≡ o → (is_some o || is_known_builtin name usage.Value) ≡ true
       → elim o [ None ↦ fits_named name usage.Value | Some k ↦ fits_declared site.set.phrases q usage.Value (sort_at site.set.phrases k) ] ≡ true → NameAgrees u site site.set.phrases site.block name []
@@ -495,6 +519,9 @@ module _ (u : Uses) (site : Site) (named : IsSound rows site.set.phrases) (sound
   received_as name left k q p meant there (Written template head declarations is none) fits may =
       let other : may_receive site.set.phrases p (OfTemplate template head declarations) ≡ true = ap (may_receive site.set.phrases p) (sym is) ∙ may in absurd (cc)
   received_as name left k q p meant there (Pooled common item is plain) fits may = plain_cells name k p common item meant there is (plainly name left k p common item meant there is plain)
+  received_as name left k q p meant there (PooledEvent common item is eventful filed) fits may =
+      absurd (let other : true ≡ false =
+      sym eventful ∙ (neither_true (is_some (attributes.constant_of common item)) (is_input_parameter site.set.phrases p item.name.name) (is_event_type (type_of common item)) (ap (may_receive site.set.phrases p) (sym is) ∙ may)).1 in cc)
 
   no_builtin : {X : Type 0} (o : Option Builtin) → elim o [ None ↦ false | Some b ↦ is_known usage.Receiver (form_of b) ] ≡ true
       → elim o [ None ↦ true | Some b ↦ not (is_known usage.Receiver (form_of b)) || fits_builtin usage.Receiver (form_of b) ] ≡ true → X
@@ -547,6 +574,11 @@ module _ (u : Uses) (site : Site) (named : IsSound rows site.set.phrases) (sound
   put_as name left x k p meant there (Written template head declarations is uncalled_) none =
       let other : put_fault site.set.phrases p [] x (OfTemplate template head declarations) ≡ None = ap (put_fault site.set.phrases p [] x) (sym is) ∙ none in absurd (cc)
   put_as name left x k p meant there (Pooled common item is plain) none = plain_cells name k p common item meant there is (plainly name left k p common item meant there is plain)
+  put_as name left x k p meant there (PooledEvent common item is eventful filed) none =
+      absurd (let other : true ≡ false =
+      sym eventful
+      ∙ (unfixed (is_event_type (type_of common item)) (is_some (attributes.constant_of common item)) (is_input_parameter site.set.phrases p item.name.name) (is_component (data_at site.set.phrases p [] (OfItem common item)) x)
+      (ap (put_fault site.set.phrases p [] x) (sym is) ∙ none)).0 in cc)
 
   put_by_name : (name : List ℕ) (left : AreLeft site name) (x : Subscript) (place : Place) (o : Option ℕ) → means site.set.phrases site.block name ≡ o → (is_some o || is_known_builtin name usage.Output) ≡ true
       → ◌≡◌ {A = Option (ℕ × Place)} (elim o [ None ↦ if is_some (builtin_named name) then Some (722, place) else None | Some k ↦ elim (slice_get site.set.phrases k) [ None ↦ None | Some r ↦ at place (put_fault site.set.phrases r [] x r.node) ] ]) None
@@ -594,18 +626,22 @@ module _ (u : Uses) (site : Site) (named : IsSound rows site.set.phrases) (sound
   node_event name own owner q (OfPart bottom part) is within declares plain fits = let other : Some space.Part ≡ Some space.Declared = ap space_of declares in absurd (cc)
   node_event name own owner q other is within declares plain fits = absurd (cc)
 
-  event_as : (image : ImageParts) (e : Eventful) (owner k : ℕ) (q p : Phrase) → HasEvents image site → means site.set.phrases site.block e.name.name ≡ Some k → slice_get site.set.phrases k ≡ Some p
+  event_as : (image : ImageParts) (e : Eventful) (left : AreLeft site e.name.name) (owner k : ℕ) (q p : Phrase) → HasEvents image site → means site.set.phrases site.block e.name.name ≡ Some k → slice_get site.set.phrases k ≡ Some p
       → declared_at p.number p.around p.node ≡ Some (key space.Declared owner e.name.name) → IsShown site.set.phrases p → fits_declared site.set.phrases q usage.Event (sort_of p.node) ≡ true → EventAgrees image site site.set.phrases site.block e
-  unfolding sort_of
-  event_as image e owner k q p events meant there declares (Plain plain) fits =
+  unfolding sort_of event_for
+  event_as image e left owner k q p events meant there declares (Plain plain) fits =
       let own : IsOwn site e.name.name = record { number = k; meant = meant; phrase = p; there = there; own = own_number site.set.phrases k p there plain } in
       event_known image site counted events e own (node_event e.name.name own owner q p.node refl (at_among site.set.phrases k p there) declares plain fits)
-  event_as image e owner k q p events meant there declares (Written template head declarations is none) fits =
+  event_as image e left owner k q p events meant there declares (Written template head declarations is none) fits =
       unchanged site.set.phrases q head none (ap (λ n. fits_declared site.set.phrases q usage.Event (sort_of n)) (sym is) ∙ fits)
-  event_as image e owner k q p events meant there declares (Pooled common item is plain) fits =
+  event_as image e left owner k q p events meant there declares (Pooled common item is plain) fits =
       absurd (let other : true ≡ false =
       sym (event_type site.set.phrases q (type_of common item) (ap (λ n. fits_declared site.set.phrases q usage.Event (sort_of n)) (sym is) ∙ fits))
       ∙ (all_false (is_event_type (type_of common item)) (is_structure_type (type_of common item)) (is_value_item common item) plain).0 in cc)
+  event_as image e left owner k q p events meant there declares (PooledEvent common item is eventful filed) fits =
+      let stands = stood_for e.name.name left k p common item meant there is filed in
+      event_known_as image site counted events e k p common item meant there is eventful stands.phrase.number stands.phrase stands.stands stands.there (event_for k p common item eventful stands)
+      (λ marked. sym stands.same.attributes.words.latched ∙ marked)
 
   event_by_name : (image : ImageParts) (e : Eventful) (q : Phrase) (o : Option ℕ) → AreLeft site e.name.name → HasEvents image site → means site.set.phrases site.block e.name.name ≡ o → (is_some o || is_known_builtin e.name.name usage.Event) ≡ true
       → elim o [ None ↦ fits_named e.name.name usage.Event | Some k ↦ fits_declared site.set.phrases q usage.Event (sort_at site.set.phrases k) ] ≡ true → EventAgrees image site site.set.phrases site.block e
@@ -614,7 +650,7 @@ module _ (u : Uses) (site : Site) (named : IsSound rows site.set.phrases) (sound
       let is_declared = declared site.block e.name.name k meant in
       let first = is_declared.1 in
       let p : Phrase = first.declaring in
-      event_as image e is_declared.0 k q p events meant first.there first.declares (shown_so site.set.phrases p p.node refl (left.untemplated k p meant first.there))
+      event_as image e left is_declared.0 k q p events meant first.there first.declares (shown_so site.set.phrases p p.node refl (left.untemplated k p meant first.there))
       (ap (λ o. fits_declared site.set.phrases q usage.Event (option_and_then (λ (x : Phrase). sort_of x.node) o)) (sym first.there) ∙ fits)
 
   pub changed_agrees : (image : ImageParts) (q : Phrase) (e : Eventful) → AreLeft site e.name.name → HasEvents image site → IsAmong q site.set.phrases → q.node ≡ OfEvent e → q.around.block ≡ site.block → EventAgrees image site site.set.phrases site.block e
@@ -643,6 +679,15 @@ module _ (u : Uses) (site : Site) (named : IsSound rows site.set.phrases) (sound
       let type_ = integer_type t both.0 in
       cells_by name own common item t false is within typed type_.0 both.1 type_.1
 
+  -- no event counts
+  no_event_varies : (p : Phrase) (common : List Attribute) (item : Declared) (o : Option Kind) → type_of common item ≡ o → counted_fault site.set.phrases p common item (data_of o (sizes_of common item)) ≡ None → is_event_type (type_of common item) ≡ false
+  unfolding counted_fault data_of is_event_type
+  no_event_varies p common item None typed none = ap is_event_type typed
+  no_event_varies p common item (Some t) typed none =
+      let d : Data = data_with (class_of_type t) (dimensions_of (sizes_of common item)) (has_copies t) in
+      let both = single_free (is_integer (class_of_type t)) (not (nat_lt 0 d.dimensions || d.copies)) (is_some (attributes.constant_of common item)) (is_input_parameter site.set.phrases p item.name.name) none in
+      ap is_event_type typed ∙ (integer_type t both.0).0
+
   node_varies : (name : List ℕ) (own : IsOwn site name) (n : Node) → own.phrase.node ≡ n → IsAmong own.phrase site.set.phrases → variable_fault site.set.phrases own.phrase n ≡ None
       → CellsAgree site.set.phrases [] (means site.set.phrases site.block name) (name_meant (here_at site) name [])
   unfolding variable_fault data_at is_nil
@@ -652,11 +697,13 @@ module _ (u : Uses) (site : Site) (named : IsSound rows site.set.phrases) (sound
 
   varied_as : (name : List ℕ) (left : AreLeft site name) (k : ℕ) (p : Phrase) → means site.set.phrases site.block name ≡ Some k → slice_get site.set.phrases k ≡ Some p → IsShown site.set.phrases p → variable_fault site.set.phrases p p.node ≡ None
       → CellsAgree site.set.phrases [] (means site.set.phrases site.block name) (name_meant (here_at site) name [])
-  unfolding variable_fault
+  unfolding variable_fault data_at is_nil
   varied_as name left k p meant there (Plain plain) none = node_varies name (record { number = k; meant = meant; phrase = p; there = there; own = own_number site.set.phrases k p there plain }) p.node refl (at_among site.set.phrases k p there) none
   varied_as name left k p meant there (Written template head declarations is uncalled_) none =
       let other : variable_fault site.set.phrases p (OfTemplate template head declarations) ≡ None = ap (variable_fault site.set.phrases p) (sym is) ∙ none in absurd (cc)
   varied_as name left k p meant there (Pooled common item is plain) none = plain_cells name k p common item meant there is (plainly name left k p common item meant there is plain)
+  varied_as name left k p meant there (PooledEvent common item is eventful filed) none =
+      absurd (let other : true ≡ false = sym eventful ∙ no_event_varies p common item (type_of common item) refl (ap (variable_fault site.set.phrases p) (sym is) ∙ none) in cc)
 
   varied_by_name : (name : List ℕ) (left : AreLeft site name) (place : Place) (o : Option ℕ) → means site.set.phrases site.block name ≡ o → (is_some o || is_known_builtin name usage.Variable) ≡ true
       → ◌≡◌ {A = Option (ℕ × Place)} (elim o [ None ↦ if is_some (builtin_named name) then Some (712, place) else None | Some k ↦ elim (slice_get site.set.phrases k) [ None ↦ None | Some r ↦ at place (variable_fault site.set.phrases r r.node) ] ]) None
@@ -735,6 +782,10 @@ module _ (u : Uses) (site : Site) (named : IsSound rows site.set.phrases) (sound
   formed_as name left functions parameters f place ts k p meant there (Written template head declarations is uncalled_) none =
       unformed site.set.phrases f.around.block place head ts uncalled_ (ap (declared_fault site.set.phrases f place ts p) (sym is) ∙ none)
   formed_as name left functions parameters f place ts k p meant there (Pooled common item is plain) none = plain_forms name k p common item meant there is (plainly name left k p common item meant there is plain)
+  formed_as name left functions parameters f place ts k p meant there (PooledEvent common item is eventful filed) none =
+      let stands = stood_for name left k p common item meant there is filed in
+      event_formed_as u site name k p common item counted meant there is eventful (event_single p common item (at_among site.set.phrases k p there) is eventful) stands.phrase.number stands.phrase stands.stands stands.there
+      (event_for k p common item eventful stands)
 
   builtin_forms : (name : List ℕ) (o : Option Builtin) → means site.set.phrases site.block name ≡ None → builtin_named name ≡ o → elim o [ None ↦ false | Some b ↦ is_known usage.CallForm (form_of b) ] ≡ true → FormAgrees u site site.set.phrases site.block name
   builtin_forms name None undeclared is known_ = absurd (cc)
@@ -790,6 +841,8 @@ module _ (u : Uses) (site : Site) (named : IsSound rows site.set.phrases) (sound
   called_as name procedures owner k q p meant there declares (Written template head declarations is none) fits =
       uncalled site.set.phrases q head none (ap (λ n. fits_declared site.set.phrases q usage.Called (sort_of n)) (sym is) ∙ fits)
   called_as name procedures owner k q p meant there declares (Pooled common item is plain) fits =
+      absurd (no_call site.set.phrases q (type_of common item) (ap (λ n. fits_declared site.set.phrases q usage.Called (sort_of n)) (sym is) ∙ fits))
+  called_as name procedures owner k q p meant there declares (PooledEvent common item is eventful filed) fits =
       absurd (no_call site.set.phrases q (type_of common item) (ap (λ n. fits_declared site.set.phrases q usage.Called (sort_of n)) (sym is) ∙ fits))
 
   called_by_name : (name : Naming) (left : AreLeft site name.name) (procedures : AreProcedures u site name.name) (q : Phrase) (o : Option ℕ) → means site.set.phrases site.block name.name ≡ o → (is_some o || is_known_builtin name.name usage.Called) ≡ true

@@ -1,7 +1,7 @@
 -- Data of a written template of a COMPOOL stand for the COMPOOL's own.
 use Rattle.std.proofs.Common.{◌≡◌, ◌⊎◌, ℕ, Bool, true, false, ◌||◌, List, [], ◌∷◌, ◌++◌, map, flat_map, Option, Some, None, slice_get, bytes_eq, refl, sym, ap, ◌∙◌, subst, inl, inr, if◌then◌else◌}
 use Rattle.std.specs.List.{list_any}
-use Rattle.std.specs.Option.{option_and_then}
+use Rattle.std.specs.Option.{option_and_then, is_some}
 use Rattle.std.proofs.lemmas.Slice.Eq.{bytes_eq-Decides}
 use Rattle.hal_grammar.specs.Leaves.{Naming}
 use Rattle.hal_grammar.specs.Declarations.{Attribute, Declaration, Declare, Declared, Structure}
@@ -11,7 +11,7 @@ use Rattle.hal_phrases.specs.GatheredUnits.{phrases_of}
 use Rattle.hal_names.specs.declared.key.Key.{Key}
 use Rattle.hal_names.specs.declared.key.Space.TheVariants as space
 use Rattle.hal_names.specs.Keys.{declared_at, declared_by, key, own}
-use Rattle.hal_names.specs.Means.{unit_named}
+use Rattle.hal_names.specs.Means.{prefaces_of, unit_named}
 use Rattle.hal_names.proofs.CountedFiles.{phrases_counted}
 use Rattle.hal_names.proofs.Places.{own_first}
 use Rattle.hal_scope.specs.Repeated.{given}
@@ -27,6 +27,7 @@ use Rattle.hal_templates.proofs.Shown.{is_own}
 use Rattle.hal_meaning.specs.Bodies.{declares, is_compool_head, is_unit, meant_at, pooled, pooled_at, standing_for}
 use Rattle.hal_meaning.specs.Places.{is_in_unit}
 use Rattle.hal_fit_names.specs.Standing.{StandsForData}
+use Rattle.hal_fit_names.specs.Suited.{is_in_file}
 use Rattle.hal_fit_names.proofs.Placing.{at_among}
 use Rattle.hal_fit_names.proofs.Pooling.{AreHeld, HoldsData, IsPooled, NodeHeld, data_are_held}
 
@@ -196,7 +197,8 @@ module _ (files : List File) (named : IsSound rows (phrases_of files))
       pooled_stands f prefaces unit home file holds
 
   -- other data stand for themselves
-  pub data_or_itself : StandsForData ps k p common item ⊎ (standing_for ps k ≡ k)
+  pub data_or_itself : StandsForData ps k p common item ⊎ ((standing_for ps k ≡ k) × (is_in_file ps p.around.home ≡ false))
+  unfolding prefaces_of
   data_or_itself = by held.phrase.node refl where
     held : AreHeld ps p.around.home name
     held = subst (NodeHeld ps p) is (data_are_held files p (at_among ps k p there))
@@ -207,6 +209,9 @@ module _ (files : List File) (named : IsSound rows (phrases_of files))
         (ap (option_and_then (λ (r : Phrase). meant_at ps r r.node)) there
         ∙ (ap (meant_at ps p) is ∙ (ap (option_and_then (λ (h : Phrase). pooled_at ps name h.node)) held.there ∙ (ap (pooled_at ps name) node ∙ is_none))))
 
-    by : (n : Node) → held.phrase.node ≡ n → StandsForData ps k p common item ⊎ (standing_for ps k ≡ k)
+    outside : (n : Node) → held.phrase.node ≡ n → is_some (prefaces_of n) ≡ false → is_in_file ps p.around.home ≡ false
+    outside n node is_none = ap (λ (o : Option Phrase). elim o [ None ↦ false | Some f ↦ is_some (prefaces_of f.node) ]) held.there ∙ (ap (λ m. is_some (prefaces_of m)) node ∙ is_none)
+
+    by : (n : Node) → held.phrase.node ≡ n → StandsForData ps k p common item ⊎ ((standing_for ps k ≡ k) × (is_in_file ps p.around.home ≡ false))
     by (OfFile prefaces unit) node = inl (data_stand held.phrase prefaces unit held.there node)
-    by other node = inr (none other node refl)
+    by other node = inr (none other node refl, outside other node refl)

@@ -55,7 +55,7 @@ use Rattle.hal_fit_names.specs.Named.{AreFunctions, AreLeft, AreProcedures, Func
 use Rattle.hal_fit_names.specs.Serving.{AsksNothing, MayAsk, ServesUnit}
 use Rattle.hal_fit_names.specs.Spelled.{AreSpelled}
 use Rattle.hal_fit_names.specs.Standing.{StandsForData}
-use Rattle.hal_fit_names.specs.Suited.{NodeIsFit, HasFitLiterals, AreDeclared}
+use Rattle.hal_fit_names.specs.Suited.{NodeIsFit, is_in_file, HasFitLiterals, AreDeclared}
 use Rattle.hal_fit_names.specs.Used.{IsDeclaredParameter, AreDeclaredParameters, HaveValues, IsHome, NamesAreOwn}
 use Rattle.hal_fit_names.proofs.Asking.{unasked, unasked_otherwise}
 use Rattle.hal_fit_names.proofs.Callable.{function_known, procedure_known}
@@ -88,7 +88,7 @@ module _ (image : ImageParts) (g : Ground) (u : Bool → Uses) (site : Site) (ho
     (declared : AreDeclared site.set.phrases) (literals : HasFitLiterals site.set.phrases) (spelled : AreSpelled site.set.phrases) (has : HasConstants site) (serves : ServesUnit site.set image u home)
     (owned : NamesAreOwn site.set.phrases)
     (written : (k : ℕ) (p : Phrase) (template : Naming) (head : Head) (declarations : List Declaration) → slice_get site.set.phrases k ≡ Some p → p.node ≡ OfTemplate template head declarations → is_process_head head ≡ true → StandsForProcess site.set.phrases k)
-    (pools : (k : ℕ) (p : Phrase) (common : List Attribute) (item : Declared) → slice_get site.set.phrases k ≡ Some p → p.node ≡ OfItem common item → StandsForData site.set.phrases k p common item ⊎ (standing_for site.set.phrases k ≡ k)) (valued : HaveValues site.set) (stands : IsHome g site home) (placed : (p : Phrase) → IsAmong p site.set.phrases → NodePlaced site.set.phrases p p.node)
+    (pools : (k : ℕ) (p : Phrase) (common : List Attribute) (item : Declared) → slice_get site.set.phrases k ≡ Some p → p.node ≡ OfItem common item → StandsForData site.set.phrases k p common item ⊎ ((standing_for site.set.phrases k ≡ k) × (is_in_file site.set.phrases p.around.home ≡ false))) (valued : HaveValues site.set) (stands : IsHome g site home) (placed : (p : Phrase) → IsAmong p site.set.phrases → NodePlaced site.set.phrases p p.node)
     (bodied : (k : ℕ) (p : Phrase) (name : Naming) (head : Head) (declarations : List Declaration) → slice_get site.set.phrases k ≡ Some p → p.node ≡ OfUnit name head declarations → HasBody site.set.bodies k head)
     (united : (k : ℕ) (b : Body) → body_at site.set k ≡ Some b → IsUnitOf site.set.phrases k b)
     (inputs_known : (k : ℕ) (p : Phrase) (name : Naming) (head : Head) (declarations : List Declaration) → slice_get site.set.phrases k ≡ Some p → p.node ≡ OfUnit name head declarations

@@ -1,10 +1,11 @@
 -- Constants that suit their expressions: no operand in them is wrong, and a value is of the class of its expression.
-use Rattle.std.specs.Prelude.{◌≡◌, ℕ, Bool, true, false, not, ◌&&◌, List, Option, Some}
+use Rattle.std.specs.Prelude.{◌≡◌, ℕ, Bool, true, false, not, ◌&&◌, List, Option, Some, None, slice_get}
+use Rattle.std.specs.Option.{is_some}
 use Rattle.hal_grammar.specs.Declarations.{Attribute, Declared}
 use Rattle.hal_grammar.specs.Expressions.{Literal, Refers, ByParts, NoSubscripts}
 use Rattle.hal_phrases.specs.Phrases.{Node, Phrase, OfExpression, OfReference, OfTemplate, OfItem}
 use Rattle.hal_names.specs.Laws.{IsDeclaration}
-use Rattle.hal_names.specs.Means.{means}
+use Rattle.hal_names.specs.Means.{means, prefaces_of}
 use Rattle.hal_scope.specs.Rules.{IsAmong}
 use Rattle.hal_scope.specs.Sorts.{type_of}
 use Rattle.hal_kinds.specs.Data.{is_event_type, is_structure_type}
@@ -62,8 +63,16 @@ is_templated ps p other = false
 abbrev pub is_plain : List Attribute → Declared → Bool
 is_plain common item = not (is_event_type (type_of common item)) && (not (is_structure_type (type_of common item)) && not (is_value_item common item))
 
--- whether it is one by which a part of its unit is seen: the template of a unit that is called, or data that a template declares and that aren't plain
+-- whether they are an event
+abbrev pub is_event : List Attribute → Declared → Bool
+is_event common item = is_event_type (type_of common item) && not (is_value_item common item)
+
+-- whether names belong to a file
+abbrev pub is_in_file : List Phrase → ℕ → Bool
+is_in_file ps home = elim (slice_get ps home) [ None ↦ false | Some f ↦ is_some (prefaces_of f.node) ]
+
+-- whether it is one by which a part of its unit is seen: the template of a unit that is called, or data that a template declares, that aren't plain and no event of a COMPOOL
 abbrev pub shows_parts : List Phrase → Phrase → Node → Bool
 shows_parts ps p (OfTemplate name head declarations) = is_called_head head
-shows_parts ps p (OfItem common item) = not (is_in_unit ps p.around.home) && not (is_plain common item)
+shows_parts ps p (OfItem common item) = not (is_in_unit ps p.around.home) && (not (is_plain common item) && not (is_event common item && is_in_file ps p.around.home))
 shows_parts ps p other = false
