@@ -27,7 +27,6 @@ use Rattle.hal_scope.specs.Builtins.{builtin_named, form_of}
 use Rattle.hal_scope.specs.Rules.{Row, IsAmong, IsSound, rows, ruled}
 use Rattle.hal_scope.specs.Sorts.{type_of, sort_of, sort_of_type, sort_of_head, usage_of, use_of, use_of_reference, used, is_known, is_operand, fits_builtin}
 use Rattle.hal_scope.specs.Uses.{is_in_event, is_nil, unless, sort_at, is_eventful, is_known_builtin, is_known_use, unknown, fits_declared, fits_named, fits_use, misused}
-use Rattle.hal_kinds.specs.declared.class.Class.TheVariants as class
 use Rattle.hal_kinds.specs.declared.data.Data.{Data}
 use Rattle.hal_kinds.specs.Attributes as attributes
 use Rattle.hal_kinds.specs.Attributes.{no_more, sizes_of}
@@ -43,6 +42,7 @@ use Rattle.hal_constants.specs.Naming.{is_value_item}
 use Rattle.hal_meaning.specs.Bodies.{is_called_head, is_process_head, standing_for}
 use Rattle.hal_meaning.specs.Places.{is_in_unit}
 use Rattle.hal_code.specs.declared.image.ImageParts.{ImageParts}
+use Rattle.hal_meaning.specs.Elements.{shape_of}
 use Rattle.hal_meaning.specs.Variables.{name_meant}
 use Rattle.hal_agreement.specs.Sites.{Site, here_at}
 use Rattle.hal_fit_expr.specs.Uses.{Uses}
@@ -55,11 +55,11 @@ use Rattle.hal_fit_rules.specs.Received.{CellsAgree}
 use Rattle.hal_fit_rules.specs.Signalled.{EventAgrees, HasEvents}
 use Rattle.hal_fit_rules.specs.Valued.{HasConstants}
 use Rattle.hal_fit_rules.proofs.Constants.{constant_agrees, constant_formed}
-use Rattle.hal_fit_rules.proofs.Calling.{procedure_agrees, data_formed, temporary_formed, event_formed, event_formed_as, function_formed, builtin_formed}
-use Rattle.hal_fit_rules.proofs.Declaring.{plain_data_agree, plain_cells_agree, temporary_agrees, temporary_cells_agree, builtin_agrees, function_agrees}
+use Rattle.hal_fit_rules.proofs.Calling.{formed_by, procedure_agrees, data_formed, temporary_formed, event_formed, event_formed_as, function_formed, builtin_formed}
+use Rattle.hal_fit_rules.proofs.Declaring.{item_meant_so, lying, plain_data_agree, plain_cells_agree, temporary_agrees, temporary_cells_agree, builtin_agrees, function_agrees}
 use Rattle.hal_fit_rules.proofs.Eventful.{event_known, event_known_as}
 use Rattle.hal_fit_rules.proofs.Happening.{event_agrees, event_agrees_as, process_agrees, written_process_agrees}
-use Rattle.hal_fit_rules.proofs.Structuring.{structure_agrees, structure_cells}
+use Rattle.hal_fit_rules.proofs.Structuring.{structure_agrees, structure_alike, structure_cells}
 use Rattle.hal_fit_rules.proofs.Unbroken.{among_first, unbroken, ruled_none, no_rule, of_uses}
 use Rattle.hal_fit_names.specs.Named.{AreFunctions, AreLeft, AreProcedures, FunctionParameters}
 use Rattle.hal_fit_names.specs.Serving.{MayAsk}
@@ -68,7 +68,7 @@ use Rattle.hal_fit_names.specs.Suited.{HasFitLiterals, AreDeclared, is_in_file, 
 use Rattle.hal_fit_names.proofs.Asking.{asked_all, asked_runtime, eventful_sort}
 use Rattle.hal_fit_names.proofs.Declaring.{plain_data}
 use Rattle.hal_fit_names.proofs.Owning.{IsShown, Plain, Pooled, PooledEvent, Written, own_number, shown_so}
-use Rattle.hal_fit_names.proofs.Pooled.{all_false, pooled_agree, pooled_cells, pooled_formed}
+use Rattle.hal_fit_names.proofs.Pooled.{all_false, pooled_agree, pooled_cells, pooled_formed, structure_class}
 use Rattle.hal_fit_names.proofs.Placing.{NodePlaced, at_among}
 use Rattle.hal_fit_names.proofs.Suiting.{unless_true}
 
@@ -90,11 +90,6 @@ of_attributes row listed = among_first row attribute_rows (operand_rows ++ (use_
 no_sizes : (o : Option Expressions) (parameter : Bool) → not (true && (is_some o || parameter)) ≡ true → o ≡ None
 no_sizes None parameter is = refl
 no_sizes (Some sizes) parameter is = absurd (cc)
-
-structure_class : (t : Kind) → is_structure_type (Some t) ≡ true → class_of_type t ≡ class.Structure
-unfolding is_structure_type class_of_type
-structure_class (StructureKind place template copies) is = refl
-structure_class other is = absurd (cc)
 
 -- what is fixed or an event takes no value
 neither_true : (a b c : Bool) → not ((a || b) || c) ≡ true → (a ≡ false) × (c ≡ false)
@@ -264,7 +259,8 @@ uncalled ps q (Function place inputs returns mode) none fits = absurd (cc)
 
 -- a name means plain data, which stand for those of a COMPOOL or for themselves
 data IsPlainName (site : Site) (name : List ℕ) (k : ℕ) (p : Phrase) (common : List Attribute) (item : Declared) : Type 0 where
-  ForData : (t : Kind) → type_of common item ≡ Some t → is_event_type (Some t) ≡ false → is_structure_type (Some t) ≡ false → is_value_item common item ≡ false → StandsForData site.set.phrases k p common item → IsPlainName site name k p common item
+  ForData : (t : Kind) → type_of common item ≡ Some t → is_event_type (Some t) ≡ false → is_value_item common item ≡ false → StandsForData site.set.phrases k p common item → IsPlainName site name k p common item
+  ForStructure : (t : Kind) (own : IsOwn site name) → own.phrase.node ≡ OfItem common item → type_of common item ≡ Some t → is_event_type (Some t) ≡ false → is_structure_type (Some t) ≡ true → is_value_item common item ≡ false → IsPlainName site name k p common item
   ForItself : (own : IsOwn site name) → IsPlainData site own.phrase → IsPlainName site name k p common item
 
 limit_fits : (ps : List Phrase) (q : Phrase) (name : List ℕ) (o : Option ℕ) → is_in_event ps q ≡ false
@@ -358,6 +354,11 @@ module _ (u : Uses) (site : Site) (named : IsSound rows site.set.phrases) (sound
   builtin_by name may None undeclared is known_ fits = absurd (cc)
   builtin_by name may (Some b) undeclared is known_ fits = builtin_agrees u site name (record { undeclared = undeclared; function = b; named = is; alone = alone_form (form_of b) known_ fits; asked = λ asking. asked_runtime u site name b may undeclared is asking })
 
+  structure_known : (p : Phrase) (common : List Attribute) (item : Declared) (t : Kind) → type_of common item ≡ Some t
+      → data_at site.set.phrases p [] (OfItem common item) ≡ Some (data_with (class_of_type t) (dimensions_of (sizes_of common item)) (has_copies t))
+  unfolding data_at is_nil data_of
+  structure_known p common item t typed = ap (λ o. data_of o (sizes_of common item)) typed
+
   -- plain data
   plainly : (name : List ℕ) (left : AreLeft site name) (k : ℕ) (p : Phrase) (common : List Attribute) (item : Declared) → means site.set.phrases site.block name ≡ Some k → slice_get site.set.phrases k ≡ Some p → p.node ≡ OfItem common item
       → is_plain common item ≡ true → IsPlainName site name k p common item
@@ -365,27 +366,36 @@ module _ (u : Uses) (site : Site) (named : IsSound rows site.set.phrases) (sound
     by : (o : Option Kind) → type_of common item ≡ o → is_some o ≡ true → StandsForData site.set.phrases k p common item ⊎ ((standing_for site.set.phrases k ≡ k) × (is_in_file site.set.phrases p.around.home ≡ false)) → IsPlainName site name k p common item
     by None typed some stands = absurd (cc)
     by (Some t) typed some (inl stands) =
-        let parts = all_false (is_event_type (type_of common item)) (is_structure_type (type_of common item)) (is_value_item common item) plain in
-        ForData t typed (ap is_event_type (sym typed) ∙ parts.0) (ap is_structure_type (sym typed) ∙ parts.1) parts.2 stands
-    by (Some t) typed some (inr itself) =
-        let parts = all_false (is_event_type (type_of common item)) (is_structure_type (type_of common item)) (is_value_item common item) plain in
-        ForItself (record { number = k; meant = meant; phrase = p; there = there; own = itself.0 })
-        (plain_data site.set.phrases named sound counted declared literals site refl has p (placed p (at_among site.set.phrases k p there)) common item t is typed parts.2 (ap is_event_type (sym typed) ∙ parts.0) (ap is_structure_type (sym typed) ∙ parts.1))
+        let parts = all_false (is_event_type (type_of common item)) (is_value_item common item) plain in ForData t typed (ap is_event_type (sym typed) ∙ parts.0) parts.1 stands
+    by (Some t) typed some (inr itself) = by_shape (is_structure_type (Some t)) refl where
+      parts : (is_event_type (type_of common item) ≡ false) × (is_value_item common item ≡ false)
+      parts = all_false (is_event_type (type_of common item)) (is_value_item common item) plain
+
+      by_shape : (b : Bool) → is_structure_type (Some t) ≡ b → IsPlainName site name k p common item
+      by_shape true structured = ForStructure t (record { number = k; meant = meant; phrase = p; there = there; own = itself.0 }) is typed (ap is_event_type (sym typed) ∙ parts.0) structured parts.1
+      by_shape false shape =
+          ForItself (record { number = k; meant = meant; phrase = p; there = there; own = itself.0 })
+          (plain_data site.set.phrases named sound counted declared literals site refl has p (placed p (at_among site.set.phrases k p there)) common item t is typed parts.1 (ap is_event_type (sym typed) ∙ parts.0) shape)
 
   plain_agrees : (name : List ℕ) (k : ℕ) (p : Phrase) (common : List Attribute) (item : Declared) → means site.set.phrases site.block name ≡ Some k → slice_get site.set.phrases k ≡ Some p → p.node ≡ OfItem common item → IsPlainName site name k p common item
       → NameAgrees u site site.set.phrases site.block name []
-  plain_agrees name k p common item meant there is (ForData t typed eventless plain stored stands) = pooled_agree u site named sound counted declared literals has placed k p name common item t meant there is typed eventless plain stored stands
+  plain_agrees name k p common item meant there is (ForData t typed eventless stored stands) = pooled_agree u site named sound counted declared literals has placed k p name common item t meant there is typed eventless stored stands
   plain_agrees name k p common item meant there is (ForItself own data_) = plain_data_agree u site name own data_
+  plain_agrees name k p common item meant there is (ForStructure t own declares typed eventless structured stored) = structure_agrees u site name [] own (structure_data own.phrase common item t declares typed structured)
 
   plain_cells : (name : List ℕ) (k : ℕ) (p : Phrase) (common : List Attribute) (item : Declared) → means site.set.phrases site.block name ≡ Some k → slice_get site.set.phrases k ≡ Some p → p.node ≡ OfItem common item → IsPlainName site name k p common item
       → CellsAgree site.set.phrases [] (means site.set.phrases site.block name) (name_meant (here_at site) name [])
-  plain_cells name k p common item meant there is (ForData t typed eventless plain stored stands) = pooled_cells u site named sound counted declared literals has placed k p name common item t meant there is typed eventless plain stored stands
+  plain_cells name k p common item meant there is (ForData t typed eventless stored stands) = pooled_cells u site named sound counted declared literals has placed k p name common item t meant there is typed eventless stored stands
   plain_cells name k p common item meant there is (ForItself own data_) = plain_cells_agree u site name own data_
+  plain_cells name k p common item meant there is (ForStructure t own declares typed eventless structured stored) = structure_cells u site name [] own (structure_data own.phrase common item t declares typed structured)
 
   plain_forms : (name : List ℕ) (k : ℕ) (p : Phrase) (common : List Attribute) (item : Declared) → means site.set.phrases site.block name ≡ Some k → slice_get site.set.phrases k ≡ Some p → p.node ≡ OfItem common item → IsPlainName site name k p common item
       → FormAgrees u site site.set.phrases site.block name
-  plain_forms name k p common item meant there is (ForData t typed eventless plain stored stands) = pooled_formed u site named sound counted declared literals has placed k p name common item t meant there is typed eventless plain stored stands
+  plain_forms name k p common item meant there is (ForData t typed eventless stored stands) = pooled_formed u site named sound counted declared literals has placed k p name common item t meant there is typed eventless stored stands
   plain_forms name k p common item meant there is (ForItself own data_) = data_formed u site name own data_
+  plain_forms name k p common item meant there is (ForStructure t own declares typed eventless structured stored) =
+      formed_by u site name own (OfItem common item) (lying u site own.phrase common item) declares (item_meant_so u site own.phrase common item t typed eventless stored)
+      (structure_alike (data_at site.set.phrases own.phrase [] (OfItem common item)) [] (shape_of site.set.phrases site.set.constants own.phrase common item) (data_with (class_of_type t) (dimensions_of (sizes_of common item)) (has_copies t)) (structure_known own.phrase common item t typed) (structure_class t structured))
 
   -- an event that a template of a COMPOOL declares stands for one
   stood_for : (name : List ℕ) (left : AreLeft site name) (k : ℕ) (p : Phrase) (common : List Attribute) (item : Declared) → means site.set.phrases site.block name ≡ Some k → slice_get site.set.phrases k ≡ Some p → p.node ≡ OfItem common item
@@ -637,7 +647,7 @@ module _ (u : Uses) (site : Site) (named : IsSound rows site.set.phrases) (sound
   event_as image e left owner k q p events meant there declares (Pooled common item is plain) fits =
       absurd (let other : true ≡ false =
       sym (event_type site.set.phrases q (type_of common item) (ap (λ n. fits_declared site.set.phrases q usage.Event (sort_of n)) (sym is) ∙ fits))
-      ∙ (all_false (is_event_type (type_of common item)) (is_structure_type (type_of common item)) (is_value_item common item) plain).0 in cc)
+      ∙ (all_false (is_event_type (type_of common item)) (is_value_item common item) plain).0 in cc)
   event_as image e left owner k q p events meant there declares (PooledEvent common item is eventful filed) fits =
       let stands = stood_for e.name.name left k p common item meant there is filed in
       event_known_as image site counted events e k p common item meant there is eventful stands.phrase.number stands.phrase stands.stands stands.there (event_for k p common item eventful stands)

@@ -7,7 +7,7 @@ use Rattle.hal_grammar.specs.Units.{Head}
 use Rattle.hal_phrases.specs.Phrases.{Node, Phrase, OfFile, OfTemplate, OfUnit, OfItem}
 use Rattle.hal_names.specs.Means.{means}
 use Rattle.hal_scope.specs.Sorts.{type_of}
-use Rattle.hal_kinds.specs.Data.{is_event_type, is_structure_type}
+use Rattle.hal_kinds.specs.Data.{is_event_type}
 use Rattle.hal_constants.specs.Naming.{is_value_item}
 use Rattle.hal_meaning.specs.Bodies.{is_called, is_called_head, is_unit, pooled_at, meant_at, standing_for}
 use Rattle.hal_meaning.specs.Places.{is_in_unit}
@@ -74,18 +74,16 @@ called_plain ps p (OfItem common item) is = absurd (cc)
 called_plain ps p other is = absurd (cc)
 
 -- and neither is a constant that is its value
-not_valued : (a b c d e : Bool) → c ≡ true → not (a && (b && not c)) && not ((d && not c) && e) ≡ false → false ≡ true
-not_valued true true true true e valued none = absurd (cc)
-not_valued true true true false e valued none = absurd (cc)
-not_valued true false true true e valued none = absurd (cc)
-not_valued true false true false e valued none = absurd (cc)
-not_valued false b true true e valued none = absurd (cc)
-not_valued false b true false e valued none = absurd (cc)
-not_valued a b false d e valued none = absurd (cc)
+not_valued : (a c d e : Bool) → c ≡ true → not (a && not c) && not ((d && not c) && e) ≡ false → false ≡ true
+not_valued true true true e valued none = absurd (cc)
+not_valued true true false e valued none = absurd (cc)
+not_valued false true true e valued none = absurd (cc)
+not_valued false true false e valued none = absurd (cc)
+not_valued a false d e valued none = absurd (cc)
 
 pub item_plain : (ps : List Phrase) (p : Phrase) (common : List Attribute) (item : Declared) → p.node ≡ OfItem common item → is_value_item common item ≡ true → shows_parts ps p p.node ≡ false → is_templated ps p p.node ≡ false
 item_plain ps p common item is valued none = by (is_in_unit ps p.around.home) refl (ap (shows_parts ps p) (sym is) ∙ none) where
   by : (b : Bool) → is_in_unit ps p.around.home ≡ b → not b && (not (is_plain common item) && not (is_event common item && is_in_file ps p.around.home)) ≡ false → is_templated ps p p.node ≡ false
   by true home is_none = ap (is_templated ps p) is ∙ ap not home
   by false home is_none =
-      absurd (let bad : false ≡ true = not_valued (not (is_event_type (type_of common item))) (not (is_structure_type (type_of common item))) (is_value_item common item) (is_event_type (type_of common item)) (is_in_file ps p.around.home) valued is_none in cc)
+      absurd (let bad : false ≡ true = not_valued (not (is_event_type (type_of common item))) (is_value_item common item) (is_event_type (type_of common item)) (is_in_file ps p.around.home) valued is_none in cc)

@@ -10,9 +10,11 @@ use Rattle.hal_names.specs.Means.{means}
 use Rattle.hal_scope.specs.Rules.{IsAmong, IsSound, rows}
 use Rattle.hal_scope.specs.Sorts.{type_of}
 use Rattle.hal_types.specs.Rules.{type_rows}
+use Rattle.hal_kinds.specs.declared.class.Class.TheVariants as class
+use Rattle.hal_scope.specs.Uses.{is_nil}
 use Rattle.hal_kinds.specs.Attributes as attributes
 use Rattle.hal_kinds.specs.Attributes.{count_of, has_mark, is_mark, sizes_of}
-use Rattle.hal_kinds.specs.Data.{data_at, dimensions_of, is_event_type, is_structure_type}
+use Rattle.hal_kinds.specs.Data.{class_of_type, data_at, data_of, data_with, dimensions_of, has_copies, is_event_type, is_structure_type}
 use Rattle.hal_constants.specs.Known.{Known, kind_of_type, known}
 use Rattle.hal_constants.specs.Naming.{is_value_item}
 use Rattle.hal_templates.specs.Agreeing.{Agree, AgreeInSizes, BothOrNeither}
@@ -28,6 +30,7 @@ use Rattle.hal_fit_rules.specs.Received.{CellsAgree}
 use Rattle.hal_fit_rules.specs.Valued.{HasConstants}
 use Rattle.hal_fit_rules.proofs.Calling as calling
 use Rattle.hal_fit_rules.proofs.Declaring.{agrees_as, cells_as, item_meant_so, items_alike, lying, meant_standing}
+use Rattle.hal_fit_rules.proofs.Structuring.{structure_alike}
 use Rattle.hal_fit_names.specs.Standing.{StandsForData}
 use Rattle.hal_fit_names.specs.Suited.{AreDeclared, HasFitLiterals}
 use Rattle.hal_fit_names.proofs.Declaring.{cells_known}
@@ -67,22 +70,26 @@ agree_some (Some v) (Some w) x y same is other = let first : x ≡ v = cc in let
 agree_some None b x y same is other = absurd (cc)
 agree_some (Some v) None x y same is other = absurd (cc)
 
-pub all_false : (a b c : Bool) → not a && (not b && not c) ≡ true → (a ≡ false) × (b ≡ false) × (c ≡ false)
-all_false false false false is = (refl, refl, refl)
-all_false true b c is = absurd (cc)
-all_false false true c is = absurd (cc)
-all_false false false true is = absurd (cc)
+pub all_false : (a b : Bool) → not a && not b ≡ true → (a ≡ false) × (b ≡ false)
+all_false false false is = (refl, refl)
+all_false true b is = absurd (cc)
+all_false false true is = absurd (cc)
+
+pub structure_class : (t : Kind) → is_structure_type (Some t) ≡ true → class_of_type t ≡ class.Structure
+unfolding is_structure_type class_of_type
+structure_class (StructureKind place template copies) is = refl
+structure_class other is = absurd (cc)
 
 module _ (u : Uses) (site : Site) (named : IsSound rows site.set.phrases) (sound : IsSound type_rows site.set.phrases) (counted : IsCounted site.set.phrases) (declared : AreDeclared site.set.phrases) (literals : HasFitLiterals site.set.phrases)
     (has : HasConstants site) (placed : (p : Phrase) → IsAmong p site.set.phrases → NodePlaced site.set.phrases p p.node) (k : ℕ) (p : Phrase) (name : List ℕ) (common : List Attribute) (item : Declared) (kind : Kind)
     (meant : means site.set.phrases site.block name ≡ Some k) (there : slice_get site.set.phrases k ≡ Some p) (is : p.node ≡ OfItem common item) (typed : type_of common item ≡ Some kind) (eventless : is_event_type (Some kind) ≡ false)
-    (plain : is_structure_type (Some kind) ≡ false) (stored : is_value_item common item ≡ false) (stands : StandsForData site.set.phrases k p common item) where
+    (stored : is_value_item common item ≡ false) (stands : StandsForData site.set.phrases k p common item) where
   -- the data that it stands for are such too
   record AreSuch : Type 0 where
     type_ : Kind
     typed_too : type_of stands.other_common stands.other ≡ Some type_
     eventless_too : is_event_type (Some type_) ≡ false
-    plain_too : is_structure_type (Some type_) ≡ false
+    shaped_too : is_structure_type (Some type_) ≡ is_structure_type (Some kind)
     stored_too : is_value_item stands.other_common stands.other ≡ false
     dimensioned : dimensions_of (sizes_of common item) ≡ dimensions_of (sizes_of stands.other_common stands.other)
 
@@ -98,7 +105,7 @@ module _ (u : Uses) (site : Site) (named : IsSound rows site.set.phrases) (sound
         type_ = type_too.0;
         typed_too = type_too.1;
         eventless_too = ap is_event_type (sym type_too.1) ∙ (sym same.words.event ∙ (ap is_event_type typed ∙ eventless));
-        plain_too = ap is_structure_type (sym type_too.1) ∙ (sym structured ∙ (ap is_structure_type typed ∙ plain));
+        shaped_too = ap is_structure_type (sym type_too.1) ∙ (sym structured ∙ ap is_structure_type typed);
         stored_too =
             ap (λ b. b && (not (is_some (sizes_of stands.other_common stands.other)) && not (is_structure_type (type_of stands.other_common stands.other)))) (sym same.words.constant)
             ∙ (ap (λ b. is_some (attributes.constant_of common item) && (not b && not (is_structure_type (type_of stands.other_common stands.other)))) (sym sizes.0)
@@ -109,20 +116,29 @@ module _ (u : Uses) (site : Site) (named : IsSound rows site.set.phrases) (sound
   double_too : has_mark Double (stands.other.attributes ++ stands.other_common) ≡ is_given Double stands.other_common stands.other.attributes
   double_too = list_any-append (is_mark Double) stands.other.attributes stands.other_common
 
-  alike : AreAlike (data_at site.set.phrases p [] (OfItem common item)) [] (shape_of site.set.phrases site.set.constants stands.phrase stands.other_common stands.other)
-  alike =
+  alike_plain : is_structure_type (Some kind) ≡ false → AreAlike (data_at site.set.phrases p [] (OfItem common item)) [] (shape_of site.set.phrases site.set.constants stands.phrase stands.other_common stands.other)
+  alike_plain plain =
       let ps : List Phrase = site.set.phrases in
       let such = are_such in
       let q : Phrase = stands.phrase in
       let mine = cells_known ps named sound counted declared literals site refl has p (placed p (at_among ps k p there)) common item kind is typed stored plain (is_given Double common item.attributes) in
-      let theirs = cells_known ps named sound counted declared literals site refl has q (placed q (at_among ps q.number q stands.there)) stands.other_common stands.other such.type_ stands.declares such.typed_too such.stored_too such.plain_too
+      let theirs = cells_known ps named sound counted declared literals site refl has q (placed q (at_among ps q.number q stands.there)) stands.other_common stands.other such.type_ stands.declares such.typed_too such.stored_too (such.shaped_too ∙ plain)
       (has_mark Double (stands.other.attributes ++ stands.other_common)) in
-      items_alike ps site.set.constants p q common stands.other_common item stands.other kind such.type_ (is_given Double common item.attributes) mine.0 theirs.0 typed such.typed_too such.plain_too mine.1 theirs.1
+      items_alike ps site.set.constants p q common stands.other_common item stands.other kind such.type_ (is_given Double common item.attributes) mine.0 theirs.0 typed such.typed_too (such.shaped_too ∙ plain) mine.1 theirs.1
       (agree_some (kind_of_type ps (known ps) p (is_given Double common item.attributes) (type_of common item)) (kind_of_type ps (known ps) q (is_given Double stands.other_common stands.other.attributes) (type_of stands.other_common stands.other)) mine.0 theirs.0 stands.same.attributes.words.kind
       (ap (kind_of_type ps (known ps) p (is_given Double common item.attributes)) typed ∙ (ap (λ vs. kind_of_type ps vs p (is_given Double common item.attributes) (Some kind)) (sym has) ∙ mine.1))
       (ap (kind_of_type ps (known ps) q (is_given Double stands.other_common stands.other.attributes)) such.typed_too
       ∙ (ap (λ b. kind_of_type ps (known ps) q b (Some such.type_)) (sym double_too) ∙ (ap (λ vs. kind_of_type ps vs q (has_mark Double (stands.other.attributes ++ stands.other_common)) (Some such.type_)) (sym has) ∙ theirs.1))))
       such.dimensioned
+
+  alike : AreAlike (data_at site.set.phrases p [] (OfItem common item)) [] (shape_of site.set.phrases site.set.constants stands.phrase stands.other_common stands.other)
+  unfolding data_at data_of is_nil
+  alike = by (is_structure_type (Some kind)) refl where
+    by : (b : Bool) → is_structure_type (Some kind) ≡ b → AreAlike (data_at site.set.phrases p [] (OfItem common item)) [] (shape_of site.set.phrases site.set.constants stands.phrase stands.other_common stands.other)
+    by true structured =
+        structure_alike (data_at site.set.phrases p [] (OfItem common item)) [] (shape_of site.set.phrases site.set.constants stands.phrase stands.other_common stands.other)
+        (data_with (class_of_type kind) (dimensions_of (sizes_of common item)) (has_copies kind)) (ap (λ o. data_of o (sizes_of common item)) typed) (structure_class kind structured)
+    by false plain = alike_plain plain
 
   means_data : name_meant (here_at site) name [] ≡ lying u site stands.phrase stands.other_common stands.other
   means_data =

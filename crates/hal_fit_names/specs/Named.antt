@@ -17,7 +17,7 @@ use Rattle.hal_fit_rules.specs.Passing.{AreParameters, IsProcedure}
 use Rattle.hal_fit_names.specs.Standing.{StandsForData}
 use Rattle.hal_fit_names.specs.Suited.{is_in_file, shows_parts}
 
--- it means no written template of a unit that is called, no structure or constant of one, and no event of one but a COMPOOL's; a template of a process stands for the process, and other data for those of a COMPOOL, or
+-- it means no written template of a unit that is called, no constant of one, and no event of one but a COMPOOL's; a template of a process stands for the process, and other data for those of a COMPOOL, or
 -- for themselves; and it has a value where it means a constant that is its value
 pub record AreLeft (site : Site) (name : List ℕ) : Type 0 where
   pub untemplated : (k : ℕ) (p : Phrase) → means site.set.phrases site.block name ≡ Some k → slice_get site.set.phrases k ≡ Some p → shows_parts site.set.phrases p p.node ≡ false

@@ -8,7 +8,7 @@ use Rattle.hal_names.specs.Laws.{IsDeclaration}
 use Rattle.hal_names.specs.Means.{means, prefaces_of}
 use Rattle.hal_scope.specs.Rules.{IsAmong}
 use Rattle.hal_scope.specs.Sorts.{type_of}
-use Rattle.hal_kinds.specs.Data.{is_event_type, is_structure_type}
+use Rattle.hal_kinds.specs.Data.{is_event_type}
 use Rattle.hal_kinds.specs.declared.class.Class.{Class}
 use Rattle.hal_kinds.specs.declared.class.Class.TheVariants as class
 use Rattle.hal_values.specs.declared.value.Value.{Value}
@@ -59,9 +59,9 @@ is_templated ps p (OfTemplate name head declarations) = true
 is_templated ps p (OfItem common item) = not (is_in_unit ps p.around.home)
 is_templated ps p other = false
 
--- whether data are no event, no structure and no constant that is its value
+-- whether data are no event and no constant that is its value
 abbrev pub is_plain : List Attribute → Declared → Bool
-is_plain common item = not (is_event_type (type_of common item)) && (not (is_structure_type (type_of common item)) && not (is_value_item common item))
+is_plain common item = not (is_event_type (type_of common item)) && not (is_value_item common item)
 
 -- whether they are an event
 abbrev pub is_event : List Attribute → Declared → Bool
