@@ -61,7 +61,7 @@ returns c turns files image is accepted few_turns left =
     units_are_known s image counted left (λ unit b found. c.units_have_bodies.ensures.unit files s unit b refl refl found)
     (λ g u places b serves stands rest.
     c.units_are_known_where_what_is_left_is.ensures image g u files (unit_site s places b) b.number refl refl refl serves left.owned stands
-    (record { tables = (image_placed turns files views image is).tables; processes = long; events = refl }) accepted.named accepted.typed
+    (record { tables = (image_placed turns files views image is).tables; processes = long; events = refl }) accepted.given accepted.named accepted.typed
     (words.literals files accepted.spelled) (words.lists files accepted.spelled) rest) in
     let shapes : shapes_of s ≡ image.shapes = ap (λ (x : ImageParts). x.shapes) (image_is s views image is).1 in
     c.an_image_of_blocks_that_fit_is_right.ensures turns files views image is
