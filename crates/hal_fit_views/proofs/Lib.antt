@@ -17,3 +17,6 @@ mod Choosing
 mod ChosenViews
 mod Referring
 mod Limits
+mod Outside
+mod Inner
+mod Leading
