@@ -20,3 +20,4 @@ mod Limits
 mod Outside
 mod Inner
 mod Leading
+mod Standing

@@ -26,7 +26,7 @@ use Rattle.hal_meaning.specs.Places.{Place}
 use Rattle.hal_meaning.specs.Runs.{places_of_process}
 use Rattle.hal_meaning.specs.Sets.{Set}
 use Rattle.hal_meaning.specs.Variables.{is_arrayed}
-use Rattle.hal_agreement.specs.PlacedExpressions.{two, places_of}
+use Rattle.hal_agreement.specs.PlacedExpressions.{places_of}
 use Rattle.hal_agreement.specs.PlacedStatements.{Leaving, ToFinish, ByReturn, ByResult, NoReturn, changes, patches}
 use Rattle.hal_agreement.specs.Sites.{Site}
 use Rattle.hal_storage.specs.referents.Referents.{Referent, DataOf, ConstantOf, EventOf, BlockOf, BuiltinOf, Unmeant}

@@ -11,9 +11,10 @@ use Rattle.hal_meaning.specs.Sets.{Set}
 use Rattle.hal_agreement.specs.Sites.{Site}
 use Rattle.hal_gen_expr.specs.Led.{Led, led_by}
 use Rattle.hal_gen_expr.specs.Referents.{referent}
+use Rattle.hal_fit_rows.specs.Homes.{ItemsStandForData}
 use Rattle.hal_fit_rows.specs.Purposes.{IsSite, Says}
 use Rattle.hal_fit_views.specs.Lying.{AreasLie}
-use Rattle.hal_fit_views.specs.Placed.{StandForThemselves, ProgramsStandAlone}
+use Rattle.hal_fit_views.specs.Placed.{PoolsMatch, ProgramsStandAlone}
 
 -- there is a component
 abbrev pub LeadSomewhere : List Component → Type 0
@@ -34,7 +35,9 @@ PathsLead s =
 
 pub record ViewsLeft (s : Set) (image : ImageParts) : Type 0 where
   -- rules of templates
-  pub stand : StandForThemselves s.phrases s.constants
+  pub pools : PoolsMatch s.phrases
+  -- and the grammar: a COMPOOL has no blocks
+  pub items : ItemsStandForData s.phrases
   -- grammar
   pub programs : ProgramsStandAlone s.phrases
   -- rules of names
