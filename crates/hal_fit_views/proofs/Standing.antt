@@ -1,4 +1,4 @@
--- Declarations of templates stand for no data with own places.
+-- Declarations of templates stand for no data with own places, and items of templates for no blocks.
 use Rattle.std.specs.Prelude.{◌≡◌, ◌⊎◌, ◌||◌, ℕ, Bool, true, false, List, Option, Some, None, slice_get}
 use Rattle.std.specs.Option.{option_and_then}
 use Rattle.std.proofs.Common.{refl, sym, ap, ◌∙◌, inl, inr}
@@ -14,10 +14,11 @@ use Rattle.hal_names.specs.Means.{is_compool_unit, unit_named}
 use Rattle.hal_scope.specs.Rules.{IsSound, rows}
 use Rattle.hal_constants.specs.Known.{Known}
 use Rattle.hal_types.specs.Rules.{type_rows}
-use Rattle.hal_meaning.specs.Bodies.{is_unit, meant_at, pool_of, pooled, pooled_at, standing_for}
+use Rattle.hal_meaning.specs.Bodies.{is_called, is_unit, meant_at, pool_of, pooled, pooled_at, standing_for}
 use Rattle.hal_meaning.specs.Places.{storing}
+use Rattle.hal_fit_rows.specs.Homes.{ItemsStandForData}
 use Rattle.hal_fit_rows.proofs.LookingUp.{LooksUp}
-use Rattle.hal_fit_views.specs.Placed.{PoolsMatch, has_own, is_temporary, keeps_own}
+use Rattle.hal_fit_views.specs.Placed.{PoolsHoldNoUnits, PoolsMatch, has_own, is_temporary, keeps_own}
 use Rattle.hal_fit_views.proofs.Outside.{stands_outside}
 
 -- a group with a TEMPORARY variable, or a unit that is no COMPOOL
@@ -122,3 +123,46 @@ module _ (files : List File) (looks : LooksUp (phrases_of files)) (sound : IsSou
     by : (o : Option Phrase) → slice_get ps d ≡ o → elim (option_and_then (λ (x : Phrase). meant_at ps x x.node) o) [ None ↦ d | Some other ↦ other ] ≡ m → d ≡ m
     by None there so = so
     by (Some x) there so = by_meant x (meant_at ps x x.node) refl so
+
+unit_key : (k owner : ℕ) (a : Around) (node : Node) (name : List ℕ) → is_called node ≡ true → declared_at k a node ≡ Some (key space.Declared owner name) → a.home ≡ owner
+unfolding declared_at
+unit_key k owner a (OfUnit own_name head declarations) name is declares = let inner : key space.Declared a.home own_name.name ≡ key space.Declared owner name = cc in ap (λ (x : Key). x.owner) inner
+unit_key k owner a other name is declares = absurd (cc)
+
+called_unit : (node : Node) → is_called node ≡ true → is_unit node ≡ true
+called_unit (OfUnit name head declarations) is = refl
+called_unit other is = absurd (cc)
+
+module _ (ps : List Phrase) (looks : LooksUp ps) (pools : PoolsMatch ps) (hold : PoolsHoldNoUnits ps) where
+  unit_at : (unit : List ℕ) (u : ℕ) → unit_named ps unit ≡ Some u → (q : Phrase) × (slice_get ps u ≡ Some q)
+  unfolding unit_named
+  unit_at unit u named =
+      let one = then_some (λ f. own ps (key space.Declared f unit)) (own ps (key space.Unit 0 unit)) u named in
+      let found = looks.found (key space.Declared one.0 unit) u one.2 in
+      (found.declaring, found.there)
+
+  -- and no item of a template stands for a block
+  pub items_stand : ItemsStandForData ps
+  items_stand m p common item c at node there called =
+      by (meant_at ps p (OfItem common item)) refl
+      (sym (ap (λ (o : Option ℕ). slice_get ps (elim o [ None ↦ m | Some other ↦ other ])) (ap (option_and_then (λ (x : Phrase). meant_at ps x x.node)) at ∙ ap (meant_at ps p) node)) ∙ there)
+    where
+      for_file : (n : ℕ) → slice_get ps n ≡ Some c → (y : Phrase) → slice_get ps p.around.home ≡ Some y → (file : Node) → y.node ≡ file → pooled_at ps item.name.name file ≡ Some n → ⊥
+      for_file n so y there_y (OfFile prefaces unit) is found =
+          let pool = then_some (λ pool. pooled ps pool item.name.name) (pool_of prefaces item.name.name) n found in
+          let named = then_some (λ u. own ps (key space.Declared u item.name.name)) (unit_named ps pool.0) n pool.2 in
+          let declared = looks.found (key space.Declared named.0 item.name.name) n named.2 in
+          let same : declared.declaring ≡ c = (let here = declared.there in cc) in
+          let home = unit_key c.number named.0 c.around c.node item.name.name called (ap declared_by (sym same) ∙ declared.declares) in
+          let q = unit_at pool.0 named.0 named.1 in
+          hold n c so (called_unit c.node called) q.0 (ap (slice_get ps) home ∙ q.1) (pools p.around.home y prefaces unit item.name.name pool.0 named.0 q.0 there_y is pool.1 named.1 q.1)
+      for_file n so y there_y other is found = absurd (cc)
+
+      no_item : is_called (OfItem common item) ≡ true → ⊥
+      no_item is = absurd (cc)
+
+      by : (o : Option ℕ) → meant_at ps p (OfItem common item) ≡ o → slice_get ps (elim o [ None ↦ m | Some other ↦ other ]) ≡ Some c → ⊥
+      by None none so = let same : c ≡ p = cc in no_item (sym (ap (λ (x : Phrase). is_called x.node) same ∙ ap is_called node) ∙ called)
+      by (Some n) found so =
+          let one = then_some (λ (home : Phrase). pooled_at ps item.name.name home.node) (slice_get ps p.around.home) n found in
+          for_file n so one.0 one.1 one.0.node refl one.2

@@ -11,10 +11,9 @@ use Rattle.hal_meaning.specs.Sets.{Set}
 use Rattle.hal_agreement.specs.Sites.{Site}
 use Rattle.hal_gen_expr.specs.Led.{Led, led_by}
 use Rattle.hal_gen_expr.specs.Referents.{referent}
-use Rattle.hal_fit_rows.specs.Homes.{ItemsStandForData}
 use Rattle.hal_fit_rows.specs.Purposes.{IsSite, Says}
 use Rattle.hal_fit_views.specs.Lying.{AreasLie}
-use Rattle.hal_fit_views.specs.Placed.{PoolsMatch, ProgramsStandAlone}
+use Rattle.hal_fit_views.specs.Placed.{PoolsHoldNoUnits, PoolsMatch, ProgramsStandAlone}
 
 -- there is a component
 abbrev pub LeadSomewhere : List Component → Type 0
@@ -36,9 +35,8 @@ PathsLead s =
 pub record ViewsLeft (s : Set) (image : ImageParts) : Type 0 where
   -- rules of templates
   pub pools : PoolsMatch s.phrases
-  -- and the grammar: a COMPOOL has no blocks
-  pub items : ItemsStandForData s.phrases
   -- grammar
+  pub hold : PoolsHoldNoUnits s.phrases
   pub programs : ProgramsStandAlone s.phrases
   -- rules of names
   pub lead : PathsLead s

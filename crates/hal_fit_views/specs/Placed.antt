@@ -36,6 +36,10 @@ PoolsMatch ps =
     (f : ℕ) (p : Phrase) (prefaces : List Preface) (unit : Naming) (name pool : List ℕ) (u : ℕ) (q : Phrase) → slice_get ps f ≡ Some p → p.node ≡ OfFile prefaces unit → pool_of prefaces name ≡ Some pool
     → unit_named ps pool ≡ Some u → slice_get ps u ≡ Some q → is_compool_unit q.node ≡ true
 
+-- no unit stands right in a COMPOOL
+abbrev pub PoolsHoldNoUnits : List Phrase → Type 0
+PoolsHoldNoUnits ps = (k : ℕ) (p : Phrase) → slice_get ps k ≡ Some p → is_unit p.node ≡ true → (q : Phrase) → slice_get ps p.around.home ≡ Some q → is_compool_unit q.node ≡ true → ⊥
+
 -- no declaration of a template stands for data with own places
 pub record StandForThemselves (ps : List Phrase) (vs : Known) : Type 0 where
   pub items : ItemsStandForData ps

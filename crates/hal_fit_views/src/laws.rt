@@ -38,7 +38,7 @@ pub fn views_lie_where_all_that_they_are_for_does()
         → PurposesLie (set_of turns files) image → views_lie image 0 image.views ≡ true }
 {}
 
-/// And so they do in a set that breaks no rule of names, types or calls, whose STRUCTUREs have parts, whose image has few cells, and where what is left of templates, PROGRAMs, paths and
+/// And so they do in a set that breaks no rule of names, types or calls, whose STRUCTUREs have parts, whose image has few cells, and where what is left of templates, blocks, paths and
 /// arguments holds: the elements of data to which names lead, those among which subscripts choose, own places of groups, and input parameters lie where they are stored
 /// (image document, When an image is right).
 pub fn views_lie_where_what_is_left_of_data_holds()

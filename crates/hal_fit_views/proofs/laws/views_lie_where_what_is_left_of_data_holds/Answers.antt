@@ -35,7 +35,7 @@ use Rattle.hal_fit_views.proofs.Held.{elements_lie}
 use Rattle.hal_fit_views.proofs.Inner.{stands_inner}
 use Rattle.hal_fit_views.proofs.Laying.{all_hold}
 use Rattle.hal_fit_views.proofs.Leading.{lead_all}
-use Rattle.hal_fit_views.proofs.Standing.{stands_alone}
+use Rattle.hal_fit_views.proofs.Standing.{items_stand, stands_alone}
 use Rattle.hal_fit_views.proofs.Referring.{references_hold}
 use Rattle.hal_fit_views.proofs.Outside.{stands_outside}
 use Rattle.hal_fit_views.proofs.OwnPlaces.{parameters_lie, places_lie}
@@ -72,10 +72,11 @@ returns c turns files image is sound typed called parts kept limits left =
     (λ home b found.
     let one = body_is files looks.counted turns home b found in
     placed (unit_numbers s.phrases) home (subst (λ k. is_among (unit_numbers s.phrases) k ≡ true) (looks.counted home one.phrase one.there) (has_unit s.phrases home one.phrase one.there (head_unit one.phrase.node b.head one.head)))) in
+    let items = items_stand s.phrases looks left.pools left.hold in
     let well : AreWellPlaced s.phrases s.constants = record {
-      stand = record { items = left.items; alone = stands_alone files looks sound typed left.pools s.constants };
+      stand = record { items = items; alone = stands_alone files looks sound typed left.pools s.constants };
       outside = stands_outside files looks sound typed s.constants;
-      inner = stands_inner files looks sound typed called left.items left.programs s.constants;
+      inner = stands_inner files looks sound typed called items left.programs s.constants;
     } in
     let hold : DataHold s image =
     all_hold s looks (all_home files) (all_grouped files) well image cells laid references
