@@ -31,7 +31,7 @@ use Rattle.hal_fit_calls.specs.Harmless.{AllHarmless, IsHarmless}
 use Rattle.hal_fit_rules.specs.Used.{UnitKnown}
 use Rattle.hal_link.specs.KnownBlocks.{HasOwnBlock, IsKnown, KnownProcess, KnownUnit, numbers}
 use Rattle.hal_link.specs.LinkedBlocks.{CallsUnits}
-use Rattle.hal_link.specs.Outlines.{Outline, block_of, outlines_of}
+use Rattle.hal_link.specs.Outlines.{Outline, outlines_of}
 use Rattle.hal_link.specs.Outlines as outlines
 use Rattle.hal_link.specs.Shapes.{shapes_of}
 use Rattle.hal_fit_layout.specs.Ranked.{IsAcyclic}

@@ -4,6 +4,7 @@ use Rattle.hal_grammar.specs.Units.{File}
 use Rattle.hal_phrases.specs.GatheredUnits.{phrases_of}
 use Rattle.hal_scope.specs.Rules.{IsSound, rows}
 use Rattle.hal_constants.specs.Known.{known}
+use Rattle.hal_templates.specs.Rules.{template_rows}
 use Rattle.hal_types.specs.Rules.{type_rows}
 use Rattle.hal_locks.specs.Rules.{lock_rows}
 use Rattle.hal_calls.specs.Programs.{has_program}
@@ -13,9 +14,10 @@ use Rattle.hal_code.specs.declared.image.ImageParts.{ImageParts}
 use Rattle.hal_verify.specs.Limits.{spread_kept}
 use Rattle.hal_fit_spelled.specs.Words.{AreAllSpelled}
 
--- right words spell the files, no rule of names, types, locks, calls or limits is broken, and the image's shapes and views have few enough cells
+-- right words spell the files, no rule of templates, names, types, locks, calls or limits is broken, and the image's shapes and views have few enough cells
 pub record IsAccepted (files : List File) (image : ImageParts) : Type 0 where
   pub spelled : AreAllSpelled files
+  pub given : IsSound template_rows (phrases_of files)
   pub named : IsSound rows (phrases_of files)
   pub typed : IsSound type_rows (phrases_of files)
   pub locked : IsSound lock_rows (phrases_of files)

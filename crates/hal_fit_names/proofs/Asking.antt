@@ -1,5 +1,5 @@
 -- Events, processes and the clock may be asked for where a name means them.
-use Rattle.std.proofs.Common.{◌≡◌, ◌⊎◌, ℕ, Bool, true, false, not, ◌||◌, List, Option, Some, None, refl, sym, ap, ◌∙◌, inl, inr}
+use Rattle.std.proofs.Common.{◌≡◌, ◌⊎◌, ℕ, Bool, true, false, not, ◌||◌, List, Option, Some, None, slice_get, refl, sym, ap, ◌∙◌, inl, inr}
 use Rattle.std.specs.Option.{option_and_then, is_some}
 use Rattle.hal_base.specs.declared.refusal.Place.{Place}
 use Rattle.hal_grammar.specs.Declarations.{Kind, EventKind, IntegerKind, BooleanKind, BitKind, CharacterKind, StructureKind, Attribute, Declared}
@@ -17,7 +17,7 @@ use Rattle.hal_locks.specs.Updates.{updating}
 use Rattle.hal_agreement.specs.Sites.{Site}
 use Rattle.hal_fit_expr.specs.Uses.{Uses}
 use Rattle.hal_fit_rules.specs.Happening.{AsksAll}
-use Rattle.hal_fit_rules.specs.Owned.{IsOwn, is_asking}
+use Rattle.hal_fit_rules.specs.Owned.{is_asking}
 use Rattle.hal_fit_names.specs.Serving.{MayAsk}
 
 event_sort : (o : Option Kind) → is_event_type o ≡ true → is_eventful (Some (sort_of_type o)) ≡ true
@@ -46,12 +46,12 @@ module _ (u : Uses) (site : Site) (name : List ℕ) where
   asked_by (inr isnt) asked = absurd (let other = sym asked ∙ isnt in cc)
 
   -- an event or a process
-  pub asked_all : (own : IsOwn site name) → MayAsk u site name → is_eventful (sort_of own.phrase.node) ≡ true → AsksAll u site
-  asked_all own may eventful =
+  pub asked_all : (k : ℕ) (p : Phrase) → means site.set.phrases site.block name ≡ Some k → slice_get site.set.phrases k ≡ Some p → MayAsk u site name → is_eventful (sort_of p.node) ≡ true → AsksAll u site
+  asked_all k p meant there may eventful =
       record {
         asks = asked_by may.asks
-            (ap (λ (o : Option ℕ). elim o [ None ↦ is_runtime (builtin_named name) | Some k ↦ is_eventful (sort_at site.set.phrases k) ]) own.meant
-            ∙ (ap (λ o. is_eventful (option_and_then (λ (p : Phrase). sort_of p.node) o)) own.there ∙ eventful));
+            (ap (λ (o : Option ℕ). elim o [ None ↦ is_runtime (builtin_named name) | Some j ↦ is_eventful (sort_at site.set.phrases j) ]) meant
+            ∙ (ap (λ o. is_eventful (option_and_then (λ (q : Phrase). sort_of q.node) o)) there ∙ eventful));
         all = may.all;
       }
 

@@ -35,7 +35,7 @@ use Rattle.hal_fit_rules.specs.Valued.{HasConstants}
 use Rattle.hal_fit_names.specs.Suited.{AreDeclared, HasFitLiterals, Suits}
 use Rattle.hal_fit_names.specs.Used.{NamesAreOwn}
 use Rattle.hal_fit_names.proofs.Clashing.{constant_eventless}
-use Rattle.hal_fit_names.proofs.Owning.{own_number}
+use Rattle.hal_fit_names.proofs.Owning.{item_plain, own_number}
 use Rattle.hal_fit_names.proofs.Placing.{NodePlaced, at_among}
 use Rattle.hal_fit_names.proofs.Suiting.{suits}
 
@@ -110,18 +110,19 @@ module _ (site : Site) (named : IsSound rows site.set.phrases) (sound : IsSound 
   unfolding constant_at is_nil
   refers name v None means_it is = no_builtin (is_some (builtin_named name)) v is
   refers name v (Some k) means_it is = by (slice_get site.set.phrases k) refl is where
-    of_node : (r : Phrase) → slice_get site.set.phrases k ≡ Some r → (n : Node) → r.node ≡ n → constant_at site.set.phrases (known site.set.phrases) q r [] n ≡ constant.Worth v → phrase_referent site.set.phrases site.set.constants r ≡ ConstantOf v
+    of_node : (r : Phrase) → slice_get site.set.phrases k ≡ Some r → (n : Node) → r.node ≡ n → constant_at site.set.phrases (known site.set.phrases) q r [] n ≡ constant.Worth v
+        → declaration_referent site.set.phrases site.set.constants (standing_for site.set.phrases k) ≡ ConstantOf v
     of_node r there (OfItem common item) node worth =
         let both = item_value (is_value_item common item) (is_before site.set.phrases q r) (value_at (known site.set.phrases) r.number) v worth in
-        item_refers r common item v (at_among site.set.phrases k r there) node both.0 both.1
+        ap (declaration_referent site.set.phrases site.set.constants) (own_number site.set.phrases k r there (item_plain site.set.phrases r common item node both.0 (owned q.around.block name k r means_it there)))
+        ∙ (ap (λ (x : Option Phrase). elim x [ None ↦ Unmeant | Some p ↦ phrase_referent site.set.phrases site.set.constants p ]) there
+        ∙ item_refers r common item v (at_among site.set.phrases k r there) node both.0 both.1)
     of_node r there other node worth = absurd (cc)
 
     by : (o : Option Phrase) → slice_get site.set.phrases k ≡ o → ◌≡◌ {A = Constant} (elim o [ None ↦ constant.Unfit | Some r ↦ constant_at site.set.phrases (known site.set.phrases) q r [] r.node ]) (constant.Worth v)
         → declaration_referent site.set.phrases site.set.constants (standing_for site.set.phrases k) ≡ ConstantOf v
     by None there worth = absurd (cc)
-    by (Some r) there worth =
-        ap (declaration_referent site.set.phrases site.set.constants) (own_number site.set.phrases k r there (owned q.around.block name k r means_it there))
-        ∙ (ap (λ (x : Option Phrase). elim x [ None ↦ Unmeant | Some p ↦ phrase_referent site.set.phrases site.set.constants p ]) there ∙ of_node r there r.node refl worth)
+    by (Some r) there worth = of_node r there r.node refl worth
 
   names_agree : NamesAgree (within_block q.around.block site) (known site.set.phrases) q
   names_agree = record { here = refl; constants = λ name v is. referred_same site.set.phrases site.set.constants q.around.block name ∙ refers name v (means site.set.phrases q.around.block name) refl is }

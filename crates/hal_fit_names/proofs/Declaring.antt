@@ -25,7 +25,7 @@ use Rattle.hal_fit_names.proofs.Sizing.{item_kind_known}
 module _ (ps : List Phrase) (named : IsSound rows ps) (sound : IsSound type_rows ps) (counted : IsCounted ps) (declared : AreDeclared ps) (literals : HasFitLiterals ps) (site : Site) (whole : site.set.phrases ≡ ps) (has : HasConstants site) (p : Phrase)
     (placed : NodePlaced ps p p.node) (common : List Attribute) (item : Declared) (kind : Kind) (is : p.node ≡ OfItem common item) (typed : type_of common item ≡ Some kind) (stored : is_value_item common item ≡ false) where
   -- the kind of the cells, where the site looks it up
-  cells_known : is_structure_type (Some kind) ≡ false → (double : Bool) → (cells : values.Kind) × (kind_of_type site.set.phrases site.set.constants p double (Some kind) ≡ Some cells)
+  pub cells_known : is_structure_type (Some kind) ≡ false → (double : Bool) → (cells : values.Kind) × (kind_of_type site.set.phrases site.set.constants p double (Some kind) ≡ Some cells)
   cells_known plain double =
       let found = item_kind_known ps named sound counted declared literals p common item kind double is typed plain stored placed in
       (found.0, ap (λ vs. kind_of_type site.set.phrases vs p double (Some kind)) has ∙ (ap (λ qs. kind_of_type qs (known qs) p double (Some kind)) whole ∙ found.1))

@@ -25,7 +25,11 @@ mod Callable
 mod KindsMeant
 mod Parametered
 mod Homing
+mod Pooling
 mod Temporary
 mod Worth
+mod Processes
 mod Channelled
+mod Standing
+mod Pooled
 mod UnitsKnown

@@ -1,5 +1,5 @@
 -- Names of values agree in a set that breaks no rule, where what is left is known.
-use Rattle.std.proofs.Common.{◌≡◌, ℕ, Bool, true, false, not, ◌&&◌, ◌||◌, List, [], ◌++◌, Option, Some, None, slice_get, refl, sym, ap, ◌∙◌, inl, inr}
+use Rattle.std.proofs.Common.{◌≡◌, ◌⊎◌, ℕ, Bool, true, false, not, ◌&&◌, ◌||◌, List, [], ◌++◌, Option, Some, None, slice_get, refl, sym, ap, ◌∙◌, inl, inr}
 use Rattle.std.specs.Prelude.{nat_lt, if◌then◌else◌}
 use Rattle.std.specs.Option.{option_and_then, is_some}
 use Rattle.hal_base.specs.declared.refusal.Place.{Place}
@@ -9,7 +9,7 @@ use Rattle.hal_phrases.specs.declared.role.Role.{Role}
 use Rattle.hal_phrases.specs.declared.role.Role.TheVariants as role
 use Rattle.hal_grammar.specs.Declarations.{Kind, IntegerKind, BooleanKind, EventKind, BitKind, CharacterKind, StructureKind, Attribute, Declared}
 use Rattle.hal_grammar.specs.Statements.{Eventful}
-use Rattle.hal_grammar.specs.Units.{Program, Compool, Task, Procedure, Function}
+use Rattle.hal_grammar.specs.Units.{Head, Program, Compool, Task, Procedure, Function}
 use Rattle.hal_phrases.specs.Phrases.{Node, Phrase, OfFile, OfTemplate, OfUnit, OfParameter, OfItem, OfStructure, OfPart, OfLabel, OfTemporaryGroup, OfReference, OfSubscriptName, OfVariable, OfEvent, OfCallForm, OfCall}
 use Rattle.hal_names.specs.declared.key.Key.{Key}
 use Rattle.hal_names.specs.declared.key.Space.{Space}
@@ -27,7 +27,6 @@ use Rattle.hal_scope.specs.Builtins.{builtin_named, form_of}
 use Rattle.hal_scope.specs.Rules.{Row, IsAmong, IsSound, rows, ruled}
 use Rattle.hal_scope.specs.Sorts.{type_of, sort_of, sort_of_type, sort_of_head, usage_of, use_of, use_of_reference, used, is_known, is_operand, fits_builtin}
 use Rattle.hal_scope.specs.Uses.{is_in_event, is_nil, unless, sort_at, is_eventful, is_known_builtin, is_known_use, unknown, fits_declared, fits_named, fits_use, misused}
-use Rattle.hal_kinds.specs.declared.class.Class.TheVariants as class
 use Rattle.hal_kinds.specs.declared.data.Data.{Data}
 use Rattle.hal_kinds.specs.Attributes as attributes
 use Rattle.hal_kinds.specs.Attributes.{no_more, sizes_of}
@@ -40,32 +39,36 @@ use Rattle.hal_attributes.specs.Typed.{untyped, is_no_variable, misplaced_event}
 use Rattle.hal_uses.specs.Receivers.{is_input_parameter, is_component, put_fault, put, is_integer, counted_fault, variable_fault, varied, may_receive, received_by, received, reference_receives, misreceived}
 use Rattle.hal_types.specs.Rules.{attribute_rows, operand_rows, use_rows, size_rows, type_rows}
 use Rattle.hal_constants.specs.Naming.{is_value_item}
+use Rattle.hal_meaning.specs.Bodies.{is_called_head, is_process_head, standing_for}
 use Rattle.hal_meaning.specs.Places.{is_in_unit}
 use Rattle.hal_code.specs.declared.image.ImageParts.{ImageParts}
+use Rattle.hal_meaning.specs.Elements.{shape_of}
 use Rattle.hal_meaning.specs.Variables.{name_meant}
 use Rattle.hal_agreement.specs.Sites.{Site, here_at}
 use Rattle.hal_fit_expr.specs.Uses.{Uses}
 use Rattle.hal_fit_rules.specs.Agreeing.{NameAgrees, FormAgrees}
 use Rattle.hal_fit_rules.specs.Happening.{IsEvent}
-use Rattle.hal_fit_rules.specs.Owned.{IsOwn, IsStructureData}
+use Rattle.hal_fit_rules.specs.Owned.{IsOwn, IsPlainData, IsStructureData}
 use Rattle.hal_fit_rules.specs.Passing.{IsProcedure}
 use Rattle.hal_fit_rules.specs.Passed.{ProcedureAgrees}
 use Rattle.hal_fit_rules.specs.Received.{CellsAgree}
 use Rattle.hal_fit_rules.specs.Signalled.{EventAgrees, HasEvents}
 use Rattle.hal_fit_rules.specs.Valued.{HasConstants}
 use Rattle.hal_fit_rules.proofs.Constants.{constant_agrees, constant_formed}
-use Rattle.hal_fit_rules.proofs.Calling.{procedure_agrees, data_formed, temporary_formed, event_formed, function_formed, builtin_formed}
-use Rattle.hal_fit_rules.proofs.Declaring.{plain_data_agree, plain_cells_agree, temporary_agrees, temporary_cells_agree, builtin_agrees, function_agrees}
-use Rattle.hal_fit_rules.proofs.Eventful.{event_known}
-use Rattle.hal_fit_rules.proofs.Happening.{event_agrees, process_agrees}
-use Rattle.hal_fit_rules.proofs.Structuring.{structure_agrees, structure_cells}
+use Rattle.hal_fit_rules.proofs.Calling.{formed_by, procedure_agrees, data_formed, temporary_formed, event_formed, event_formed_as, function_formed, builtin_formed}
+use Rattle.hal_fit_rules.proofs.Declaring.{item_meant_so, lying, plain_data_agree, plain_cells_agree, temporary_agrees, temporary_cells_agree, builtin_agrees, function_agrees}
+use Rattle.hal_fit_rules.proofs.Eventful.{event_known, event_known_as}
+use Rattle.hal_fit_rules.proofs.Happening.{event_agrees, event_agrees_as, process_agrees, written_process_agrees}
+use Rattle.hal_fit_rules.proofs.Structuring.{structure_agrees, structure_alike, structure_cells}
 use Rattle.hal_fit_rules.proofs.Unbroken.{among_first, unbroken, ruled_none, no_rule, of_uses}
 use Rattle.hal_fit_names.specs.Named.{AreFunctions, AreLeft, AreProcedures, FunctionParameters}
 use Rattle.hal_fit_names.specs.Serving.{MayAsk}
-use Rattle.hal_fit_names.specs.Suited.{HasFitLiterals, AreDeclared, is_templated}
+use Rattle.hal_fit_names.specs.Standing.{StandsForData}
+use Rattle.hal_fit_names.specs.Suited.{HasFitLiterals, AreDeclared, is_in_file, is_plain, is_templated}
 use Rattle.hal_fit_names.proofs.Asking.{asked_all, asked_runtime, eventful_sort}
 use Rattle.hal_fit_names.proofs.Declaring.{plain_data}
-use Rattle.hal_fit_names.proofs.Owning.{own_number}
+use Rattle.hal_fit_names.proofs.Owning.{IsShown, Plain, Pooled, PooledEvent, Written, own_number, shown_so}
+use Rattle.hal_fit_names.proofs.Pooled.{all_false, pooled_agree, pooled_cells, pooled_formed, structure_class}
 use Rattle.hal_fit_names.proofs.Placing.{NodePlaced, at_among}
 use Rattle.hal_fit_names.proofs.Suiting.{unless_true}
 
@@ -87,11 +90,6 @@ of_attributes row listed = among_first row attribute_rows (operand_rows ++ (use_
 no_sizes : (o : Option Expressions) (parameter : Bool) → not (true && (is_some o || parameter)) ≡ true → o ≡ None
 no_sizes None parameter is = refl
 no_sizes (Some sizes) parameter is = absurd (cc)
-
-structure_class : (t : Kind) → is_structure_type (Some t) ≡ true → class_of_type t ≡ class.Structure
-unfolding is_structure_type class_of_type
-structure_class (StructureKind place template copies) is = refl
-structure_class other is = absurd (cc)
 
 -- what is fixed or an event takes no value
 neither_true : (a b c : Bool) → not ((a || b) || c) ≡ true → (a ≡ false) × (c ≡ false)
@@ -223,6 +221,48 @@ declared_same : (ps : List Phrase) (q : Phrase) (o : Option Sort) → is_in_even
 declared_same ps q None calm = refl
 declared_same ps q (Some s) calm = ap (λ b. is_operand s || b) calm ∙ or_none (is_operand s)
 
+-- of templates of units that aren't called that of a process alone is used as a value
+value_process : (ps : List Phrase) (q : Phrase) (h : Head) → is_called_head h ≡ false → fits_declared ps q usage.Value (Some (sort_of_head h)) ≡ true → (is_process_head h ≡ true) × (is_eventful (Some (sort_of_head h)) ≡ true)
+unfolding sort_of_head is_eventful
+value_process ps q (Program place) none fits = (refl, refl)
+value_process ps q (Task place) none fits = (refl, refl)
+value_process ps q (Compool place) none fits = absurd (cc)
+value_process ps q (Procedure place inputs outputs mode) none fits = absurd (cc)
+value_process ps q (Function place inputs returns mode) none fits = absurd (cc)
+
+-- none is changed as an event
+unchanged : {X : Type 0} (ps : List Phrase) (q : Phrase) (h : Head) → is_called_head h ≡ false → fits_declared ps q usage.Event (Some (sort_of_head h)) ≡ true → X
+unfolding sort_of_head
+unchanged ps q (Program place) none fits = absurd (cc)
+unchanged ps q (Task place) none fits = absurd (cc)
+unchanged ps q (Compool place) none fits = absurd (cc)
+unchanged ps q (Procedure place inputs outputs mode) none fits = absurd (cc)
+unchanged ps q (Function place inputs returns mode) none fits = absurd (cc)
+
+-- none has a call form
+unformed : {X : Type 0} (ps : List Phrase) (block : ℕ) (place : Place) (h : Head) (ts : Expressions) → is_called_head h ≡ false → head_fault ps block place h ts ≡ None → X
+unfolding head_fault
+unformed ps block place (Function at_ inputs returns mode) ts is none = absurd (let other : true ≡ false = is in cc)
+unformed ps block place (Program at_) ts is none = absurd (cc)
+unformed ps block place (Task at_) ts is none = absurd (cc)
+unformed ps block place (Compool at_) ts is none = absurd (cc)
+unformed ps block place (Procedure at_ inputs outputs mode) ts is none = absurd (cc)
+
+-- none is called
+uncalled : {X : Type 0} (ps : List Phrase) (q : Phrase) (h : Head) → is_called_head h ≡ false → fits_declared ps q usage.Called (Some (sort_of_head h)) ≡ true → X
+unfolding sort_of_head
+uncalled ps q (Program place) none fits = absurd (cc)
+uncalled ps q (Task place) none fits = absurd (cc)
+uncalled ps q (Compool place) none fits = absurd (cc)
+uncalled ps q (Procedure place inputs outputs mode) none fits = absurd (cc)
+uncalled ps q (Function place inputs returns mode) none fits = absurd (cc)
+
+-- a name means plain data, which stand for those of a COMPOOL or for themselves
+data IsPlainName (site : Site) (name : List ℕ) (k : ℕ) (p : Phrase) (common : List Attribute) (item : Declared) : Type 0 where
+  ForData : (t : Kind) → type_of common item ≡ Some t → is_event_type (Some t) ≡ false → is_value_item common item ≡ false → StandsForData site.set.phrases k p common item → IsPlainName site name k p common item
+  ForStructure : (t : Kind) (own : IsOwn site name) → own.phrase.node ≡ OfItem common item → type_of common item ≡ Some t → is_event_type (Some t) ≡ false → is_structure_type (Some t) ≡ true → is_value_item common item ≡ false → IsPlainName site name k p common item
+  ForItself : (own : IsOwn site name) → IsPlainData site own.phrase → IsPlainName site name k p common item
+
 limit_fits : (ps : List Phrase) (q : Phrase) (name : List ℕ) (o : Option ℕ) → is_in_event ps q ≡ false
     → ◌≡◌ {A = Bool} (elim o [ None ↦ fits_named name usage.EventOrTime | Some k ↦ fits_declared ps q usage.EventOrTime (sort_at ps k) ]) (elim o [ None ↦ fits_named name usage.Value | Some k ↦ fits_declared ps q usage.Value (sort_at ps k) ])
 limit_fits ps q name None calm = fits_same (builtin_named name)
@@ -279,7 +319,7 @@ module _ (u : Uses) (site : Site) (named : IsSound rows site.set.phrases) (sound
       → is_in_unit site.set.phrases own.phrase.around.home ≡ true → is_event_type (Some t) ≡ eventful → NameAgrees u site site.set.phrases site.block name []
   typed_agrees name left may own common item t true is within typed home eventful =
       let eventful_type : is_event_type (type_of common item) ≡ true = ap is_event_type typed ∙ eventful in
-      event_agrees u site (asked_all u site name own may (eventful_sort own.phrase common item is eventful_type)) counted name own (record { common = common; item = item; declares = is; eventful = eventful_type; sized = event_single own.phrase common item within is eventful_type; within = home })
+      event_agrees u site (asked_all u site name own.number own.phrase own.meant own.there may (eventful_sort own.phrase common item is eventful_type)) counted name own (record { common = common; item = item; declares = is; eventful = eventful_type; sized = event_single own.phrase common item within is eventful_type; within = home })
   typed_agrees name left may own common item t false is within typed home eventful = structured_agrees name left own common item t (is_structure_type (Some t)) is within typed eventful refl
 
   item_agrees : (name : List ℕ) (left : AreLeft site name) (may : MayAsk u site name) (own : IsOwn site name) (common : List Attribute) (item : Declared) (o : Option Kind) → own.phrase.node ≡ OfItem common item → IsAmong own.phrase site.set.phrases → type_of common item ≡ o
@@ -293,9 +333,9 @@ module _ (u : Uses) (site : Site) (named : IsSound rows site.set.phrases) (sound
   unfolding sort_of sort_of_head is_eventful declared_at
   node_agrees name left may functions own owner q (OfTemplate unit head declarations) is within declares plain fits = absurd (cc)
   node_agrees name left may functions own owner q (OfUnit unit (Program place) declarations) is within declares plain fits =
-      process_agrees u site (asked_all u site name own may (ap (λ n. is_eventful (sort_of n)) is)) counted name own (record { name = unit; head = Program place; declarations = declarations; declares = is; process = refl })
+      process_agrees u site (asked_all u site name own.number own.phrase own.meant own.there may (ap (λ n. is_eventful (sort_of n)) is)) counted name own (record { name = unit; head = Program place; declarations = declarations; declares = is; process = refl })
   node_agrees name left may functions own owner q (OfUnit unit (Task place) declarations) is within declares plain fits =
-      process_agrees u site (asked_all u site name own may (ap (λ n. is_eventful (sort_of n)) is)) counted name own (record { name = unit; head = Task place; declarations = declarations; declares = is; process = refl })
+      process_agrees u site (asked_all u site name own.number own.phrase own.meant own.there may (ap (λ n. is_eventful (sort_of n)) is)) counted name own (record { name = unit; head = Task place; declarations = declarations; declares = is; process = refl })
   node_agrees name left may functions own owner q (OfUnit unit (Compool place) declarations) is within declares plain fits = absurd (cc)
   node_agrees name left may functions own owner q (OfUnit unit (Procedure place inputs outputs mode) declarations) is within declares plain fits = absurd (cc)
   node_agrees name left may functions own owner q (OfUnit unit (Function place inputs returns mode) declarations) is within declares plain fits =
@@ -314,6 +354,95 @@ module _ (u : Uses) (site : Site) (named : IsSound rows site.set.phrases) (sound
   builtin_by name may None undeclared is known_ fits = absurd (cc)
   builtin_by name may (Some b) undeclared is known_ fits = builtin_agrees u site name (record { undeclared = undeclared; function = b; named = is; alone = alone_form (form_of b) known_ fits; asked = λ asking. asked_runtime u site name b may undeclared is asking })
 
+  structure_known : (p : Phrase) (common : List Attribute) (item : Declared) (t : Kind) → type_of common item ≡ Some t
+      → data_at site.set.phrases p [] (OfItem common item) ≡ Some (data_with (class_of_type t) (dimensions_of (sizes_of common item)) (has_copies t))
+  unfolding data_at is_nil data_of
+  structure_known p common item t typed = ap (λ o. data_of o (sizes_of common item)) typed
+
+  -- plain data
+  plainly : (name : List ℕ) (left : AreLeft site name) (k : ℕ) (p : Phrase) (common : List Attribute) (item : Declared) → means site.set.phrases site.block name ≡ Some k → slice_get site.set.phrases k ≡ Some p → p.node ≡ OfItem common item
+      → is_plain common item ≡ true → IsPlainName site name k p common item
+  plainly name left k p common item meant there is plain = by (type_of common item) refl (item_typed p common item (at_among site.set.phrases k p there) is) (left.pooled k p common item meant there is) where
+    by : (o : Option Kind) → type_of common item ≡ o → is_some o ≡ true → StandsForData site.set.phrases k p common item ⊎ ((standing_for site.set.phrases k ≡ k) × (is_in_file site.set.phrases p.around.home ≡ false)) → IsPlainName site name k p common item
+    by None typed some stands = absurd (cc)
+    by (Some t) typed some (inl stands) =
+        let parts = all_false (is_event_type (type_of common item)) (is_value_item common item) plain in ForData t typed (ap is_event_type (sym typed) ∙ parts.0) parts.1 stands
+    by (Some t) typed some (inr itself) = by_shape (is_structure_type (Some t)) refl where
+      parts : (is_event_type (type_of common item) ≡ false) × (is_value_item common item ≡ false)
+      parts = all_false (is_event_type (type_of common item)) (is_value_item common item) plain
+
+      by_shape : (b : Bool) → is_structure_type (Some t) ≡ b → IsPlainName site name k p common item
+      by_shape true structured = ForStructure t (record { number = k; meant = meant; phrase = p; there = there; own = itself.0 }) is typed (ap is_event_type (sym typed) ∙ parts.0) structured parts.1
+      by_shape false shape =
+          ForItself (record { number = k; meant = meant; phrase = p; there = there; own = itself.0 })
+          (plain_data site.set.phrases named sound counted declared literals site refl has p (placed p (at_among site.set.phrases k p there)) common item t is typed parts.1 (ap is_event_type (sym typed) ∙ parts.0) shape)
+
+  plain_agrees : (name : List ℕ) (k : ℕ) (p : Phrase) (common : List Attribute) (item : Declared) → means site.set.phrases site.block name ≡ Some k → slice_get site.set.phrases k ≡ Some p → p.node ≡ OfItem common item → IsPlainName site name k p common item
+      → NameAgrees u site site.set.phrases site.block name []
+  plain_agrees name k p common item meant there is (ForData t typed eventless stored stands) = pooled_agree u site named sound counted declared literals has placed k p name common item t meant there is typed eventless stored stands
+  plain_agrees name k p common item meant there is (ForItself own data_) = plain_data_agree u site name own data_
+  plain_agrees name k p common item meant there is (ForStructure t own declares typed eventless structured stored) = structure_agrees u site name [] own (structure_data own.phrase common item t declares typed structured)
+
+  plain_cells : (name : List ℕ) (k : ℕ) (p : Phrase) (common : List Attribute) (item : Declared) → means site.set.phrases site.block name ≡ Some k → slice_get site.set.phrases k ≡ Some p → p.node ≡ OfItem common item → IsPlainName site name k p common item
+      → CellsAgree site.set.phrases [] (means site.set.phrases site.block name) (name_meant (here_at site) name [])
+  plain_cells name k p common item meant there is (ForData t typed eventless stored stands) = pooled_cells u site named sound counted declared literals has placed k p name common item t meant there is typed eventless stored stands
+  plain_cells name k p common item meant there is (ForItself own data_) = plain_cells_agree u site name own data_
+  plain_cells name k p common item meant there is (ForStructure t own declares typed eventless structured stored) = structure_cells u site name [] own (structure_data own.phrase common item t declares typed structured)
+
+  plain_forms : (name : List ℕ) (k : ℕ) (p : Phrase) (common : List Attribute) (item : Declared) → means site.set.phrases site.block name ≡ Some k → slice_get site.set.phrases k ≡ Some p → p.node ≡ OfItem common item → IsPlainName site name k p common item
+      → FormAgrees u site site.set.phrases site.block name
+  plain_forms name k p common item meant there is (ForData t typed eventless stored stands) = pooled_formed u site named sound counted declared literals has placed k p name common item t meant there is typed eventless stored stands
+  plain_forms name k p common item meant there is (ForItself own data_) = data_formed u site name own data_
+  plain_forms name k p common item meant there is (ForStructure t own declares typed eventless structured stored) =
+      formed_by u site name own (OfItem common item) (lying u site own.phrase common item) declares (item_meant_so u site own.phrase common item t typed eventless stored)
+      (structure_alike (data_at site.set.phrases own.phrase [] (OfItem common item)) [] (shape_of site.set.phrases site.set.constants own.phrase common item) (data_with (class_of_type t) (dimensions_of (sizes_of common item)) (has_copies t)) (structure_known own.phrase common item t typed) (structure_class t structured))
+
+  -- an event that a template of a COMPOOL declares stands for one
+  stood_for : (name : List ℕ) (left : AreLeft site name) (k : ℕ) (p : Phrase) (common : List Attribute) (item : Declared) → means site.set.phrases site.block name ≡ Some k → slice_get site.set.phrases k ≡ Some p → p.node ≡ OfItem common item
+      → is_in_file site.set.phrases p.around.home ≡ true → StandsForData site.set.phrases k p common item
+  stood_for name left k p common item meant there is filed = by (left.pooled k p common item meant there is) where
+    by : StandsForData site.set.phrases k p common item ⊎ ((standing_for site.set.phrases k ≡ k) × (is_in_file site.set.phrases p.around.home ≡ false)) → StandsForData site.set.phrases k p common item
+    by (inl stands) = stands
+    by (inr itself) = absurd (let other : true ≡ false = sym filed ∙ itself.1 in cc)
+
+  event_for : (k : ℕ) (p : Phrase) (common : List Attribute) (item : Declared) → is_event_type (type_of common item) ≡ true → (stands : StandsForData site.set.phrases k p common item) → IsEvent site stands.phrase
+  event_for k p common item eventful stands =
+      let eventful_too : is_event_type (type_of stands.other_common stands.other) ≡ true = sym stands.same.attributes.words.event ∙ eventful in
+      record {
+        common = stands.other_common;
+        item = stands.other;
+        declares = stands.declares;
+        eventful = eventful_too;
+        sized = event_single stands.phrase stands.other_common stands.other (at_among site.set.phrases stands.phrase.number stands.phrase stands.there) stands.declares eventful_too;
+        within = stands.within;
+      }
+
+  -- a name that means a declaration
+  named_as : (name : List ℕ) (left : AreLeft site name) (may : MayAsk u site name) (functions : AreFunctions u site name) (owner k : ℕ) (q p : Phrase) → means site.set.phrases site.block name ≡ Some k → slice_get site.set.phrases k ≡ Some p
+      → declared_at p.number p.around p.node ≡ Some (key space.Declared owner name) → IsShown site.set.phrases p → fits_declared site.set.phrases q usage.Value (sort_of p.node) ≡ true → NameAgrees u site site.set.phrases site.block name []
+  unfolding sort_of
+  named_as name left may functions owner k q p meant there declares (Plain plain) fits =
+      node_agrees name left may functions (record { number = k; meant = meant; phrase = p; there = there; own = own_number site.set.phrases k p there plain }) owner q p.node refl (at_among site.set.phrases k p there) declares plain fits
+  named_as name left may functions owner k q p meant there declares (Written template head declarations is none) fits =
+      let process = value_process site.set.phrases q head none (ap (λ n. fits_declared site.set.phrases q usage.Value (sort_of n)) (sym is) ∙ fits) in
+      written_process_agrees u site (asked_all u site name k p meant there may (ap (λ n. is_eventful (sort_of n)) is ∙ process.1)) counted name (record {
+        number = k;
+        meant = meant;
+        phrase = p;
+        there = there;
+        template = template;
+        head = head;
+        declarations = declarations;
+        declares = is;
+        process = process.0;
+        standing = left.standing k p template head declarations meant there is process.0;
+      })
+  named_as name left may functions owner k q p meant there declares (Pooled common item is plain) fits = plain_agrees name k p common item meant there is (plainly name left k p common item meant there is plain)
+  named_as name left may functions owner k q p meant there declares (PooledEvent common item is eventful filed) fits =
+      let stands = stood_for name left k p common item meant there is filed in
+      event_agrees_as u site (asked_all u site name k p meant there may (eventful_sort p common item is eventful)) counted name k p common item meant there is eventful
+      (event_single p common item (at_among site.set.phrases k p there) is eventful) stands.phrase.number stands.phrase stands.stands stands.there (event_for k p common item eventful stands)
+
   meant_by_name : (name : List ℕ) (left : AreLeft site name) (may : MayAsk u site name) (functions : AreFunctions u site name) (q : Phrase) (o : Option ℕ) → means site.set.phrases site.block name ≡ o → (is_some o || is_known_builtin name usage.Value) ≡ true
       → elim o [ None ↦ fits_named name usage.Value | Some k ↦ fits_declared site.set.phrases q usage.Value (sort_at site.set.phrases k) ] ≡ true → NameAgrees u site site.set.phrases site.block name []
   meant_by_name name left may functions q None meant known_ fits = builtin_by name may (builtin_named name) meant refl known_ fits
@@ -321,8 +450,7 @@ module _ (u : Uses) (site : Site) (named : IsSound rows site.set.phrases) (sound
       let is_declared = declared site.block name k meant in
       let first = is_declared.1 in
       let p : Phrase = first.declaring in
-      let plain = left.untemplated k p meant first.there in
-      node_agrees name left may functions (record { number = k; meant = meant; phrase = p; there = first.there; own = own_number site.set.phrases k p first.there plain }) is_declared.0 q p.node refl (at_among site.set.phrases k p first.there) first.declares plain
+      named_as name left may functions is_declared.0 k q p meant first.there first.declares (shown_so site.set.phrases p p.node refl (left.untemplated k p meant first.there))
       (ap (λ o. fits_declared site.set.phrases q usage.Value (option_and_then (λ (x : Phrase). sort_of x.node) o)) (sym first.there) ∙ fits)
 
   -- a name that is used as a value
@@ -394,6 +522,17 @@ module _ (u : Uses) (site : Site) (named : IsSound rows site.set.phrases) (sound
   node_receives name own q (OfStructure structure parts) is within fits may = absurd (cc)
   node_receives name own q other is within fits may = absurd (cc)
 
+  received_as : (name : List ℕ) (left : AreLeft site name) (k : ℕ) (q p : Phrase) → means site.set.phrases site.block name ≡ Some k → slice_get site.set.phrases k ≡ Some p → IsShown site.set.phrases p → fits_declared site.set.phrases q usage.Receiver (sort_of p.node) ≡ true
+      → may_receive site.set.phrases p p.node ≡ true → CellsAgree site.set.phrases [] (means site.set.phrases site.block name) (name_meant (here_at site) name [])
+  unfolding may_receive
+  received_as name left k q p meant there (Plain plain) fits may = node_receives name (record { number = k; meant = meant; phrase = p; there = there; own = own_number site.set.phrases k p there plain }) q p.node refl (at_among site.set.phrases k p there) fits may
+  received_as name left k q p meant there (Written template head declarations is none) fits may =
+      let other : may_receive site.set.phrases p (OfTemplate template head declarations) ≡ true = ap (may_receive site.set.phrases p) (sym is) ∙ may in absurd (cc)
+  received_as name left k q p meant there (Pooled common item is plain) fits may = plain_cells name k p common item meant there is (plainly name left k p common item meant there is plain)
+  received_as name left k q p meant there (PooledEvent common item is eventful filed) fits may =
+      absurd (let other : true ≡ false =
+      sym eventful ∙ (neither_true (is_some (attributes.constant_of common item)) (is_input_parameter site.set.phrases p item.name.name) (is_event_type (type_of common item)) (ap (may_receive site.set.phrases p) (sym is) ∙ may)).1 in cc)
+
   no_builtin : {X : Type 0} (o : Option Builtin) → elim o [ None ↦ false | Some b ↦ is_known usage.Receiver (form_of b) ] ≡ true
       → elim o [ None ↦ true | Some b ↦ not (is_known usage.Receiver (form_of b)) || fits_builtin usage.Receiver (form_of b) ] ≡ true → X
   no_builtin None known_ fits = absurd (cc)
@@ -406,8 +545,7 @@ module _ (u : Uses) (site : Site) (named : IsSound rows site.set.phrases) (sound
   received_by_name name left q place (Some k) meant known_ fits none =
       let first = (declared site.block name k meant).1 in
       let p : Phrase = first.declaring in
-      let plain = left.untemplated k p meant first.there in
-      node_receives name (record { number = k; meant = meant; phrase = p; there = first.there; own = own_number site.set.phrases k p first.there plain }) q p.node refl (at_among site.set.phrases k p first.there)
+      received_as name left k q p meant first.there (shown_so site.set.phrases p p.node refl (left.untemplated k p meant first.there))
       (ap (λ o. fits_declared site.set.phrases q usage.Receiver (option_and_then (λ (x : Phrase). sort_of x.node) o)) (sym first.there) ∙ fits)
       (may_be_received (may_receive site.set.phrases p p.node) (709, place) (ap (option_and_then (received_by site.set.phrases place)) (sym first.there) ∙ none))
 
@@ -439,6 +577,19 @@ module _ (u : Uses) (site : Site) (named : IsSound rows site.set.phrases) (sound
   node_puts name own x (OfTemporaryGroup labels variable) is within none = temporary_cells_agree u site name own (record { labels = labels; variable = variable; declares = is })
   node_puts name own x other is within none = absurd (cc)
 
+  put_as : (name : List ℕ) (left : AreLeft site name) (x : Subscript) (k : ℕ) (p : Phrase) → means site.set.phrases site.block name ≡ Some k → slice_get site.set.phrases k ≡ Some p → IsShown site.set.phrases p → put_fault site.set.phrases p [] x p.node ≡ None
+      → CellsAgree site.set.phrases [] (means site.set.phrases site.block name) (name_meant (here_at site) name [])
+  unfolding put_fault
+  put_as name left x k p meant there (Plain plain) none = node_puts name (record { number = k; meant = meant; phrase = p; there = there; own = own_number site.set.phrases k p there plain }) x p.node refl (at_among site.set.phrases k p there) none
+  put_as name left x k p meant there (Written template head declarations is uncalled_) none =
+      let other : put_fault site.set.phrases p [] x (OfTemplate template head declarations) ≡ None = ap (put_fault site.set.phrases p [] x) (sym is) ∙ none in absurd (cc)
+  put_as name left x k p meant there (Pooled common item is plain) none = plain_cells name k p common item meant there is (plainly name left k p common item meant there is plain)
+  put_as name left x k p meant there (PooledEvent common item is eventful filed) none =
+      absurd (let other : true ≡ false =
+      sym eventful
+      ∙ (unfixed (is_event_type (type_of common item)) (is_some (attributes.constant_of common item)) (is_input_parameter site.set.phrases p item.name.name) (is_component (data_at site.set.phrases p [] (OfItem common item)) x)
+      (ap (put_fault site.set.phrases p [] x) (sym is) ∙ none)).0 in cc)
+
   put_by_name : (name : List ℕ) (left : AreLeft site name) (x : Subscript) (place : Place) (o : Option ℕ) → means site.set.phrases site.block name ≡ o → (is_some o || is_known_builtin name usage.Output) ≡ true
       → ◌≡◌ {A = Option (ℕ × Place)} (elim o [ None ↦ if is_some (builtin_named name) then Some (722, place) else None | Some k ↦ elim (slice_get site.set.phrases k) [ None ↦ None | Some r ↦ at place (put_fault site.set.phrases r [] x r.node) ] ]) None
       → CellsAgree site.set.phrases [] (means site.set.phrases site.block name) (name_meant (here_at site) name [])
@@ -446,8 +597,7 @@ module _ (u : Uses) (site : Site) (named : IsSound rows site.set.phrases) (sound
   put_by_name name left x place (Some k) meant known_ none =
       let first = (declared site.block name k meant).1 in
       let p : Phrase = first.declaring in
-      let plain = left.untemplated k p meant first.there in
-      node_puts name (record { number = k; meant = meant; phrase = p; there = first.there; own = own_number site.set.phrases k p first.there plain }) x p.node refl (at_among site.set.phrases k p first.there)
+      put_as name left x k p meant first.there (shown_so site.set.phrases p p.node refl (left.untemplated k p meant first.there))
       (no_rule place (put_fault site.set.phrases p [] x p.node)
       (ap (λ (o : Option Phrase). elim o [ None ↦ None | Some r ↦ at place (put_fault site.set.phrases r [] x r.node) ]) (sym first.there) ∙ none))
 
@@ -486,6 +636,23 @@ module _ (u : Uses) (site : Site) (named : IsSound rows site.set.phrases) (sound
   node_event name own owner q (OfPart bottom part) is within declares plain fits = let other : Some space.Part ≡ Some space.Declared = ap space_of declares in absurd (cc)
   node_event name own owner q other is within declares plain fits = absurd (cc)
 
+  event_as : (image : ImageParts) (e : Eventful) (left : AreLeft site e.name.name) (owner k : ℕ) (q p : Phrase) → HasEvents image site → means site.set.phrases site.block e.name.name ≡ Some k → slice_get site.set.phrases k ≡ Some p
+      → declared_at p.number p.around p.node ≡ Some (key space.Declared owner e.name.name) → IsShown site.set.phrases p → fits_declared site.set.phrases q usage.Event (sort_of p.node) ≡ true → EventAgrees image site site.set.phrases site.block e
+  unfolding sort_of event_for
+  event_as image e left owner k q p events meant there declares (Plain plain) fits =
+      let own : IsOwn site e.name.name = record { number = k; meant = meant; phrase = p; there = there; own = own_number site.set.phrases k p there plain } in
+      event_known image site counted events e own (node_event e.name.name own owner q p.node refl (at_among site.set.phrases k p there) declares plain fits)
+  event_as image e left owner k q p events meant there declares (Written template head declarations is none) fits =
+      unchanged site.set.phrases q head none (ap (λ n. fits_declared site.set.phrases q usage.Event (sort_of n)) (sym is) ∙ fits)
+  event_as image e left owner k q p events meant there declares (Pooled common item is plain) fits =
+      absurd (let other : true ≡ false =
+      sym (event_type site.set.phrases q (type_of common item) (ap (λ n. fits_declared site.set.phrases q usage.Event (sort_of n)) (sym is) ∙ fits))
+      ∙ (all_false (is_event_type (type_of common item)) (is_value_item common item) plain).0 in cc)
+  event_as image e left owner k q p events meant there declares (PooledEvent common item is eventful filed) fits =
+      let stands = stood_for e.name.name left k p common item meant there is filed in
+      event_known_as image site counted events e k p common item meant there is eventful stands.phrase.number stands.phrase stands.stands stands.there (event_for k p common item eventful stands)
+      (λ marked. sym stands.same.attributes.words.latched ∙ marked)
+
   event_by_name : (image : ImageParts) (e : Eventful) (q : Phrase) (o : Option ℕ) → AreLeft site e.name.name → HasEvents image site → means site.set.phrases site.block e.name.name ≡ o → (is_some o || is_known_builtin e.name.name usage.Event) ≡ true
       → elim o [ None ↦ fits_named e.name.name usage.Event | Some k ↦ fits_declared site.set.phrases q usage.Event (sort_at site.set.phrases k) ] ≡ true → EventAgrees image site site.set.phrases site.block e
   event_by_name image e q None left events meant known_ fits = no_event (builtin_named e.name.name) known_ fits
@@ -493,11 +660,8 @@ module _ (u : Uses) (site : Site) (named : IsSound rows site.set.phrases) (sound
       let is_declared = declared site.block e.name.name k meant in
       let first = is_declared.1 in
       let p : Phrase = first.declaring in
-      let plain = left.untemplated k p meant first.there in
-      let own : IsOwn site e.name.name = record { number = k; meant = meant; phrase = p; there = first.there; own = own_number site.set.phrases k p first.there plain } in
-      event_known image site counted events e own
-      (node_event e.name.name own is_declared.0 q p.node refl (at_among site.set.phrases k p first.there) first.declares plain
-      (ap (λ o. fits_declared site.set.phrases q usage.Event (option_and_then (λ (x : Phrase). sort_of x.node) o)) (sym first.there) ∙ fits))
+      event_as image e left is_declared.0 k q p events meant first.there first.declares (shown_so site.set.phrases p p.node refl (left.untemplated k p meant first.there))
+      (ap (λ o. fits_declared site.set.phrases q usage.Event (option_and_then (λ (x : Phrase). sort_of x.node) o)) (sym first.there) ∙ fits)
 
   pub changed_agrees : (image : ImageParts) (q : Phrase) (e : Eventful) → AreLeft site e.name.name → HasEvents image site → IsAmong q site.set.phrases → q.node ≡ OfEvent e → q.around.block ≡ site.block → EventAgrees image site site.set.phrases site.block e
   unfolding unknown misused used
@@ -525,12 +689,31 @@ module _ (u : Uses) (site : Site) (named : IsSound rows site.set.phrases) (sound
       let type_ = integer_type t both.0 in
       cells_by name own common item t false is within typed type_.0 both.1 type_.1
 
+  -- no event counts
+  no_event_varies : (p : Phrase) (common : List Attribute) (item : Declared) (o : Option Kind) → type_of common item ≡ o → counted_fault site.set.phrases p common item (data_of o (sizes_of common item)) ≡ None → is_event_type (type_of common item) ≡ false
+  unfolding counted_fault data_of is_event_type
+  no_event_varies p common item None typed none = ap is_event_type typed
+  no_event_varies p common item (Some t) typed none =
+      let d : Data = data_with (class_of_type t) (dimensions_of (sizes_of common item)) (has_copies t) in
+      let both = single_free (is_integer (class_of_type t)) (not (nat_lt 0 d.dimensions || d.copies)) (is_some (attributes.constant_of common item)) (is_input_parameter site.set.phrases p item.name.name) none in
+      ap is_event_type typed ∙ (integer_type t both.0).0
+
   node_varies : (name : List ℕ) (own : IsOwn site name) (n : Node) → own.phrase.node ≡ n → IsAmong own.phrase site.set.phrases → variable_fault site.set.phrases own.phrase n ≡ None
       → CellsAgree site.set.phrases [] (means site.set.phrases site.block name) (name_meant (here_at site) name [])
   unfolding variable_fault data_at is_nil
   node_varies name own (OfItem common item) is within none = item_varies name own common item (type_of common item) is within refl none
   node_varies name own (OfTemporaryGroup labels variable) is within none = temporary_cells_agree u site name own (record { labels = labels; variable = variable; declares = is })
   node_varies name own other is within none = absurd (cc)
+
+  varied_as : (name : List ℕ) (left : AreLeft site name) (k : ℕ) (p : Phrase) → means site.set.phrases site.block name ≡ Some k → slice_get site.set.phrases k ≡ Some p → IsShown site.set.phrases p → variable_fault site.set.phrases p p.node ≡ None
+      → CellsAgree site.set.phrases [] (means site.set.phrases site.block name) (name_meant (here_at site) name [])
+  unfolding variable_fault data_at is_nil
+  varied_as name left k p meant there (Plain plain) none = node_varies name (record { number = k; meant = meant; phrase = p; there = there; own = own_number site.set.phrases k p there plain }) p.node refl (at_among site.set.phrases k p there) none
+  varied_as name left k p meant there (Written template head declarations is uncalled_) none =
+      let other : variable_fault site.set.phrases p (OfTemplate template head declarations) ≡ None = ap (variable_fault site.set.phrases p) (sym is) ∙ none in absurd (cc)
+  varied_as name left k p meant there (Pooled common item is plain) none = plain_cells name k p common item meant there is (plainly name left k p common item meant there is plain)
+  varied_as name left k p meant there (PooledEvent common item is eventful filed) none =
+      absurd (let other : true ≡ false = sym eventful ∙ no_event_varies p common item (type_of common item) refl (ap (variable_fault site.set.phrases p) (sym is) ∙ none) in cc)
 
   varied_by_name : (name : List ℕ) (left : AreLeft site name) (place : Place) (o : Option ℕ) → means site.set.phrases site.block name ≡ o → (is_some o || is_known_builtin name usage.Variable) ≡ true
       → ◌≡◌ {A = Option (ℕ × Place)} (elim o [ None ↦ if is_some (builtin_named name) then Some (712, place) else None | Some k ↦ elim (slice_get site.set.phrases k) [ None ↦ None | Some r ↦ at place (variable_fault site.set.phrases r r.node) ] ]) None
@@ -539,8 +722,7 @@ module _ (u : Uses) (site : Site) (named : IsSound rows site.set.phrases) (sound
   varied_by_name name left place (Some k) meant known_ none =
       let first = (declared site.block name k meant).1 in
       let p : Phrase = first.declaring in
-      let plain = left.untemplated k p meant first.there in
-      node_varies name (record { number = k; meant = meant; phrase = p; there = first.there; own = own_number site.set.phrases k p first.there plain }) p.node refl (at_among site.set.phrases k p first.there)
+      varied_as name left k p meant first.there (shown_so site.set.phrases p p.node refl (left.untemplated k p meant first.there))
       (no_rule place (variable_fault site.set.phrases p p.node) (ap (λ (o : Option Phrase). elim o [ None ↦ None | Some r ↦ at place (variable_fault site.set.phrases r r.node) ]) (sym first.there) ∙ none))
 
   pub variable_agrees : (q : Phrase) (name : Naming) → AreLeft site name.name → IsAmong q site.set.phrases → q.node ≡ OfVariable name → q.around.block ≡ site.block
@@ -602,6 +784,19 @@ module _ (u : Uses) (site : Site) (named : IsSound rows site.set.phrases) (sound
   node_forms name left functions parameters own f place ts (OfTemporaryGroup labels variable) is within plain none = temporary_formed u site name own (record { labels = labels; variable = variable; declares = is })
   node_forms name left functions parameters own f place ts other is within plain none = absurd (cc)
 
+  formed_as : (name : List ℕ) (left : AreLeft site name) (functions : AreFunctions u site name) (parameters : FunctionParameters u site name) (f : Phrase) (place : Place) (ts : Expressions) (k : ℕ) (p : Phrase) → means site.set.phrases site.block name ≡ Some k
+      → slice_get site.set.phrases k ≡ Some p → IsShown site.set.phrases p → declared_fault site.set.phrases f place ts p p.node ≡ None → FormAgrees u site site.set.phrases site.block name
+  unfolding declared_fault
+  formed_as name left functions parameters f place ts k p meant there (Plain plain) none =
+      node_forms name left functions parameters (record { number = k; meant = meant; phrase = p; there = there; own = own_number site.set.phrases k p there plain }) f place ts p.node refl (at_among site.set.phrases k p there) plain none
+  formed_as name left functions parameters f place ts k p meant there (Written template head declarations is uncalled_) none =
+      unformed site.set.phrases f.around.block place head ts uncalled_ (ap (declared_fault site.set.phrases f place ts p) (sym is) ∙ none)
+  formed_as name left functions parameters f place ts k p meant there (Pooled common item is plain) none = plain_forms name k p common item meant there is (plainly name left k p common item meant there is plain)
+  formed_as name left functions parameters f place ts k p meant there (PooledEvent common item is eventful filed) none =
+      let stands = stood_for name left k p common item meant there is filed in
+      event_formed_as u site name k p common item counted meant there is eventful (event_single p common item (at_among site.set.phrases k p there) is eventful) stands.phrase.number stands.phrase stands.stands stands.there
+      (event_for k p common item eventful stands)
+
   builtin_forms : (name : List ℕ) (o : Option Builtin) → means site.set.phrases site.block name ≡ None → builtin_named name ≡ o → elim o [ None ↦ false | Some b ↦ is_known usage.CallForm (form_of b) ] ≡ true → FormAgrees u site site.set.phrases site.block name
   builtin_forms name None undeclared is known_ = absurd (cc)
   builtin_forms name (Some b) undeclared is known_ = builtin_formed u site name b undeclared is
@@ -613,8 +808,7 @@ module _ (u : Uses) (site : Site) (named : IsSound rows site.set.phrases) (sound
   formed_by_name name left functions parameters f place ts (Some k) meant known_ none =
       let first = (declared site.block name k meant).1 in
       let p : Phrase = first.declaring in
-      let plain = left.untemplated k p meant first.there in
-      node_forms name left functions parameters (record { number = k; meant = meant; phrase = p; there = first.there; own = own_number site.set.phrases k p first.there plain }) f place ts p.node refl (at_among site.set.phrases k p first.there) plain
+      formed_as name left functions parameters f place ts k p meant first.there (shown_so site.set.phrases p p.node refl (left.untemplated k p meant first.there))
       (ap (option_and_then (λ (r : Phrase). declared_fault site.set.phrases f place ts r r.node)) (sym first.there) ∙ none)
 
   -- a call form
@@ -648,6 +842,19 @@ module _ (u : Uses) (site : Site) (named : IsSound rows site.set.phrases) (sound
   node_called name procedures own owner q (OfPart bottom part) is declares plain fits = let other : Some space.Part ≡ Some space.Declared = ap space_of declares in absurd (cc)
   node_called name procedures own owner q other is declares plain fits = absurd (cc)
 
+  called_as : (name : Naming) (procedures : AreProcedures u site name.name) (owner k : ℕ) (q p : Phrase) → means site.set.phrases site.block name.name ≡ Some k → slice_get site.set.phrases k ≡ Some p
+      → declared_at p.number p.around p.node ≡ Some (key space.Declared owner name.name) → IsShown site.set.phrases p → fits_declared site.set.phrases q usage.Called (sort_of p.node) ≡ true → ProcedureAgrees u site site.set.phrases site.block name
+  unfolding sort_of sort_of_type
+  called_as name procedures owner k q p meant there declares (Plain plain) fits =
+      let own : IsOwn site name.name = record { number = k; meant = meant; phrase = p; there = there; own = own_number site.set.phrases k p there plain } in
+      procedure_agrees u site name own counted (node_called name.name procedures own owner q p.node refl declares plain fits)
+  called_as name procedures owner k q p meant there declares (Written template head declarations is none) fits =
+      uncalled site.set.phrases q head none (ap (λ n. fits_declared site.set.phrases q usage.Called (sort_of n)) (sym is) ∙ fits)
+  called_as name procedures owner k q p meant there declares (Pooled common item is plain) fits =
+      absurd (no_call site.set.phrases q (type_of common item) (ap (λ n. fits_declared site.set.phrases q usage.Called (sort_of n)) (sym is) ∙ fits))
+  called_as name procedures owner k q p meant there declares (PooledEvent common item is eventful filed) fits =
+      absurd (no_call site.set.phrases q (type_of common item) (ap (λ n. fits_declared site.set.phrases q usage.Called (sort_of n)) (sym is) ∙ fits))
+
   called_by_name : (name : Naming) (left : AreLeft site name.name) (procedures : AreProcedures u site name.name) (q : Phrase) (o : Option ℕ) → means site.set.phrases site.block name.name ≡ o → (is_some o || is_known_builtin name.name usage.Called) ≡ true
       → elim o [ None ↦ fits_named name.name usage.Called | Some k ↦ fits_declared site.set.phrases q usage.Called (sort_at site.set.phrases k) ] ≡ true → ProcedureAgrees u site site.set.phrases site.block name
   called_by_name name left procedures q None meant known_ fits = no_builtin_call (builtin_named name.name) known_ fits
@@ -655,11 +862,8 @@ module _ (u : Uses) (site : Site) (named : IsSound rows site.set.phrases) (sound
       let is_declared = declared site.block name.name k meant in
       let first = is_declared.1 in
       let p : Phrase = first.declaring in
-      let plain = left.untemplated k p meant first.there in
-      let own : IsOwn site name.name = record { number = k; meant = meant; phrase = p; there = first.there; own = own_number site.set.phrases k p first.there plain } in
-      procedure_agrees u site name own counted
-      (node_called name.name procedures own is_declared.0 q p.node refl first.declares plain
-      (ap (λ o. fits_declared site.set.phrases q usage.Called (option_and_then (λ (x : Phrase). sort_of x.node) o)) (sym first.there) ∙ fits))
+      called_as name procedures is_declared.0 k q p meant first.there first.declares (shown_so site.set.phrases p p.node refl (left.untemplated k p meant first.there))
+      (ap (λ o. fits_declared site.set.phrases q usage.Called (option_and_then (λ (x : Phrase). sort_of x.node) o)) (sym first.there) ∙ fits)
 
   -- CALL
   pub call_agrees : (q : Phrase) (name : Naming) (ts : Expressions) (receivers : List Reference) → AreLeft site name.name → AreProcedures u site name.name → IsAmong q site.set.phrases → q.node ≡ OfCall name ts receivers → q.around.block ≡ site.block

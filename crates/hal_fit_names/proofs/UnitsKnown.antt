@@ -4,12 +4,12 @@ use Rattle.std.specs.Option.{option_and_then, is_some}
 use Rattle.std.proofs.lemmas.List.{length-map}
 use Rattle.hal_base.specs.declared.refusal.Place.{Place}
 use Rattle.hal_grammar.specs.Leaves.{Naming}
-use Rattle.hal_grammar.specs.Declarations.{Kind, Declaration}
+use Rattle.hal_grammar.specs.Declarations.{Attribute, Kind, Declaration, Declared}
 use Rattle.hal_grammar.specs.Expressions.{Expression, Literal, Decimal, Refers, Subscript}
 use Rattle.hal_grammar.specs.Units.{Head, Procedure, Function}
 use Rattle.hal_phrases.specs.declared.role.Role.{Role}
 use Rattle.hal_phrases.specs.declared.role.Role.TheVariants as role
-use Rattle.hal_phrases.specs.Phrases.{Node, Phrase, OfExpression, OfReference, OfSubscriptName, OfCallForm, OfCall, OfEvent, OfVariable, OfTemporaryGroup, OfAssignment, OfReturn, OfUnit}
+use Rattle.hal_phrases.specs.Phrases.{Node, Phrase, OfExpression, OfReference, OfSubscriptName, OfCallForm, OfCall, OfEvent, OfVariable, OfTemporaryGroup, OfAssignment, OfItem, OfReturn, OfTemplate, OfUnit}
 use Rattle.hal_names.specs.declared.key.Space.TheVariants as space
 use Rattle.hal_names.specs.Keys.{key, own}
 use Rattle.hal_names.specs.Laws.{IsCounted}
@@ -28,7 +28,7 @@ use Rattle.hal_constants.specs.declared.constant.Constant.TheVariants as constan
 use Rattle.hal_constants.specs.Constants.{constant_of}
 use Rattle.hal_constants.specs.Known.{Known}
 use Rattle.hal_meaning.specs.Bodies as bodies
-use Rattle.hal_meaning.specs.Bodies.{Body, callee_at, called_block, is_called, processes_of, standing_for}
+use Rattle.hal_meaning.specs.Bodies.{Body, callee_at, called_block, is_called, is_process_head, processes_of, standing_for}
 use Rattle.hal_meaning.specs.Calls.{inputs_of}
 use Rattle.hal_meaning.specs.Events as starts
 use Rattle.hal_meaning.specs.Events.{declared_events}
@@ -43,6 +43,7 @@ use Rattle.hal_agreement.specs.Sites.{Site, here_at, within_block}
 use Rattle.hal_fitting.specs.Fitting.{Ground}
 use Rattle.hal_fit_expr.specs.Uses.{Uses}
 use Rattle.hal_fit_constants.specs.Names.{NamesAgree}
+use Rattle.hal_fit_rules.specs.Happening.{StandsForProcess}
 use Rattle.hal_fit_rules.specs.Passing.{IsParameter, AreParameters}
 use Rattle.hal_fit_rules.specs.Signalled.{HasEvents}
 use Rattle.hal_fit_rules.specs.Used.{LeafKnown, ChannelKnown, ReturnKnown, NodeKnown, ReferenceKnown, PhraseKnown, UnitKnown}
@@ -53,7 +54,8 @@ use Rattle.hal_fit_names.specs.Known.{is_left_node}
 use Rattle.hal_fit_names.specs.Named.{AreFunctions, AreLeft, AreProcedures, FunctionParameters}
 use Rattle.hal_fit_names.specs.Serving.{AsksNothing, MayAsk, ServesUnit}
 use Rattle.hal_fit_names.specs.Spelled.{AreSpelled}
-use Rattle.hal_fit_names.specs.Suited.{NodeIsFit, HasFitLiterals, AreDeclared}
+use Rattle.hal_fit_names.specs.Standing.{StandsForData}
+use Rattle.hal_fit_names.specs.Suited.{NodeIsFit, is_in_file, HasFitLiterals, AreDeclared}
 use Rattle.hal_fit_names.specs.Used.{IsDeclaredParameter, AreDeclaredParameters, HaveValues, IsHome, NamesAreOwn}
 use Rattle.hal_fit_names.proofs.Asking.{unasked, unasked_otherwise}
 use Rattle.hal_fit_names.proofs.Callable.{function_known, procedure_known}
@@ -61,7 +63,7 @@ use Rattle.hal_fit_names.proofs.Channelled.{channel_agrees}
 use Rattle.hal_fit_names.proofs.Declaring.{parameter_known}
 use Rattle.hal_fit_names.proofs.KindsMeant.{name_ranged}
 use Rattle.hal_fit_names.proofs.MeantNames.{item_typed, value_agrees, subscript_agrees, limit_agrees, receiver_agrees, output_agrees, variable_agrees, changed_agrees, form_agrees, call_agrees}
-use Rattle.hal_fit_names.proofs.Owning.{own_number}
+use Rattle.hal_fit_names.proofs.Owning.{called_plain, own_number}
 use Rattle.hal_fit_names.proofs.Placing.{NodePlaced, at_among}
 use Rattle.hal_fit_names.proofs.Temporary.{temporary_sorted}
 
@@ -84,7 +86,9 @@ unit_called ps k p o is there own called =
 
 module _ (image : ImageParts) (g : Ground) (u : Bool → Uses) (site : Site) (home : ℕ) (named : IsSound rows site.set.phrases) (sound : IsSound type_rows site.set.phrases) (counted : IsCounted site.set.phrases)
     (declared : AreDeclared site.set.phrases) (literals : HasFitLiterals site.set.phrases) (spelled : AreSpelled site.set.phrases) (has : HasConstants site) (serves : ServesUnit site.set image u home)
-    (owned : NamesAreOwn site.set.phrases) (valued : HaveValues site.set) (stands : IsHome g site home) (placed : (p : Phrase) → IsAmong p site.set.phrases → NodePlaced site.set.phrases p p.node)
+    (owned : NamesAreOwn site.set.phrases)
+    (written : (k : ℕ) (p : Phrase) (template : Naming) (head : Head) (declarations : List Declaration) → slice_get site.set.phrases k ≡ Some p → p.node ≡ OfTemplate template head declarations → is_process_head head ≡ true → StandsForProcess site.set.phrases k)
+    (pools : (k : ℕ) (p : Phrase) (common : List Attribute) (item : Declared) → slice_get site.set.phrases k ≡ Some p → p.node ≡ OfItem common item → StandsForData site.set.phrases k p common item ⊎ ((standing_for site.set.phrases k ≡ k) × (is_in_file site.set.phrases p.around.home ≡ false))) (valued : HaveValues site.set) (stands : IsHome g site home) (placed : (p : Phrase) → IsAmong p site.set.phrases → NodePlaced site.set.phrases p p.node)
     (bodied : (k : ℕ) (p : Phrase) (name : Naming) (head : Head) (declarations : List Declaration) → slice_get site.set.phrases k ≡ Some p → p.node ≡ OfUnit name head declarations → HasBody site.set.bodies k head)
     (united : (k : ℕ) (b : Body) → body_at site.set k ≡ Some b → IsUnitOf site.set.phrases k b)
     (inputs_known : (k : ℕ) (p : Phrase) (name : Naming) (head : Head) (declarations : List Declaration) → slice_get site.set.phrases k ≡ Some p → p.node ≡ OfUnit name head declarations
@@ -131,6 +135,8 @@ module _ (image : ImageParts) (g : Ground) (u : Bool → Uses) (site : Site) (ho
       name_left : AreLeft (within_block q.around.block site) v.name
       name_left = record {
         untemplated = λ k p meant there. owned q.around.block v.name k p meant there;
+        standing = λ k p template head declarations meant there is process. written k p template head declarations there is process;
+        pooled = λ k p common item meant there is. pools k p common item there is;
         valued = λ k p common item meant there is value_item. valued p common item (at_among site.set.phrases k p there) is value_item;
       }
 
@@ -140,7 +146,7 @@ module _ (image : ImageParts) (g : Ground) (u : Bool → Uses) (site : Site) (ho
         may_call k p is there called =
             serves.calls q p.number within here
             (calling
-            ∙ unit_called site.set.phrases k p (means site.set.phrases q.around.block v.name) is there (own_number site.set.phrases k p there (owned q.around.block v.name k p is there)) called)
+            ∙ unit_called site.set.phrases k p (means site.set.phrases q.around.block v.name) is there (own_number site.set.phrases k p there (called_plain site.set.phrases p p.node called)) called)
 
         functions : AreFunctions (u (is_some q.around.update)) (within_block q.around.block site) v.name
         functions k p unit place inputs returns mode declarations is there declares =

@@ -1,3 +1,4 @@
+pub mod Standing
 pub mod Suited
 pub mod Named
 pub mod Serving

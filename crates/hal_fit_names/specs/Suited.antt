@@ -1,17 +1,23 @@
 -- Constants that suit their expressions: no operand in them is wrong, and a value is of the class of its expression.
-use Rattle.std.specs.Prelude.{◌≡◌, ℕ, Bool, true, false, not, List, Option, Some}
+use Rattle.std.specs.Prelude.{◌≡◌, ℕ, Bool, true, false, not, ◌&&◌, List, Option, Some, None, slice_get}
+use Rattle.std.specs.Option.{is_some}
+use Rattle.hal_grammar.specs.Declarations.{Attribute, Declared}
 use Rattle.hal_grammar.specs.Expressions.{Literal, Refers, ByParts, NoSubscripts}
 use Rattle.hal_phrases.specs.Phrases.{Node, Phrase, OfExpression, OfReference, OfTemplate, OfItem}
 use Rattle.hal_names.specs.Laws.{IsDeclaration}
-use Rattle.hal_names.specs.Means.{means}
+use Rattle.hal_names.specs.Means.{means, prefaces_of}
 use Rattle.hal_scope.specs.Rules.{IsAmong}
+use Rattle.hal_scope.specs.Sorts.{type_of}
+use Rattle.hal_kinds.specs.Data.{is_event_type}
 use Rattle.hal_kinds.specs.declared.class.Class.{Class}
 use Rattle.hal_kinds.specs.declared.class.Class.TheVariants as class
 use Rattle.hal_values.specs.declared.value.Value.{Value}
 use Rattle.hal_values.specs.declared.value.Value.TheVariants as value
 use Rattle.hal_constants.specs.declared.constant.Constant.{Constant}
 use Rattle.hal_constants.specs.declared.constant.Constant.TheVariants as constant
+use Rattle.hal_constants.specs.Naming.{is_value_item}
 use Rattle.hal_sound_values.specs.Right.{IsRight}
+use Rattle.hal_meaning.specs.Bodies.{is_called_head}
 use Rattle.hal_meaning.specs.Places.{is_in_unit}
 use Rattle.hal_fit_classes.specs.Kinded.{IsFitLiteral}
 
@@ -52,3 +58,21 @@ abbrev pub is_templated : List Phrase → Phrase → Node → Bool
 is_templated ps p (OfTemplate name head declarations) = true
 is_templated ps p (OfItem common item) = not (is_in_unit ps p.around.home)
 is_templated ps p other = false
+
+-- whether data are no event and no constant that is its value
+abbrev pub is_plain : List Attribute → Declared → Bool
+is_plain common item = not (is_event_type (type_of common item)) && not (is_value_item common item)
+
+-- whether they are an event
+abbrev pub is_event : List Attribute → Declared → Bool
+is_event common item = is_event_type (type_of common item) && not (is_value_item common item)
+
+-- whether names belong to a file
+abbrev pub is_in_file : List Phrase → ℕ → Bool
+is_in_file ps home = elim (slice_get ps home) [ None ↦ false | Some f ↦ is_some (prefaces_of f.node) ]
+
+-- whether it is one by which a part of its unit is seen: the template of a unit that is called, or data that a template declares, that aren't plain and no event of a COMPOOL
+abbrev pub shows_parts : List Phrase → Phrase → Node → Bool
+shows_parts ps p (OfTemplate name head declarations) = is_called_head head
+shows_parts ps p (OfItem common item) = not (is_in_unit ps p.around.home) && (not (is_plain common item) && not (is_event common item && is_in_file ps p.around.home))
+shows_parts ps p other = false

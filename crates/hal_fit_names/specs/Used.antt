@@ -16,7 +16,7 @@ use Rattle.hal_meaning.specs.Sets.{Set, body_at}
 use Rattle.hal_code.specs.Controlling as machine
 use Rattle.hal_agreement.specs.Sites.{Site}
 use Rattle.hal_fitting.specs.Fitting.{Ground}
-use Rattle.hal_fit_names.specs.Suited.{is_templated}
+use Rattle.hal_fit_names.specs.Suited.{shows_parts}
 
 -- the unit with this number declares a parameter of this name as data, not as a constant; an array has a size
 pub record IsDeclaredParameter (ps : List Phrase) (unit : ℕ) (name : Naming) : Type 0 where
@@ -37,9 +37,9 @@ abbrev pub AreDeclaredParameters : List Phrase → ℕ → List Naming → Type 
 AreDeclaredParameters ps unit [] = Unit {0}
 AreDeclaredParameters ps unit (name ∷ names) = IsDeclaredParameter ps unit name × AreDeclaredParameters ps unit names
 
--- no name means something of a written template
+-- no name means a written template of a unit that is called, a constant that a template declares, or an event of a template but a COMPOOL's
 abbrev pub NamesAreOwn : List Phrase → Type 0
-NamesAreOwn ps = (block : ℕ) (name : List ℕ) (k : ℕ) (p : Phrase) → means ps block name ≡ Some k → slice_get ps k ≡ Some p → is_templated ps p p.node ≡ false
+NamesAreOwn ps = (block : ℕ) (name : List ℕ) (k : ℕ) (p : Phrase) → means ps block name ≡ Some k → slice_get ps k ≡ Some p → shows_parts ps p p.node ≡ false
 
 -- constants of a set that are their values have values
 abbrev pub HaveValues : Set → Type 0

@@ -6,13 +6,13 @@ ghost use Rattle.hal_base.specs.declared.refusal.Place.{Place};
 ghost use Rattle.hal_grammar.specs.Expressions.{Expression, Expressions, NoExpressions, Reference, Refers, Subscript};
 ghost use Rattle.hal_grammar.specs.Leaves.{Naming};
 ghost use Rattle.hal_grammar.specs.Statements.{Eventful};
-ghost use Rattle.hal_grammar.specs.Units.{File, Function, Head, Mode, Procedure, Returns};
+ghost use Rattle.hal_grammar.specs.Units.{File, Function, Head, Mode, Preface, Procedure, Returns};
 ghost use Rattle.hal_phrases.specs.declared.around.Around.{Around};
 ghost use Rattle.hal_phrases.specs.declared.role.Role.{Role};
 ghost use Rattle.hal_phrases.specs.declared.role.Role.TheVariants as role;
 ghost use Rattle.hal_phrases.specs.GatheredExpressions.{gathered};
 ghost use Rattle.hal_phrases.specs.GatheredUnits.{phrases_of};
-ghost use Rattle.hal_phrases.specs.Phrases.{OfCall, OfCallForm, OfEvent, OfItem, OfReference, OfSubscriptName, OfTemporaryGroup, OfUnit, OfVariable, Phrase};
+ghost use Rattle.hal_phrases.specs.Phrases.{OfCall, OfCallForm, OfEvent, OfFile, OfItem, OfReference, OfSubscriptName, OfTemporaryGroup, OfUnit, OfVariable, Phrase};
 ghost use Rattle.hal_names.specs.Means.{means};
 ghost use Rattle.hal_scope.specs.Rules.{IsAmong, IsSound, rows};
 ghost use Rattle.hal_scope.specs.declared.usage.Usage.TheVariants as usage;
@@ -20,6 +20,7 @@ ghost use Rattle.hal_scope.specs.Sorts.{type_of, usage_of};
 ghost use Rattle.hal_kinds.specs.Attributes.{sizes_of};
 ghost use Rattle.hal_kinds.specs.Classes.{class_of};
 ghost use Rattle.hal_kinds.specs.Data.{is_event_type, is_structure_type};
+ghost use Rattle.hal_templates.specs.Rules.{template_rows};
 ghost use Rattle.hal_types.specs.Rules.{type_rows};
 ghost use Rattle.hal_values.specs.declared.value.Kind as values;
 ghost use Rattle.hal_constants.specs.declared.constant.Constant.TheVariants as constant;
@@ -50,6 +51,7 @@ ghost use Rattle.hal_fit_names.specs.Known.{is_left_node};
 ghost use Rattle.hal_fit_names.specs.Named.{AreFunctions, AreLeft, AreProcedures, FunctionParameters};
 ghost use Rattle.hal_fit_names.specs.Serving.{MayAsk, ServesUnit};
 ghost use Rattle.hal_fit_names.specs.Spelled.{AreSpelled};
+ghost use Rattle.hal_fit_names.specs.Standing.{StandsForData};
 ghost use Rattle.hal_fit_names.specs.Suited.{HasFitLiterals, is_templated, Suits};
 ghost use Rattle.hal_fit_names.specs.Used.{AreDeclaredParameters, HaveSizes, HaveValues, IsHome, NamesAreOwn};
 
@@ -57,6 +59,7 @@ use hal_fit_constants::what_the_checks_know_is_constant;
 use hal_names::{
     a_key_is_found_at_its_first_declaration, phrases_are_counted, what_is_meant_declares_the_name,
 };
+use hal_templates::a_written_template_gives_what_its_unit_shows;
 
 /// In a set of files that breaks no rule of names or types, no operand of an expression is wrong where a constant is needed, and a value of it is a right one of
 /// the class of the expression; this is so for each phrase in the block of the expression, before which other constants may stand (language document, Kinds).
@@ -113,8 +116,9 @@ pub fn names_of_no_template_are_own()
 {}
 
 /// A name without a path agrees that is used as a value in a set of files that breaks no rule of names or types, also behind `$`: it means data, an event, a process, a
-/// structure, a constant, a FUNCTION or a built-in function, each of which is for the meaning what it is for the checks. What is left is that it means nothing of a
-/// written template, that a constant has a value, that a FUNCTION may be called, and an event, a process or RUNTIME asked for (language document, Names).
+/// structure, a constant, a FUNCTION or a built-in function, each of which is for the meaning what it is for the checks. What is left is that it means no
+/// written template of a unit that is called, no constant of a template and no event of one but a COMPOOL's, what other templates stand for, that a constant has a value, that a
+/// FUNCTION may be called, and an event, a process or RUNTIME asked for (language document, Names and Templates).
 pub fn names_of_values_agree()
     ensures reference { (u : Uses) (files : List File) (site : Site) (q : Phrase) (role : Role) (place : Place) (name : List ℕ) (subscript : Subscript) → site.set.phrases ≡ phrases_of files → HasConstants site
         → AreLeft site name → MayAsk u site name → AreFunctions u site name → IsSound rows (phrases_of files) → IsSound type_rows (phrases_of files) → HasFitLiterals (phrases_of files) → IsAmong q (phrases_of files)
@@ -228,12 +232,23 @@ pub fn constants_have_values()
     what_is_meant_declares_the_name();
 }
 
+/// What a written template of a COMPOOL declares for its file stands for data of the COMPOOL itself, with the same name and attributes that mean the same, in a set of
+/// files that breaks no rule of templates or names (language document, Templates).
+pub fn data_of_written_templates_stand_for_those_of_units()
+    ensures { (files : List File) (k : ℕ) (p : Phrase) (common : List Attribute) (item : Declared) (f : Phrase) (prefaces : List Preface) (unit : Naming) → IsSound template_rows (phrases_of files)
+        → IsSound rows (phrases_of files) → slice_get (phrases_of files) k ≡ Some p → p.node ≡ OfItem common item → slice_get (phrases_of files) p.around.home ≡ Some f
+        → f.node ≡ OfFile prefaces unit → StandsForData (phrases_of files) k p common item }
+{
+    a_written_template_gives_what_its_unit_shows();
+}
+
 /// So a unit is known, as the law of statements asks, by all that serves it, where this is known of the phrases that are left: references with a path, but for operands of
-/// event expressions. What is left of names is that they mean nothing of written templates.
+/// event expressions. What is left of names is that they mean no written templates of units that are called, no constants of templates and no events of templates
+/// but COMPOOLs'; one of a process stands for the process, and other data for those of their COMPOOL, as no rule of templates is broken.
 pub fn units_are_known_where_what_is_left_is()
     ensures { (image : ImageParts) (g : Ground) (u : Bool → Uses) (files : List File) (site : Site) (home : ℕ) → site.set.phrases ≡ phrases_of files → site.set.bodies ≡ bodies_of files site.set.phrases
-        → HasConstants site → ServesUnit site.set image u home → NamesAreOwn site.set.phrases → IsHome g site home → HasEvents image site → IsSound rows (phrases_of files)
-        → IsSound type_rows (phrases_of files) → HasFitLiterals (phrases_of files) → AreSpelled (phrases_of files)
+        → HasConstants site → ServesUnit site.set image u home → NamesAreOwn site.set.phrases → IsHome g site home → HasEvents image site → IsSound template_rows (phrases_of files)
+        → IsSound rows (phrases_of files) → IsSound type_rows (phrases_of files) → HasFitLiterals (phrases_of files) → AreSpelled (phrases_of files)
         → ((q : Phrase) → IsAmong q site.set.phrases → q.around.home ≡ home → is_left_node q.node ≡ true → PhraseKnown image g u site q) → UnitKnown image g u site home }
 {
     phrases_are_counted();
@@ -242,4 +257,5 @@ pub fn units_are_known_where_what_is_left_is()
     temporary_variables_mean_themselves();
     what_the_checks_know_is_constant();
     constants_have_values();
+    a_written_template_gives_what_its_unit_shows();
 }

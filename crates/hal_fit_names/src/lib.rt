@@ -6,7 +6,8 @@ mod laws;
 
 pub use laws::{
     call_forms_agree, calls_agree, channels_have_right_operands,
-    constant_expressions_suit_their_classes, constants_have_values, declared_data_are_known,
+    constant_expressions_suit_their_classes, constants_have_values,
+    data_of_written_templates_stand_for_those_of_units, declared_data_are_known,
     events_that_are_changed_agree, input_parameters_are_declared, kinds_of_cells_are_known,
     names_of_no_template_are_own, names_of_receivers_agree, names_of_values_agree,
     temporary_variables_mean_themselves, units_are_known_where_what_is_left_is, units_have_bodies,

@@ -1,5 +1,5 @@
 -- Phrases that are added behind others: those that say of a group that it has own places stand in a group of their unit, and units stand directly in units or files.
-use Rattle.std.proofs.Common.{◌≡◌, Bool, true, false, List, [], ◌∷◌, ◌++◌, length, Option, Some, None, slice_get, refl, sym, ap, ◌∙◌, subst, append_assoc, append-nil}
+use Rattle.std.proofs.Common.{◌≡◌, Bool, true, false, List, [], ◌∷◌, ◌++◌, length, Option, Some, None, refl, sym, ap, ◌∙◌, append_assoc, append-nil}
 use Rattle.hal_grammar.specs.Leaves.{Naming}
 use Rattle.hal_grammar.specs.Expressions.{Expression}
 use Rattle.hal_phrases.specs.declared.around.Around.{Around}
@@ -12,7 +12,7 @@ use Rattle.hal_meaning.specs.Bodies.{is_unit}
 use Rattle.hal_meaning.specs.Places.{says_for_or_case}
 use Rattle.hal_fit_calls.specs.Each.{Each}
 use Rattle.hal_fit_calls.proofs.Each.{each_append}
-use Rattle.hal_fit_rows.specs.Homes.{StandsInGroup, IsOuter, StandsDirect, StandsPlaced}
+use Rattle.hal_fit_rows.specs.Homes.{IsOuter, StandsPlaced}
 use Rattle.hal_fit_rows.proofs.Told.{Begins, begins_on, there}
 
 -- phrases are added that stand so in each set that begins with them

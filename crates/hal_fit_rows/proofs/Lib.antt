@@ -1,4 +1,4 @@
-mod Rules
+pub mod Rules
 pub mod Made
 pub mod LookingUp
 pub mod Calling
@@ -40,3 +40,4 @@ mod GroupingExpressions
 mod GroupingDeclarations
 mod GroupingStatements
 pub mod GroupingFiles
+pub mod Pooled

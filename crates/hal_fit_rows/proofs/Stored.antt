@@ -183,6 +183,12 @@ module _ (files : List File) (looks : LooksUp (phrases_of files)) (sound : IsSou
         ∙ (ap (λ (o : Option Phrase). elim o [ None ↦ [] | Some x ↦ components_at ps vs x x.node ]) named.there ∙ ap (components_at ps vs named.phrase) named.structure.is) in
         ap (λ l. has_one (flat_map kinds_of_component l)) cs ∙ parts_one ps vs named.phrase [] named.structure.parts some
 
+    -- so data have elements
+    pub item_some : (number : ℕ) (p : Phrase) → slice_get ps number ≡ Some p → (common : List Attribute) (item : Declared) → p.node ≡ OfItem common item → has_one (kinds_of (shape_of ps vs p common item)) ≡ true
+    item_some number p there common item node = by (components_there number p there common item node) where
+      by : HasComponents ps vs p (type_of common item) → has_one (kinds_of (shape_of ps vs p common item)) ≡ true
+      by has = shape_one ps vs p (item.attributes ++ common) (type_among (item.attributes ++ common)) (λ place template copies is. has place template copies (sym (types_joined item.attributes common) ∙ is))
+
     -- a parameter that the head of a unit lists
     pub parameter_stored : (turns unit : ℕ) (p : Phrase) (head : Head) → slice_get ps unit ≡ Some p → unit_head p.node ≡ Some head → (output : Bool) (name : Naming) → IsAmong name (names_of head output)
         → IsStored (set_of turns files) unit name (way output)
@@ -208,11 +214,8 @@ module _ (files : List File) (looks : LooksUp (phrases_of files)) (sound : IsSou
           home = found.at_home;
           stored_so = ap (λ b. if b then storing_of_item ps vs found.phrase found.common found.item (parameter ps found.phrase.around.home found.item.name.name) else Unstored) in_unit
               ∙ (ap (storing_of_item ps vs found.phrase found.common found.item) of_item ∙ way_is ps vs found.phrase found.common found.item output);
-          some = by found.phrase found.common found.item (components_there found.number found.phrase found.there found.common found.item found.node);
+          some = item_some found.number found.phrase found.there found.common found.item found.node;
         }
-      where
-        by : (x : Phrase) (common : List Attribute) (item : Declared) → HasComponents ps vs x (type_of common item) → has_one (kinds_of (shape_of ps vs x common item)) ≡ true
-        by x common item has = shape_one ps vs x (item.attributes ++ common) (type_among (item.attributes ++ common)) (λ place template copies is. has place template copies (sym (types_joined item.attributes common) ∙ is))
 
     parameters_stored : (turns unit : ℕ) (p : Phrase) (head : Head) → slice_get ps unit ≡ Some p → unit_head p.node ≡ Some head → (output : Bool) (names : List Naming) → ((name : Naming) → IsAmong name names → IsAmong name (names_of head output))
         → AreStored (set_of turns files) unit names (way output)

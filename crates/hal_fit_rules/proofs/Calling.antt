@@ -1,6 +1,7 @@
 -- Call forms of what the set itself declares agree, and so do CALLs of its PROCEDUREs.
-use Rattle.std.proofs.Common.{◌≡◌, ℕ, zero, false, List, [], Option, Some, None, slice_get, refl, sym, ap, ◌∙◌, subst}
+use Rattle.std.proofs.Common.{◌≡◌, ℕ, zero, true, false, List, [], Option, Some, None, slice_get, refl, sym, ap, ◌∙◌, subst}
 use Rattle.hal_grammar.specs.Leaves.{Naming}
+use Rattle.hal_grammar.specs.Declarations.{Attribute, Declared}
 use Rattle.hal_grammar.specs.Units.{Head, Procedure, Function}
 use Rattle.hal_phrases.specs.Phrases.{Node, Phrase, OfUnit, OfItem, OfTemporaryGroup}
 use Rattle.hal_names.specs.Laws.{IsCounted}
@@ -14,6 +15,7 @@ use Rattle.hal_meaning.specs.Expressions.{inputs_at}
 use Rattle.hal_states.specs.Spots.{Own}
 use Rattle.hal_scope.specs.Sorts.{type_of}
 use Rattle.hal_kinds.specs.declared.class.Class.TheVariants as class
+use Rattle.hal_kinds.specs.Attributes.{sizes_of}
 use Rattle.hal_kinds.specs.Data.{data_with, is_event_type}
 use Rattle.hal_meaning.specs.Events.{event_of}
 use Rattle.hal_meaning.specs.ReportNames.{first_place}
@@ -27,22 +29,27 @@ use Rattle.hal_fit_rules.specs.Happening.{IsEvent}
 use Rattle.hal_fit_rules.specs.Passed.{ProcedureAgrees}
 use Rattle.hal_fit_rules.specs.Passing.{AreParameters, IsProcedure}
 use Rattle.hal_fit_rules.specs.Parameters.{ParametersAgree}
-use Rattle.hal_fit_rules.proofs.Declaring.{lying, item_alike, item_meant_so, temporary_alike, meant_itself, function_gives}
+use Rattle.hal_fit_rules.proofs.Declaring.{lying, item_alike, item_meant_so, temporary_alike, meant_itself, meant_standing, function_gives}
 use Rattle.hal_fit_rules.proofs.Happening.{event_data, event_numbered, when_true}
 use Rattle.hal_fit_rules.proofs.Parameters.{parameters_agree}
 
 module _ (u : Uses) (site : Site) where
-  -- a call form agrees where what declares its name does
+  -- a call form agrees where the declaration of its name does with what the name means
+  pub formed_as : (name : List ℕ) (k : ℕ) (p : Phrase) (n : Node) (m : Meant) → means site.set.phrases site.block name ≡ Some k → slice_get site.set.phrases k ≡ Some p → p.node ≡ n → name_meant (here_at site) name [] ≡ m
+      → NodeFormed u site site.set.phrases k p n m → FormAgrees u site site.set.phrases site.block name
+  formed_as name k p n m meant there declares whole formed =
+      let of_node : NodeFormed u site site.set.phrases k p p.node m = subst (λ (x : Node). NodeFormed u site site.set.phrases k p x m) (sym declares) formed in
+      let of_phrase : PhraseFormed u site site.set.phrases k (slice_get site.set.phrases k) m =
+      subst (λ (o : Option Phrase). PhraseFormed u site site.set.phrases k o m) (sym there) of_node in
+      let of_number : DeclarationFormed u site site.set.phrases name (means site.set.phrases site.block name) m =
+      subst (λ (o : Option ℕ). DeclarationFormed u site site.set.phrases name o m) (sym meant) of_phrase in
+      subst (λ (x : Meant). DeclarationFormed u site site.set.phrases name (means site.set.phrases site.block name) x) (sym whole) of_number
+
+  -- so where what declares it does
   pub formed_by : (name : List ℕ) (own : IsOwn site name) (n : Node) (m : Meant) → own.phrase.node ≡ n → meant_by (here_at site) [] own.phrase n ≡ m → NodeFormed u site site.set.phrases own.number own.phrase n m
       → FormAgrees u site site.set.phrases site.block name
   formed_by name own n m declares is formed =
-      let whole : name_meant (here_at site) name [] ≡ m = meant_itself u site name own ∙ (ap (meant_by (here_at site) [] own.phrase) declares ∙ is) in
-      let of_node : NodeFormed u site site.set.phrases own.number own.phrase own.phrase.node m = subst (λ (x : Node). NodeFormed u site site.set.phrases own.number own.phrase x m) (sym declares) formed in
-      let of_phrase : PhraseFormed u site site.set.phrases own.number (slice_get site.set.phrases own.number) m =
-      subst (λ (o : Option Phrase). PhraseFormed u site site.set.phrases own.number o m) (sym own.there) of_node in
-      let of_number : DeclarationFormed u site site.set.phrases name (means site.set.phrases site.block name) m =
-      subst (λ (o : Option ℕ). DeclarationFormed u site site.set.phrases name o m) (sym own.meant) of_phrase in
-      subst (λ (x : Meant). DeclarationFormed u site site.set.phrases name (means site.set.phrases site.block name) x) (sym whole) of_number
+      formed_as name own.number own.phrase n m own.meant own.there declares (meant_itself u site name own ∙ (ap (meant_by (here_at site) [] own.phrase) declares ∙ is)) formed
 
   -- the parameters of a unit, by the number of its phrase
   parameters_of : (k unit : ℕ) (names : List Naming) → unit ≡ k → AreParameters site unit names → ParametersAgree site site.set.phrases k unit names
@@ -70,14 +77,20 @@ module _ (u : Uses) (site : Site) where
       formed_by name own (OfTemporaryGroup is.labels is.variable) (MeantData (Own (first_place site.places own.phrase.number)) temporary_shape) is.declares refl
       (temporary_alike site.set.phrases own.phrase is.labels is.variable)
 
+  pub event_formed_as : (name : List ℕ) (k : ℕ) (p : Phrase) (common : List Attribute) (item : Declared) → IsCounted site.set.phrases → means site.set.phrases site.block name ≡ Some k → slice_get site.set.phrases k ≡ Some p → p.node ≡ OfItem common item
+      → is_event_type (type_of common item) ≡ true → sizes_of common item ≡ None → (j : ℕ) (q : Phrase) → standing_for site.set.phrases k ≡ j → slice_get site.set.phrases j ≡ Some q → IsEvent site q → FormAgrees u site site.set.phrases site.block name
+  event_formed_as name k p common item counted meant there is eventful sized j q stands at event =
+      let same = counted j q at in
+      let one = event_numbered site j q at same event in
+      formed_as name k p (OfItem common item) (MeantEvent one.event) meant there is
+      (meant_standing u site name k j q meant stands at
+      ∙ (ap (meant_by (here_at site) [] q) event.declares
+      ∙ (when_true (is_event_type (type_of event.common event.item)) (event_meant (here_at site) q.number) _ event.eventful
+      ∙ ap (λ (o : Option ℕ). elim o [ None ↦ MeantNothing | Some n ↦ MeantEvent n ]) (ap (event_of site.set.phrases) same ∙ one.is))))
+      (data_with class.Bits zero false, event_data site.set.phrases p common item eventful sized, refl)
+
   pub event_formed : (name : List ℕ) (own : IsOwn site name) → IsCounted site.set.phrases → IsEvent site own.phrase → FormAgrees u site site.set.phrases site.block name
-  event_formed name own counted is =
-      let same = counted own.number own.phrase own.there in
-      let one = event_numbered site own.number own.phrase own.there same is in
-      formed_by name own (OfItem is.common is.item) (MeantEvent one.event) is.declares
-      (when_true (is_event_type (type_of is.common is.item)) (event_meant (here_at site) own.phrase.number) _ is.eventful
-      ∙ ap (λ (o : Option ℕ). elim o [ None ↦ MeantNothing | Some n ↦ MeantEvent n ]) (ap (event_of site.set.phrases) same ∙ one.is))
-      (data_with class.Bits zero false, event_data site.set.phrases own.phrase is.common is.item is.eventful is.sized, refl)
+  event_formed name own counted is = event_formed_as name own.number own.phrase is.common is.item counted own.meant own.there is.declares is.eventful is.sized own.number own.phrase own.own own.there is
 
   -- a built-in function with a list
   pub builtin_formed : (name : List ℕ) (b : Builtin) → means site.set.phrases site.block name ≡ None → builtin_named name ≡ Some b → FormAgrees u site site.set.phrases site.block name

@@ -123,21 +123,29 @@ unfolding is_structure_type
 plain_shape ps vs p attributes (StructureKind place template copies) is = absurd (cc)
 plain_shape ps vs p attributes other is = refl
 
--- data that a phrase declares
-pub item_alike : (ps : List Phrase) (vs : Known) (p : Phrase) (common : List Attribute) (item : Declared) (type_ : Kind) (cells : values.Kind) → type_of common item ≡ Some type_ → is_structure_type (Some type_) ≡ false
-    → kind_of_type ps vs p (has_mark Double (item.attributes ++ common)) (Some type_) ≡ Some cells → AreAlike (data_at ps p [] (OfItem common item)) [] (shape_of ps vs p common item)
+-- data that a phrase declares, and those of another one with cells of the same kind and as many dimensions
+pub items_alike : (ps : List Phrase) (vs : Known) (p q : Phrase) (common other_common : List Attribute) (item other : Declared) (type_ other_type : Kind) (double : Bool) (cells other_cells : values.Kind) → type_of common item ≡ Some type_
+    → type_of other_common other ≡ Some other_type → is_structure_type (Some other_type) ≡ false → kind_of_type ps vs p double (Some type_) ≡ Some cells
+    → kind_of_type ps vs q (has_mark Double (other.attributes ++ other_common)) (Some other_type) ≡ Some other_cells → cells ≡ other_cells → dimensions_of (sizes_of common item) ≡ dimensions_of (sizes_of other_common other)
+    → AreAlike (data_at ps p [] (OfItem common item)) [] (shape_of ps vs q other_common other)
 unfolding data_at data_of is_nil
-item_alike ps vs p common item type_ cells typed unstructured sized =
-    let joined : type_among (item.attributes ++ common) ≡ Some type_ = types_joined item.attributes common ∙ typed in
-    let shape = ap (shape_of_type ps vs p (item.attributes ++ common)) joined ∙ plain_shape ps vs p (item.attributes ++ common) type_ unstructured in
+items_alike ps vs p q common other_common item other type_ other_type double cells other_cells typed other_typed unstructured sized other_sized same dimensioned =
+    let joined : type_among (other.attributes ++ other_common) ≡ Some other_type = types_joined other.attributes other_common ∙ other_typed in
+    let shape = ap (shape_of_type ps vs q (other.attributes ++ other_common)) joined ∙ plain_shape ps vs q (other.attributes ++ other_common) other_type unstructured in
     subst (λ s. AreAlike (data_at ps p [] (OfItem common item)) [] s) (sym shape) (record {
       declared = data_with (class_of_type type_) (dimensions_of (sizes_of common item)) (has_copies type_);
       known = ap (λ o. data_of o (sizes_of common item)) typed;
       sorted = λ s worth.
-          ap (λ o. sort_of (unwrap_or (kind_of_type ps vs p (has_mark Double (item.attributes ++ common)) o) kind.Single)) joined
-          ∙ (ap (λ o. sort_of (unwrap_or o kind.Single)) sized ∙ cells_of_type ps vs p (has_mark Double (item.attributes ++ common)) type_ cells s sized worth);
-      arrayed = λ plain. arrayed_by ps vs p (sizes_of common item) ∙ ap (λ o. is_arrayed (sizes_given ps vs p o)) (sym (sizes_joined item.attributes common));
+          ap (λ o. sort_of (unwrap_or (kind_of_type ps vs q (has_mark Double (other.attributes ++ other_common)) o) kind.Single)) joined
+          ∙ (ap (λ o. sort_of (unwrap_or o kind.Single)) other_sized ∙ (ap sort_of (sym same) ∙ cells_of_type ps vs p double type_ cells s sized worth));
+      arrayed = λ plain. ap (nat_lt 0) dimensioned ∙ (arrayed_by ps vs q (sizes_of other_common other) ∙ ap (λ o. is_arrayed (sizes_given ps vs q o)) (sym (sizes_joined other.attributes other_common)));
     })
+
+-- data that a phrase declares
+pub item_alike : (ps : List Phrase) (vs : Known) (p : Phrase) (common : List Attribute) (item : Declared) (type_ : Kind) (cells : values.Kind) → type_of common item ≡ Some type_ → is_structure_type (Some type_) ≡ false
+    → kind_of_type ps vs p (has_mark Double (item.attributes ++ common)) (Some type_) ≡ Some cells → AreAlike (data_at ps p [] (OfItem common item)) [] (shape_of ps vs p common item)
+item_alike ps vs p common item type_ cells typed unstructured sized =
+    items_alike ps vs p p common common item item type_ type_ (has_mark Double (item.attributes ++ common)) cells cells typed typed unstructured sized sized refl refl
 
 -- the variable of a DO FOR
 pub temporary_alike : (ps : List Phrase) (p : Phrase) (labels : List Naming) (variable : Naming) → AreAlike (data_at ps p [] (OfTemporaryGroup labels variable)) [] temporary_shape
@@ -150,23 +158,33 @@ temporary_alike ps p labels variable = record {
 }
 
 module _ (u : Uses) (site : Site) where
+  -- a name means what its declaration stands for
+  pub meant_standing : (name : List ℕ) (k j : ℕ) (q : Phrase) → means site.set.phrases site.block name ≡ Some k → standing_for site.set.phrases k ≡ j → slice_get site.set.phrases j ≡ Some q
+      → name_meant (here_at site) name [] ≡ meant_by (here_at site) [] q q.node
+  meant_standing name k j q meant stands there =
+      ap (λ o. elim o [ None ↦ builtin_meant name | Some i ↦ declaration_meant (here_at site) [] i ])
+      (ap (λ (o : Option ℕ). elim o [ None ↦ None | Some i ↦ Some (standing_for site.set.phrases i) ]) meant ∙ ap Some stands)
+      ∙ ap (λ (o : Option Phrase). elim o [ None ↦ MeantNothing | Some p ↦ meant_by (here_at site) [] p p.node ]) there
+
   pub meant_itself : (name : List ℕ) (own : IsOwn site name) → name_meant (here_at site) name [] ≡ meant_by (here_at site) [] own.phrase own.phrase.node
-  meant_itself name own =
-      ap (λ o. elim o [ None ↦ builtin_meant name | Some k ↦ declaration_meant (here_at site) [] k ])
-      (ap (λ (o : Option ℕ). elim o [ None ↦ None | Some k ↦ Some (standing_for site.set.phrases k) ]) own.meant ∙ ap Some own.own)
-      ∙ ap (λ (o : Option Phrase). elim o [ None ↦ MeantNothing | Some p ↦ meant_by (here_at site) [] p p.node ]) own.there
+  meant_itself name own = meant_standing name own.number own.number own.phrase own.meant own.own own.there
+
+  -- a name with a path agrees where its declaration does with what it means
+  pub agrees_as : (path : List Naming) (name : List ℕ) (k : ℕ) (p : Phrase) (n : Node) (m : Meant) → means site.set.phrases site.block name ≡ Some k → slice_get site.set.phrases k ≡ Some p → p.node ≡ n
+      → name_meant (here_at site) name [] ≡ m → NodeAgrees u site site.set.phrases p path n m → NameAgrees u site site.set.phrases site.block name path
+  agrees_as path name k p n m meant there declares whole agrees =
+      let of_node : NodeAgrees u site site.set.phrases p path p.node m = subst (λ (x : Node). NodeAgrees u site site.set.phrases p path x m) (sym declares) agrees in
+      let of_phrase : PhraseAgrees u site site.set.phrases path (slice_get site.set.phrases k) m =
+      subst (λ (o : Option Phrase). PhraseAgrees u site site.set.phrases path o m) (sym there) of_node in
+      let of_number : DeclarationAgrees u site site.set.phrases name path (means site.set.phrases site.block name) m =
+      subst (λ (o : Option ℕ). DeclarationAgrees u site site.set.phrases name path o m) (sym meant) of_phrase in
+      subst (λ (x : Meant). DeclarationAgrees u site site.set.phrases name path (means site.set.phrases site.block name) x) (sym whole) of_number
 
   -- a name with a path agrees where what declares it does
   pub agrees_at : (path : List Naming) (name : List ℕ) (own : IsOwn site name) (n : Node) (m : Meant) → own.phrase.node ≡ n → meant_by (here_at site) [] own.phrase n ≡ m
       → NodeAgrees u site site.set.phrases own.phrase path n m → NameAgrees u site site.set.phrases site.block name path
   agrees_at path name own n m declares is agrees =
-      let whole : name_meant (here_at site) name [] ≡ m = meant_itself name own ∙ (ap (meant_by (here_at site) [] own.phrase) declares ∙ is) in
-      let of_node : NodeAgrees u site site.set.phrases own.phrase path own.phrase.node m = subst (λ (x : Node). NodeAgrees u site site.set.phrases own.phrase path x m) (sym declares) agrees in
-      let of_phrase : PhraseAgrees u site site.set.phrases path (slice_get site.set.phrases own.number) m =
-      subst (λ (o : Option Phrase). PhraseAgrees u site site.set.phrases path o m) (sym own.there) of_node in
-      let of_number : DeclarationAgrees u site site.set.phrases name path (means site.set.phrases site.block name) m =
-      subst (λ (o : Option ℕ). DeclarationAgrees u site site.set.phrases name path o m) (sym own.meant) of_phrase in
-      subst (λ (x : Meant). DeclarationAgrees u site site.set.phrases name path (means site.set.phrases site.block name) x) (sym whole) of_number
+      agrees_as path name own.number own.phrase n m own.meant own.there declares (meant_itself name own ∙ (ap (meant_by (here_at site) [] own.phrase) declares ∙ is)) agrees
 
   -- a name alone
   pub agrees_by : (name : List ℕ) (own : IsOwn site name) (n : Node) (m : Meant) → own.phrase.node ≡ n → meant_by (here_at site) [] own.phrase n ≡ m → NodeAgrees u site site.set.phrases own.phrase [] n m
@@ -193,17 +211,22 @@ module _ (u : Uses) (site : Site) where
       agrees_by name own (OfTemporaryGroup is.labels is.variable) (MeantData (Own (first_place site.places own.phrase.number)) temporary_shape) is.declares refl
       (temporary_alike site.set.phrases own.phrase is.labels is.variable)
 
-  -- what receivers are that it declares
+  -- what receivers are that a name means
+  pub cells_as : (path : List Naming) (name : List ℕ) (k : ℕ) (p : Phrase) (n : Node) (at : Spot) (shape : Shape) → means site.set.phrases site.block name ≡ Some k → slice_get site.set.phrases k ≡ Some p → p.node ≡ n
+      → name_meant (here_at site) name [] ≡ MeantData at shape → AreAlike (data_at site.set.phrases p path n) path shape → CellsAgree site.set.phrases path (means site.set.phrases site.block name) (name_meant (here_at site) name [])
+  cells_as path name k p n at shape meant there declares whole alike =
+      let of_node : AreAlike (data_at site.set.phrases p path p.node) path shape = subst (λ (x : Node). AreAlike (data_at site.set.phrases p path x) path shape) (sym declares) alike in
+      let of_phrase : AreCells site.set.phrases path (slice_get site.set.phrases k) (MeantData at shape) =
+      subst (λ (o : Option Phrase). AreCells site.set.phrases path o (MeantData at shape)) (sym there) of_node in
+      let of_number : CellsAgree site.set.phrases path (means site.set.phrases site.block name) (MeantData at shape) =
+      subst (λ (o : Option ℕ). CellsAgree site.set.phrases path o (MeantData at shape)) (sym meant) of_phrase in
+      subst (λ (x : Meant). CellsAgree site.set.phrases path (means site.set.phrases site.block name) x) (sym whole) of_number
+
+  -- those that it declares
   pub cells_at : (path : List Naming) (name : List ℕ) (own : IsOwn site name) (n : Node) (at : Spot) (shape : Shape) → own.phrase.node ≡ n → meant_by (here_at site) [] own.phrase n ≡ MeantData at shape
       → AreAlike (data_at site.set.phrases own.phrase path n) path shape → CellsAgree site.set.phrases path (means site.set.phrases site.block name) (name_meant (here_at site) name [])
   cells_at path name own n at shape declares is alike =
-      let whole : name_meant (here_at site) name [] ≡ MeantData at shape = meant_itself name own ∙ (ap (meant_by (here_at site) [] own.phrase) declares ∙ is) in
-      let of_node : AreAlike (data_at site.set.phrases own.phrase path own.phrase.node) path shape = subst (λ (x : Node). AreAlike (data_at site.set.phrases own.phrase path x) path shape) (sym declares) alike in
-      let of_phrase : AreCells site.set.phrases path (slice_get site.set.phrases own.number) (MeantData at shape) =
-      subst (λ (o : Option Phrase). AreCells site.set.phrases path o (MeantData at shape)) (sym own.there) of_node in
-      let of_number : CellsAgree site.set.phrases path (means site.set.phrases site.block name) (MeantData at shape) =
-      subst (λ (o : Option ℕ). CellsAgree site.set.phrases path o (MeantData at shape)) (sym own.meant) of_phrase in
-      subst (λ (x : Meant). CellsAgree site.set.phrases path (means site.set.phrases site.block name) x) (sym whole) of_number
+      cells_as path name own.number own.phrase n at shape own.meant own.there declares (meant_itself name own ∙ (ap (meant_by (here_at site) [] own.phrase) declares ∙ is)) alike
 
   pub plain_cells_agree : (name : List ℕ) (own : IsOwn site name) → IsPlainData site own.phrase → CellsAgree site.set.phrases [] (means site.set.phrases site.block name) (name_meant (here_at site) name [])
   plain_cells_agree name own is =

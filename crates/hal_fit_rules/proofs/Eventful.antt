@@ -6,10 +6,11 @@ use Rattle.std.specs.Option.{option_and_then, option_or}
 use Rattle.std.proofs.lemmas.Bool.{eqb-true, ltb-true}
 use Rattle.std.proofs.lemmas.List.{length-map}
 use Rattle.std.proofs.lemmas.List.Folds.{list_any-append}
-use Rattle.hal_grammar.specs.Declarations.{Latched}
+use Rattle.hal_grammar.specs.Declarations.{Attribute, Declared, Latched}
 use Rattle.hal_grammar.specs.Statements.{Eventful}
 use Rattle.hal_phrases.specs.Phrases.{Phrase, OfItem}
 use Rattle.hal_names.specs.Laws.{IsCounted}
+use Rattle.hal_names.specs.Means.{means}
 use Rattle.hal_scope.specs.Rules.{IsAmong}
 use Rattle.hal_scope.specs.Sorts.{type_of}
 use Rattle.hal_kinds.specs.Attributes.{has_mark, is_mark, is_marked}
@@ -119,21 +120,23 @@ module _ (image : ImageParts) (site : Site) (counted : IsCounted site.set.phrase
       let vs = site.set.constants in
       ap (λ (o : Option Phrase). elim o [ None ↦ begins.Unlatched | Some q ↦ start_at ps vs q q.node ]) there ∙ ap (start_at ps vs p) is.declares
 
-  pub event_known : (e : Eventful) (own : IsOwn site e.name.name) → IsEvent site own.phrase → EventAgrees image site site.set.phrases site.block e
+  -- data of an event type that stand for an event, which is latched where they say so
+  pub event_known_as : (e : Eventful) (number : ℕ) (p : Phrase) (common : List Attribute) (item : Declared) → means site.set.phrases site.block e.name.name ≡ Some number → slice_get site.set.phrases number ≡ Some p → p.node ≡ OfItem common item
+      → is_event_type (type_of common item) ≡ true → (k : ℕ) (q : Phrase) → standing_for site.set.phrases number ≡ k → slice_get site.set.phrases k ≡ Some q → (is : IsEvent site q)
+      → (is_marked Latched common item ≡ true → is_marked Latched is.common is.item ≡ true) → EventAgrees image site site.set.phrases site.block e
   unfolding is_unlatched
-  event_known e own is =
+  event_known_as e number p common item meant there_ declares eventful k q stands at is latched_too =
       let ps = site.set.phrases in
       let vs = site.set.constants in
-      let k = own.number in
-      let one = listed_event site k own.phrase own.there (counted k own.phrase own.there) is in
+      let one = listed_event site k q at (counted k q at) is in
       let event : ℕ = length (processes_of ps) + one.number in
-      let none : place_in (processes_of ps) k ≡ None = unplaced k (processes_of ps) (no_process k own.phrase own.there is) (place_in (processes_of ps) k) refl in
+      let none : place_in (processes_of ps) k ≡ None = unplaced k (processes_of ps) (no_process k q at is) (place_in (processes_of ps) k) refl in
       let event_is : event_of ps k ≡ Some event =
       ap (λ o. option_or o (elim (place_in (declared_events ps) k) [ None ↦ None | Some n ↦ Some (length (processes_of ps) + n) ])) none
       ∙ ap (λ (o : Option ℕ). elim o [ None ↦ None | Some n ↦ Some (length (processes_of ps) + n) ]) one.is in
       let named : event_named ps site.block e.name.name ≡ event =
-      ap (λ (o : Option ℕ). unwrap_or (option_and_then (event_of ps) (elim o [ None ↦ None | Some j ↦ Some (standing_for ps j) ])) 0) own.meant
-      ∙ (ap (λ j. unwrap_or (event_of ps j) 0) own.own ∙ ap (λ o. unwrap_or o 0) event_is) in
+      ap (λ (o : Option ℕ). unwrap_or (option_and_then (event_of ps) (elim o [ None ↦ None | Some j ↦ Some (standing_for ps j) ])) 0) meant
+      ∙ (ap (λ j. unwrap_or (event_of ps j) 0) stands ∙ ap (λ o. unwrap_or o 0) event_is) in
       let starts : slice_get (map images.start_of image.events) one.number ≡ Some (start_of ps vs k) =
       ap (λ xs. slice_get xs one.number) (ap (λ (t : Tables). t.events) has.tables ∙ has.events) ∙ mapped (start_of ps vs) (declared_events ps) one.number k one.there in
       let there = unmapped images.start_of image.events one.number (start_of ps vs k) starts in
@@ -143,12 +146,15 @@ module _ (image : ImageParts) (site : Site) (counted : IsCounted site.set.phrase
         start = start_of ps vs k;
         declared = ap (declared_event image) named ∙ (declared_behind (length image.processes) one.number event image.events there.0 (omega (arith, count)) there.1 ∙ ap (λ s. Some s) there.2);
         latched = λ kept.
-            let unlatched : (is_event_type (type_of is.common is.item) && not (is_marked Latched is.common is.item)) ≡ false =
-            ap is_unlatched (sym is.declares)
-            ∙ (ap (λ (o : Option Phrase). elim o [ None ↦ false | Some p ↦ is_unlatched p.node ]) (sym own.there)
-            ∙ (ap (λ (o : Option ℕ). elim (option_and_then (λ j. slice_get ps j) o) [ None ↦ false | Some p ↦ is_unlatched p.node ]) (sym own.meant) ∙ kept)) in
-            let marked : is_marked Latched is.common is.item ≡ true = says_latched (is_event_type (type_of is.common is.item)) (is_marked Latched is.common is.item) is.eventful unlatched in
-            ap is_latched (event_start k own.phrase is own.there)
-            ∙ start_latched (has_mark Latched (is.item.attributes ++ is.common)) (is_set (first_values ps vs own.phrase (is.item.attributes ++ is.common) (kind.Bits 1 ∷ [])))
+            let unlatched : (is_event_type (type_of common item) && not (is_marked Latched common item)) ≡ false =
+            ap is_unlatched (sym declares)
+            ∙ (ap (λ (o : Option Phrase). elim o [ None ↦ false | Some r ↦ is_unlatched r.node ]) (sym there_)
+            ∙ (ap (λ (o : Option ℕ). elim (option_and_then (λ j. slice_get ps j) o) [ None ↦ false | Some r ↦ is_unlatched r.node ]) (sym meant) ∙ kept)) in
+            let marked : is_marked Latched is.common is.item ≡ true = latched_too (says_latched (is_event_type (type_of common item)) (is_marked Latched common item) eventful unlatched) in
+            ap is_latched (event_start k q is at)
+            ∙ start_latched (has_mark Latched (is.item.attributes ++ is.common)) (is_set (first_values ps vs q (is.item.attributes ++ is.common) (kind.Bits 1 ∷ [])))
             (list_any-append (is_mark Latched) is.item.attributes is.common ∙ marked);
       }
+
+  pub event_known : (e : Eventful) (own : IsOwn site e.name.name) → IsEvent site own.phrase → EventAgrees image site site.set.phrases site.block e
+  event_known e own is = event_known_as e own.number own.phrase is.common is.item own.meant own.there is.declares is.eventful own.number own.phrase own.own own.there is (λ marked. marked)

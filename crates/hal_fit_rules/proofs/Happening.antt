@@ -5,8 +5,9 @@ use Rattle.std.specs.Option.{option_or, option_and_then}
 use Rattle.std.proofs.lemmas.Bool.{and_from, eqb-true, ltb-true, eq-eqb, lt-ltb}
 use Rattle.hal_grammar.specs.Declarations.{Kind, IntegerKind, BooleanKind, EventKind, BitKind, CharacterKind, StructureKind, Attribute, Declared}
 use Rattle.hal_grammar.specs.Units.{Head, Program, Compool, Task, Procedure, Function}
-use Rattle.hal_phrases.specs.Phrases.{Phrase, OfUnit, OfItem}
+use Rattle.hal_phrases.specs.Phrases.{Phrase, OfTemplate, OfUnit, OfItem}
 use Rattle.hal_names.specs.Laws.{IsCounted}
+use Rattle.hal_names.specs.Means.{means}
 use Rattle.hal_scope.specs.Rules.{IsAmong}
 use Rattle.hal_scope.specs.Sorts.{type_of}
 use Rattle.hal_scope.specs.Uses.{is_nil}
@@ -14,10 +15,10 @@ use Rattle.hal_kinds.specs.declared.class.Class.TheVariants as class
 use Rattle.hal_kinds.specs.Classes.{class_of_head}
 use Rattle.hal_kinds.specs.Attributes.{sizes_of}
 use Rattle.hal_kinds.specs.Data.{class_of_type, has_copies, dimensions_of, data_of, data_with, data_at, is_event_type}
-use Rattle.hal_meaning.specs.Bodies.{is_process, is_process_head, processes_of}
+use Rattle.hal_meaning.specs.Bodies.{is_process, is_process_head, processes_of, standing_for}
 use Rattle.hal_meaning.specs.Events.{declared_events, event_of, is_event, place_in}
 use Rattle.hal_meaning.specs.Places.{is_in_unit}
-use Rattle.hal_meaning.specs.Variables.{MeantEvent, MeantNothing, event_meant, head_meant}
+use Rattle.hal_meaning.specs.Variables.{MeantEvent, MeantNothing, event_meant, head_meant, meant_by}
 use Rattle.hal_code.specs.Sorts.{B}
 use Rattle.hal_agreement.specs.Sites.{Site, here_at}
 use Rattle.hal_fit_expr.specs.Uses.{Uses}
@@ -25,8 +26,8 @@ use Rattle.hal_fit_expr.specs.Sorted.{sort_of_meant}
 use Rattle.hal_fit_classes.specs.Kinded.{sort_of_class}
 use Rattle.hal_fit_rules.specs.Agreeing.{NameAgrees}
 use Rattle.hal_fit_rules.specs.Owned.{IsOwn}
-use Rattle.hal_fit_rules.specs.Happening.{IsEvent, IsProcess, AsksAll}
-use Rattle.hal_fit_rules.proofs.Declaring.{agrees_by}
+use Rattle.hal_fit_rules.specs.Happening.{IsEvent, IsProcess, IsWrittenProcess, AsksAll}
+use Rattle.hal_fit_rules.proofs.Declaring.{agrees_as, agrees_by, meant_standing}
 use Rattle.hal_fit_rules.proofs.Leaving.{found_among}
 
 -- where a number is first in a list
@@ -168,14 +169,18 @@ module _ (u : Uses) (site : Site) (asks : AsksAll u site) (counted : IsCounted s
   meant_event : (k e : ℕ) → event_of site.set.phrases k ≡ Some e → event_meant (here_at site) k ≡ MeantEvent e
   meant_event k e is = ap (λ (o : Option ℕ). elim o [ None ↦ MeantNothing | Some n ↦ MeantEvent n ]) is
 
-  pub event_agrees : (name : List ℕ) (own : IsOwn site name) → IsEvent site own.phrase → NameAgrees u site site.set.phrases site.block name []
-  event_agrees name own is =
-      let same = counted own.number own.phrase own.there in
-      let one = event_numbered site own.number own.phrase own.there same is in
-      agrees_by u site name own (OfItem is.common is.item) (MeantEvent one.event) is.declares
-      (when_true (is_event_type (type_of is.common is.item)) (event_meant (here_at site) own.phrase.number) _ is.eventful ∙ meant_event own.phrase.number one.event (ap (event_of site.set.phrases) same ∙ one.is)) (record {
+  -- data of an event type, which stand for an event
+  pub event_agrees_as : (name : List ℕ) (k : ℕ) (p : Phrase) (common : List Attribute) (item : Declared) → means site.set.phrases site.block name ≡ Some k → slice_get site.set.phrases k ≡ Some p → p.node ≡ OfItem common item
+      → is_event_type (type_of common item) ≡ true → sizes_of common item ≡ None → (j : ℕ) (q : Phrase) → standing_for site.set.phrases k ≡ j → slice_get site.set.phrases j ≡ Some q → IsEvent site q → NameAgrees u site site.set.phrases site.block name []
+  event_agrees_as name k p common item meant there is eventful sized j q stands at event =
+      let same = counted j q at in
+      let one = event_numbered site j q at same event in
+      agrees_as u site [] name k p (OfItem common item) (MeantEvent one.event) meant there is
+      (meant_standing u site name k j q meant stands at
+      ∙ (ap (meant_by (here_at site) [] q) event.declares
+      ∙ (when_true (is_event_type (type_of event.common event.item)) (event_meant (here_at site) q.number) _ event.eventful ∙ meant_event q.number one.event (ap (event_of site.set.phrases) same ∙ one.is)))) (record {
         declared = data_with class.Bits zero false;
-        known = event_data site.set.phrases own.phrase is.common is.item is.eventful is.sized;
+        known = event_data site.set.phrases p common item eventful sized;
         single = refl;
         alone = refl;
         worth = B;
@@ -183,12 +188,31 @@ module _ (u : Uses) (site : Site) (asks : AsksAll u site) (counted : IsCounted s
         sorted = event_sorted u site one.event asks one.small;
       })
 
+  pub event_agrees : (name : List ℕ) (own : IsOwn site name) → IsEvent site own.phrase → NameAgrees u site site.set.phrases site.block name []
+  event_agrees name own is = event_agrees_as name own.number own.phrase is.common is.item own.meant own.there is.declares is.eventful is.sized own.number own.phrase own.own own.there is
+
   pub process_agrees : (name : List ℕ) (own : IsOwn site name) → IsProcess own.phrase → NameAgrees u site site.set.phrases site.block name []
   process_agrees name own is =
       let same = counted own.number own.phrase own.there in
       let one = process_numbered site own.number own.phrase own.there same is in
       agrees_by u site name own (OfUnit is.name is.head is.declarations) (MeantEvent one.event) is.declares
       (process_meant site own.phrase.number is.head is.process ∙ meant_event own.phrase.number one.event (ap (event_of site.set.phrases) same ∙ one.is)) (record {
+        found = class.Bits;
+        known = process_class is.head is.process;
+        sorted = λ c s of_c worth. event_sorted u site one.event asks one.small ∙ (ap (option_and_then sort_of_class) (sym (process_class is.head is.process) ∙ of_c) ∙ worth);
+      })
+
+  -- and a written template of one
+  pub written_process_agrees : (name : List ℕ) → IsWrittenProcess site name → NameAgrees u site site.set.phrases site.block name []
+  written_process_agrees name is =
+      let unit = is.standing in
+      let process = unit.is in
+      let same = counted unit.unit unit.phrase unit.there in
+      let one = process_numbered site unit.unit unit.phrase unit.there same process in
+      agrees_as u site [] name is.number is.phrase (OfTemplate is.template is.head is.declarations) (MeantEvent one.event) is.meant is.there is.declares
+      (meant_standing u site name is.number unit.unit unit.phrase is.meant unit.stands unit.there
+      ∙ (ap (meant_by (here_at site) [] unit.phrase) process.declares
+      ∙ (process_meant site unit.phrase.number process.head process.process ∙ meant_event unit.phrase.number one.event (ap (event_of site.set.phrases) same ∙ one.is)))) (record {
         found = class.Bits;
         known = process_class is.head is.process;
         sorted = λ c s of_c worth. event_sorted u site one.event asks one.small ∙ (ap (option_and_then sort_of_class) (sym (process_class is.head is.process) ∙ of_c) ∙ worth);

@@ -1,5 +1,5 @@
 -- Where the same is used inside of UPDATE blocks and outside, it doesn't matter for names where statements are looked at as standing.
-use Rattle.std.proofs.Common.{ℕ, suc, Bool, true, false, List, [], ◌∷◌, length, Option, Some, None}
+use Rattle.std.proofs.Common.{ℕ, suc, Bool, true, false, List, length, Some, None}
 use Rattle.hal_grammar.specs.Leaves.{Naming}
 use Rattle.hal_grammar.specs.Statements.{Statement, Labelled, Basic, Assignment, Null, If, Do, DoCase, DoLoop, DoFor, Exit, Repeat, Return, Call, Read, Write, Event, Scheduled, UpdatePriority, Cancel, Terminate, Wait, WaitUntil, WaitForDependent, WaitFor, Update, OnErrorStatement, OnErrorResponse, OffError, SendError, Alternative, NoAlternative, Otherwise, Group, Groups, Statements, NoStatements, MoreStatements}
 use Rattle.hal_phrases.specs.declared.around.Around.{Around}

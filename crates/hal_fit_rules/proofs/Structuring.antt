@@ -28,7 +28,7 @@ unfolding is_structure_class
 structure_class = refl
 
 -- what is a structure for the checks has no sort
-structure_alike : (found : Option Data) (path : List Naming) (shape : Shape) (d : Data) → found ≡ Some d → d.class ≡ class.Structure → AreAlike found path shape
+pub structure_alike : (found : Option Data) (path : List Naming) (shape : Shape) (d : Data) → found ≡ Some d → d.class ≡ class.Structure → AreAlike found path shape
 structure_alike found path shape d is structure = record {
   declared = d;
   known = is;

@@ -41,7 +41,7 @@ ghost use Rattle.hal_fit_rules.specs.Leaves.{HasKnownLeaves, IsKnown, is_value_r
 ghost use Rattle.hal_fit_rules.specs.Agreeing.{Agrees, FormAgrees, NameAgrees};
 ghost use Rattle.hal_fit_rules.specs.Looked.{AreLooked};
 ghost use Rattle.hal_fit_rules.specs.Owned.{IsBuiltinName, IsFunction, IsOwn, IsPlainData, IsStructureData, IsTemporary};
-ghost use Rattle.hal_fit_rules.specs.Happening.{AsksAll, IsEvent, IsProcess};
+ghost use Rattle.hal_fit_rules.specs.Happening.{AsksAll, IsEvent, IsProcess, IsWrittenProcess};
 ghost use Rattle.hal_fit_rules.specs.Passed.{ProcedureAgrees};
 ghost use Rattle.hal_fit_rules.specs.Passing.{AreParameters, IsProcedure};
 ghost use Rattle.hal_fit_rules.specs.Received.{CellsAgree};
@@ -82,10 +82,12 @@ pub fn the_names_of_own_data_agree()
         → CellsAgree site.set.phrases [] (means site.set.phrases site.block name) (name_meant (here_at site) name []) }
 {}
 
-/// A name agrees that means an event or a process of the unit itself, where these may be asked for (language document, Events).
+/// A name agrees that means an event or a process of the unit itself, or a written template of a process that stands for it, where these may be asked for (language document,
+/// Events and Templates).
 pub fn the_names_of_events_agree()
     ensures event { (u : Uses) (site : Site) (name : List ℕ) (own : IsOwn site name) → AsksAll u site → IsCounted site.set.phrases → IsEvent site own.phrase → NameAgrees u site site.set.phrases site.block name [] }
     ensures process { (u : Uses) (site : Site) (name : List ℕ) (own : IsOwn site name) → AsksAll u site → IsCounted site.set.phrases → IsProcess own.phrase → NameAgrees u site site.set.phrases site.block name [] }
+    ensures written { (u : Uses) (site : Site) (name : List ℕ) → AsksAll u site → IsCounted site.set.phrases → IsWrittenProcess site name → NameAgrees u site site.set.phrases site.block name [] }
 {}
 
 /// A name and a call form agree of a constant of the unit itself that is its value: what is known of it is a value of its type (language document, Constants).

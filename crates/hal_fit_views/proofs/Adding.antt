@@ -1,6 +1,5 @@
 -- Code that is emitted behind other code, each of whose instructions is so.
 use Rattle.std.proofs.Common.{◌≡◌, Bool, true, false, List, [], ◌∷◌, ◌++◌, Option, Some, None, Ok, Err, if◌then◌else◌, refl, sym, ap, ◌∙◌, append_assoc, append-nil}
-use Rattle.std.specs.Option.{option_map}
 use Rattle.hal_base.specs.declared.refusal.Place.{Place}
 use Rattle.hal_code.specs.declared.instr.Instr.{Instr}
 use Rattle.hal_gen_expr.specs.Emitting.{Emitted, onwards, emit}

@@ -1,5 +1,5 @@
 -- The code of values and calls names views that are for them.
-use Rattle.std.specs.Prelude.{◌≡◌, ◌+◌, ◌==◌, ◌&&◌, ℕ, nat_le, pos, length, Bool, true, false, List, [], ◌∷◌, ◌++◌, Option, Some, None, slice_get, if◌then◌else◌}
+use Rattle.std.specs.Prelude.{◌≡◌, ◌+◌, ◌==◌, ℕ, nat_le, pos, length, Bool, true, false, List, [], ◌∷◌, ◌++◌, Option, Some, None, slice_get, if◌then◌else◌}
 use Rattle.std.specs.List.{position}
 use Rattle.std.specs.Option.{option_and_then, option_map}
 use Rattle.std.proofs.Common.{refl, sym, ap, subst, ◌∙◌, inl, inr}
@@ -13,14 +13,12 @@ use Rattle.hal_values.specs.declared.value.Value.{Value}
 use Rattle.hal_values.specs.declared.value.Value.TheVariants as value
 use Rattle.hal_code.specs.declared.instr.Instr.{Instr}
 use Rattle.hal_code.specs.declared.instr.Instr.TheVariants as instr
-use Rattle.hal_code.specs.declared.row.Base.{Base}
 use Rattle.hal_code.specs.declared.row.Base.TheVariants as base
 use Rattle.hal_code.specs.declared.row.View.{View}
 use Rattle.hal_meaning.specs.Bodies.{Body}
-use Rattle.hal_meaning.specs.Calls.{Parameter, parameter_named, inputs_of, outputs_of, is_function}
-use Rattle.hal_meaning.specs.Elements.{Shape}
+use Rattle.hal_meaning.specs.Calls.{parameter_named, inputs_of, outputs_of, is_function}
 use Rattle.hal_meaning.specs.Expressions.{inputs_at, literal_value}
-use Rattle.hal_meaning.specs.Places.{Place, InPlaces, Storing}
+use Rattle.hal_meaning.specs.Places.{Place, InPlaces}
 use Rattle.hal_meaning.specs.ReportNames.{first_place}
 use Rattle.hal_meaning.specs.Runs.{places_of_process}
 use Rattle.hal_meaning.specs.Sets.{Set, body_at}
@@ -30,9 +28,9 @@ use Rattle.hal_agreement.specs.Sites.{Site, within_block}
 use Rattle.hal_storage.specs.referents.Referents.{Referent, DataOf, ConstantOf, EventOf, BlockOf, BuiltinOf, Unmeant}
 use Rattle.hal_gen_expr.specs.ExpressionCode.{integer_instr, literal_instr, exponent_instr, raised_to}
 use Rattle.hal_gen_expr.specs.Leaves.{is_nil, address_of, element_of, alone_of, behind_of, bound_of, binds_of, kept_of, copied_of, stored_of, parameters_of, same_form, passed_to, call_with, call_to, call_of, value_of}
-use Rattle.hal_gen_expr.specs.Numbering.{Numbering, below, most, base_of, view_number, block_number}
+use Rattle.hal_gen_expr.specs.Numbering.{Numbering, below, most, view_number, block_number}
 use Rattle.hal_gen_expr.specs.Referents.{referent}
-use Rattle.hal_gen_expr.proofs.Numbered.{below_is, mapped_is, then_is, first_is, given_is}
+use Rattle.hal_gen_expr.proofs.Numbered.{mapped_is, then_is, first_is, given_is}
 use Rattle.hal_fit_expr.proofs.Given.{number_same}
 use Rattle.hal_fit_calls.specs.Each.{Each}
 use Rattle.hal_fit_calls.proofs.Each.{each_append}

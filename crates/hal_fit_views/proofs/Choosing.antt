@@ -7,14 +7,14 @@ use Rattle.std.proofs.lemmas.Int.{ints}
 use Rattle.std.proofs.lemmas.List.{length-append, length-replicate, map-append}
 use Rattle.std.proofs.lemmas.Nat.{mul-add-lt, mul-le}
 use Rattle.std.proofs.Math.Nat.{mul_comm}
+use Rattle.hal_code.specs.declared.row.Dimension.{Dimension as Row}
 use Rattle.hal_grammar.specs.Leaves.{Naming}
 use Rattle.hal_grammar.specs.Expressions.{Subscript, Unsubscripted, ByName, ByInteger, ByParts, Subscripts, NoSubscripts, MoreSubscripts, Sub, Every, Range, Portion, One as OnePlace}
 use Rattle.hal_scope.specs.Rules.{IsAmong}
 use Rattle.hal_values.specs.declared.value.Kind.{Kind}
-use Rattle.hal_code.specs.declared.row.Dimension.{Dimension as Row}
 use Rattle.hal_code.specs.Memory.{offsets}
 use Rattle.hal_states.specs.Numbers.{before_nearest, is_inside}
-use Rattle.hal_meaning.specs.Elements.{Component, Shape, product, count, copy_size, times, kinds_of_component, kinds_of, before, chosen, offset, leads}
+use Rattle.hal_meaning.specs.Elements.{Component, product, count, copy_size, times, kinds_of_component, kinds_of, before, chosen, offset, leads}
 use Rattle.hal_meaning.specs.Expressions.{copies_of}
 use Rattle.hal_meaning.specs.Variables.{Dimension, dimension, dimensions_of, kind_of_first, sizes_of_first}
 use Rattle.hal_agreement.specs.PlacedExpressions.{single_dimensions}
@@ -22,7 +22,7 @@ use Rattle.hal_agreement.specs.Sites.{Site}
 use Rattle.hal_gen_expr.specs.declared.spans.Span.{Span}
 use Rattle.hal_gen_expr.specs.Led.{Led, array_list, rows_left, skips_led, sizes_led}
 use Rattle.hal_gen_expr.specs.Numbering.{most, row_of}
-use Rattle.hal_gen_expr.specs.Spans.{span_of, places_before_span, places_skipped, elements_behind, elements_skipped, skips}
+use Rattle.hal_gen_expr.specs.Spans.{span_of, places_before_span, places_skipped, elements_behind, skips}
 use Rattle.hal_fit_calls.specs.Each.{Each}
 use Rattle.hal_fit_rows.proofs.Filled.{IsSome, product_some}
 use Rattle.hal_fit_rows.proofs.Formed.{HasSizes, AreCopies, IsFormed, each_kept, first_sizes}

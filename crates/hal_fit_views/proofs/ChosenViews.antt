@@ -1,31 +1,26 @@
 -- Views of elements among which a subscript chooses lie where their data do.
-use Rattle.std.specs.Prelude.{◌≡◌, ◌≤◌, ◌<◌, ◌+◌, ℕ, zero, suc, true, min, map, List, [], ◌∷◌, Option, Some, None, slice_get}
+use Rattle.std.specs.Prelude.{◌≡◌, ◌≤◌, ◌<◌, ◌+◌, ℕ, true, min, map, List, [], ◌∷◌, Some}
 use Rattle.std.specs.List.{sum_by}
-use Rattle.std.proofs.Common.{refl, sym, ap, subst, ◌∙◌, arith}
+use Rattle.std.proofs.Common.{sym, ap, subst, arith}
 use Rattle.hal_base.specs.declared.limits.TheConstants.{CELL_LIMIT}
 use Rattle.hal_grammar.specs.Leaves.{Naming}
-use Rattle.hal_scope.specs.Rules.{IsAmong}
 use Rattle.hal_values.specs.declared.value.Kind.{Kind}
 use Rattle.hal_code.specs.declared.image.ImageParts.{ImageParts}
-use Rattle.hal_code.specs.declared.row.Base.{Base}
-use Rattle.hal_code.specs.declared.row.Dimension.{Dimension}
 use Rattle.hal_code.specs.declared.row.Run.{Run}
 use Rattle.hal_code.specs.declared.row.Target.TheVariants as target
 use Rattle.hal_code.specs.Images.{row_count}
 use Rattle.hal_code.specs.Right.{cell_count}
-use Rattle.hal_code.specs.Memory.{offsets}
 use Rattle.hal_meaning.specs.Elements.{kinds_of, offset}
 use Rattle.hal_meaning.specs.Sets.{Set}
-use Rattle.hal_agreement.specs.Sites.{Site}
 use Rattle.hal_storage.specs.referents.Referents.{Referent, DataOf, ConstantOf, EventOf, BlockOf, BuiltinOf, Unmeant}
 use Rattle.hal_gen_expr.specs.Elements.{counted}
 use Rattle.hal_gen_expr.specs.Led.{Led, led_by, led_to, rows_left, skips_led, first_chosen}
 use Rattle.hal_gen_expr.specs.Numbering.{row_of, cell_view}
 use Rattle.hal_gen_expr.specs.Referents.{referent}
 use Rattle.hal_fit_rows.proofs.Formed.{referent_formed}
-use Rattle.hal_fit_rows.specs.Purposes.{IsSite, ForChosen}
+use Rattle.hal_fit_rows.specs.Purposes.{ForChosen}
 use Rattle.hal_fit_views.specs.Holding.{DataHold}
-use Rattle.hal_fit_views.specs.Left.{PathsLead}
+use Rattle.hal_fit_views.specs.Left.{AllLead}
 use Rattle.hal_fit_views.specs.Lying.{lies_in, CellsLie}
 use Rattle.hal_fit_views.proofs.Bases.{base_low}
 use Rattle.hal_fit_views.proofs.Choosing.{chosen_there}
@@ -45,7 +40,7 @@ led_is path Unmeant l is = absurd (cc)
 pub moved_is : (skipped first : ℕ) → min (min skipped counted + min first counted) counted < counted → min (min skipped counted + min first counted) counted ≡ skipped + first
 moved_is skipped first low = omega (arith, low)
 
-module _ (s : Set) (image : ImageParts) (cells : cell_count image ≤ CELL_LIMIT) (rows_few : sum_by (λ (runs : List (Run Kind)). row_count runs) image.shapes ≤ 1048576) (hold : DataHold s image) (lead : PathsLead s) where
+module _ (s : Set) (image : ImageParts) (cells : cell_count image ≤ CELL_LIMIT) (rows_few : sum_by (λ (runs : List (Run Kind)). row_count runs) image.shapes ≤ 1048576) (hold : DataHold s image) (lead : AllLead s) where
   pub chosen_lie : CellsLie s image ForChosen
   chosen_lie process site rows k from at one =
       let l = one.led in

@@ -1,10 +1,10 @@
 -- The code of expressions names views that are for what their phrases name.
-use Rattle.std.specs.Prelude.{◌≡◌, ◌&&◌, ◌||◌, ℕ, pos, map, not, Bool, true, false, List, [], ◌∷◌, ◌++◌, length, Option, Some, None, Ok, slice_get}
-use Rattle.std.specs.Option.{option_map, is_some}
-use Rattle.std.proofs.Common.{refl, ap, subst, inl, inr}
+use Rattle.std.specs.Prelude.{◌≡◌, ◌&&◌, ◌||◌, ℕ, pos, not, Bool, true, false, List, [], ◌∷◌, length, Option, Some, None, Ok, slice_get}
+use Rattle.std.specs.Option.{is_some}
+use Rattle.std.proofs.Common.{refl, subst, inl, inr}
 use Rattle.hal_base.specs.declared.refusal.Place as refusals
 use Rattle.hal_grammar.specs.Leaves.{Naming, Sign, Plus, Minus}
-use Rattle.hal_grammar.specs.Expressions.{Expression, Or, And, Compare, Cat, Sum, Product, Power, Not, Literal, Decimal, Referred, Called, Convert, Parenthesis, Expressions, NoExpressions, MoreExpressions, Terms, NoTerms, MoreTerms, Reference, Refers, Subscript, Unsubscripted, ByName, ByInteger, ByParts, Subscripts, NoSubscripts, MoreSubscripts, Sub, Every, Range, Portion, One as OnePlace, Position, FromBeginning, FromEnd}
+use Rattle.hal_grammar.specs.Expressions.{Expression, Or, And, Compare, Cat, Sum, Product, Power, Not, Literal, Decimal, Referred, Called, Convert, Parenthesis, Expressions, NoExpressions, MoreExpressions, Terms, NoTerms, MoreTerms, Reference, Refers, Subscript, Unsubscripted, ByName, ByInteger, ByParts, Subscripts, NoSubscripts, MoreSubscripts, Sub, Every, Range, Portion, Position, FromBeginning, FromEnd, One as OnePlace}
 use Rattle.hal_phrases.specs.declared.around.Around.{Around}
 use Rattle.hal_phrases.specs.declared.role.Role.{Role}
 use Rattle.hal_phrases.specs.declared.role.Role.TheVariants as role
@@ -21,9 +21,7 @@ use Rattle.hal_constants.specs.Constants.{is_none}
 use Rattle.hal_code.specs.declared.instr.Instr.{Instr}
 use Rattle.hal_code.specs.declared.instr.Instr.TheVariants as instr
 use Rattle.hal_code.specs.declared.operand.Places.TheVariants as chosen_places
-use Rattle.hal_code.specs.declared.row.Run.{Run}
 use Rattle.hal_code.specs.declared.row.View.{View}
-use Rattle.hal_values.specs.declared.value.Kind.{Kind}
 use Rattle.hal_meaning.specs.Bodies.{marks_of}
 use Rattle.hal_meaning.specs.Calls.{parameter_named}
 use Rattle.hal_meaning.specs.Expressions.{inputs_at, is_condition, makes_condition, becomes_condition, operation_of_relation, operation_of_sign, operation_of_conversion, is_size, sizes_named}
@@ -32,15 +30,15 @@ use Rattle.hal_meaning.specs.Runs.{places_of_process}
 use Rattle.hal_meaning.specs.Sets.{Set}
 use Rattle.hal_meaning.specs.Variables.{is_arrayed, is_whole}
 use Rattle.hal_agreement.specs.PlacedExpressions.{two, picks, places_of}
-use Rattle.hal_agreement.specs.Sites.{Site, within_block}
+use Rattle.hal_agreement.specs.Sites.{Site}
 use Rattle.hal_storage.specs.referents.Referents.{Referent, DataOf, ConstantOf, EventOf, BlockOf, BuiltinOf, Unmeant}
 use Rattle.hal_gen_expr.specs.declared.aims.Aim.{Aim}
 use Rattle.hal_gen_expr.specs.declared.aims.Aim.TheVariants as aims
 use Rattle.hal_gen_expr.specs.Emitting.{Emitted, onwards, emit}
-use Rattle.hal_gen_expr.specs.ExpressionCode.{one, literal_instr, exponent_instr, power_of, emit_one, emit_any, integer_instr, sign_code, operand_code, name_code, integer_code, address_code, place_code, array_code, leaves_array, is_plain, subscripted_code, where_led, with_shape, passed_code, called_code, size_code, ends, expression_code, joined_code, folded_code, terms_code, built_code, arguments_code, whole_code, area_code, reference_code, chosen_code, copies_code, indexes_code, index_code, position_code, component_code, parts_code, part_code}
+use Rattle.hal_gen_expr.specs.ExpressionCode.{one, literal_instr, exponent_instr, power_of, emit_one, integer_instr, sign_code, operand_code, name_code, integer_code, address_code, place_code, array_code, leaves_array, subscripted_code, where_led, with_shape, passed_code, called_code, size_code, ends, expression_code, joined_code, folded_code, terms_code, built_code, arguments_code, whole_code, area_code, reference_code, chosen_code, copies_code, indexes_code, index_code, position_code, component_code, parts_code, part_code}
 use Rattle.hal_gen_expr.specs.Led.{Led, led_to, led_by, sizes_led, aimed, plainly_aimed}
 use Rattle.hal_gen_expr.specs.Leaves.{is_nil, value_of, call_of}
-use Rattle.hal_gen_expr.specs.Numbering.{Numbering, shape_number, shape_in}
+use Rattle.hal_gen_expr.specs.Numbering.{Numbering, shape_in}
 use Rattle.hal_gen_expr.specs.Referents.{referent}
 use Rattle.hal_gen_expr.specs.Shapes.{runs_of}
 use Rattle.hal_gen_expr.specs.Sizes.{size_of_arguments}
@@ -53,10 +51,10 @@ use Rattle.hal_fit_rules.specs.Begun.{AreFirst}
 use Rattle.hal_fit_rules.proofs.Beginning.{then_, among}
 use Rattle.hal_fit_rules.proofs.BegunExpressions.{expression_first, expressions_first, terms_first, subscript_first, subs_first, position_first}
 use Rattle.hal_fit_rows.specs.Homes.{LeadsHome}
-use Rattle.hal_fit_rows.specs.Purposes.{IsSite, Says, IsInput, ForInput, IsPassed}
+use Rattle.hal_fit_rows.specs.Purposes.{IsSite, Says, IsInput, IsPassed}
 use Rattle.hal_fit_views.specs.Naming.{Names}
 use Rattle.hal_fit_views.proofs.Adding.{Gives, none_more, some_more, emit_gives, one_gives, any_gives, then_gives, if_gives, either_gives, call_gives}
-use Rattle.hal_fit_views.proofs.Calling.{site_in, value_plain, integer_plain, literal_plain, exponent_plain, call_each, value_each}
+use Rattle.hal_fit_views.proofs.Calling.{site_in, integer_plain, literal_plain, exponent_plain, call_each, value_each}
 use Rattle.hal_fit_views.proofs.Leaves.{chosen_named, plainly_named, argument_named, plain_argument}
 
 module _ (s : Set) (views : List View) (o : Outline) (number : ℕ) (outlined : slice_get (outlines_of s) number ≡ Some o) (places : List Place) (laid : places ≡ places_of_process s o.process) (unit : ℕ)

@@ -1,5 +1,5 @@
 -- Views of elements lie where the data do whose elements they are.
-use Rattle.std.specs.Prelude.{◌≡◌, ◌+◌, ◌&&◌, ℕ, zero, suc, Bool, true, false, List, [], ◌∷◌, ◌++◌, map, Option, Some, None, slice_get}
+use Rattle.std.specs.Prelude.{◌≡◌, ◌+◌, ◌&&◌, ℕ, zero, suc, Bool, true, false, List, [], ◌∷◌, Option, Some, None, slice_get}
 use Rattle.std.specs.List.{list_all}
 use Rattle.std.proofs.Common.{refl, sym, ap, subst, ◌∙◌, inl, inr, arith, append-nil}
 use Rattle.std.proofs.lemmas.Bool.{and_from, and_parts}
@@ -9,7 +9,6 @@ use Rattle.hal_code.specs.declared.image.ImageParts.{ImageParts}
 use Rattle.hal_code.specs.declared.row.Base.{Base}
 use Rattle.hal_code.specs.declared.row.Base.TheVariants as base
 use Rattle.hal_code.specs.declared.row.Dimension.{Dimension}
-use Rattle.hal_code.specs.declared.row.OwnPlace.{OwnPlace}
 use Rattle.hal_code.specs.declared.row.Target.{Target}
 use Rattle.hal_code.specs.declared.row.Target.TheVariants as target
 use Rattle.hal_code.specs.declared.row.View.{View}
@@ -21,14 +20,12 @@ use Rattle.hal_meaning.specs.Places.{Storing, InCells, InPlaces, ByReference, Un
 use Rattle.hal_meaning.specs.ReportNames.{first_cell, first_place}
 use Rattle.hal_meaning.specs.Sets.{Set}
 use Rattle.hal_agreement.specs.Sites.{Site}
-use Rattle.hal_storage.specs.referents.Referents.{DataOf}
 use Rattle.hal_gen_expr.specs.Numbering.{base_of, cell_view}
-use Rattle.hal_gen_expr.specs.Referents.{referent}
 use Rattle.hal_fit_layout.proofs.Memory.{known, lies_behind}
 use Rattle.hal_fit_rows.proofs.Lying.{lies_one, element_below}
-use Rattle.hal_fit_rows.specs.Purposes.{IsSite, ForElement}
+use Rattle.hal_fit_rows.specs.Purposes.{ForElement}
 use Rattle.hal_fit_views.specs.Holding.{RefersTo, Holds, DataHold}
-use Rattle.hal_fit_views.specs.Lying.{lies_at, lies_in, CellsLie}
+use Rattle.hal_fit_views.specs.Lying.{lies_in, CellsLie}
 use Rattle.hal_fit_views.proofs.Bases.{base_low, base_shared, base_own, base_through}
 
 -- these kinds stand among others, from a number on

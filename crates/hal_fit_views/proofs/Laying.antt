@@ -1,6 +1,6 @@
 -- All elements of data that a name means lie where their data are stored.
-use Rattle.std.specs.Prelude.{◌≡◌, ◌<◌, ◌+◌, ◌⊎◌, ℕ, zero, suc, Bool, true, false, List, [], ◌∷◌, ◌++◌, length, map, replicate, Option, Some, None, slice_get, if◌then◌else◌}
-use Rattle.std.proofs.Common.{refl, sym, ap, subst, ◌∙◌, inl, inr, arith, append-nil}
+use Rattle.std.specs.Prelude.{◌≡◌, ◌<◌, ℕ, zero, suc, Bool, true, false, List, [], ◌∷◌, length, map, replicate, Option, Some, None, slice_get, if◌then◌else◌}
+use Rattle.std.proofs.Common.{refl, sym, ap, subst, ◌∙◌, arith, append-nil}
 use Rattle.hal_grammar.specs.Leaves.{Naming}
 use Rattle.hal_grammar.specs.Declarations.{Attribute, Declared}
 use Rattle.hal_grammar.specs.Units.{Head, Program, Compool, Task, Procedure, Function}
@@ -16,26 +16,24 @@ use Rattle.hal_constants.specs.Naming.{is_value_item}
 use Rattle.hal_values.specs.declared.value.Kind.{Kind}
 use Rattle.hal_values.specs.declared.value.Kind.TheVariants as kind
 use Rattle.hal_code.specs.declared.image.ImageParts.{ImageParts}
-use Rattle.hal_code.specs.declared.row.OwnPlace.{OwnPlace}
 use Rattle.hal_code.specs.Images as images
 use Rattle.hal_code.specs.Memory.{lies_from, own_memory, shared_memory}
 use Rattle.hal_meaning.specs.Bodies.{Body, is_unit, meant, processes_of, processes_reaching, reaches}
 use Rattle.hal_meaning.specs.Elements.{Shape, kinds_of, shape_of}
 use Rattle.hal_meaning.specs.Events.{event_of}
-use Rattle.hal_meaning.specs.Places.{Place, Storing, InCells, InPlaces, ByReference, Unstored, storing, hidden, places_at, places_of, unit_numbers}
+use Rattle.hal_meaning.specs.Places.{Storing, InCells, InPlaces, ByReference, Unstored, storing, hidden, places_at, places_of, unit_numbers}
 use Rattle.hal_meaning.specs.ReportNames.{first_cell, first_place}
-use Rattle.hal_meaning.specs.Runs.{places_of_process}
 use Rattle.hal_meaning.specs.Sets.{Set, body_at, cells_of}
 use Rattle.hal_meaning.specs.Variables.{temporary_shape}
 use Rattle.hal_reach.specs.Places.{is_among}
 use Rattle.hal_reach.proofs.Callees.{has_unit}
 use Rattle.hal_agreement.specs.Sites.{Site, within_block}
-use Rattle.hal_storage.specs.referents.Referents.{Referent, DataOf, ConstantOf, EventOf, BlockOf, BuiltinOf, Unmeant, event_referent, constant_referent, item_referent, head_referent, node_referent, phrase_referent, declaration_referent, builtin_referent}
+use Rattle.hal_storage.specs.referents.Referents.{Referent, DataOf, EventOf, BuiltinOf, Unmeant, event_referent, constant_referent, item_referent, head_referent, node_referent, phrase_referent, declaration_referent, builtin_referent}
 use Rattle.hal_gen_expr.specs.Referents.{referent}
 use Rattle.hal_fit_expr.proofs.Given.{number_same}
 use Rattle.hal_fit_calls.specs.Each.{Each}
 use Rattle.hal_link.specs.Linking.{own_row, process_site}
-use Rattle.hal_link.specs.Shapes.{Shapes, shapes_of}
+use Rattle.hal_link.specs.Shapes.{shapes_of}
 use Rattle.hal_fit_layout.specs.Owned.{LiesIn}
 use Rattle.hal_fit_layout.proofs.Called.{Reaches}
 use Rattle.hal_fit_layout.proofs.Memory.{known}
@@ -45,7 +43,7 @@ use Rattle.hal_fit_rows.proofs.LookingUp.{LooksUp}
 use Rattle.hal_fit_rows.proofs.Lying.{Opens, own_lies, item_lies}
 use Rattle.hal_fit_rows.proofs.Sharing.{cells_lie}
 use Rattle.hal_fit_rows.specs.Homes.{LeadsHome, StandsHome, StandsPlaced}
-use Rattle.hal_fit_rows.specs.Purposes.{StandsIn, IsSite}
+use Rattle.hal_fit_rows.specs.Purposes.{StandsIn}
 use Rattle.hal_fit_views.specs.Holding.{RefersTo, Holds, DataHold, ReferencesHold}
 use Rattle.hal_fit_views.specs.Placed.{keeps_own, is_temporary, AreWellPlaced}
 use Rattle.hal_fit_views.proofs.Reached.{ReachesIt, reaches_so, listed, stands_reached, passes_kept}

@@ -1,12 +1,12 @@
 -- The instructions of names, groups and parameters name views that are for them.
-use Rattle.std.specs.Prelude.{◌≡◌, ◌<◌, ◌+◌, ◌==◌, ◌&&◌, ℕ, min, map, not, nat_lt, Bool, true, false, List, [], ◌∷◌, ◌++◌, Option, Some, None, slice_get, if◌then◌else◌}
+use Rattle.std.specs.Prelude.{◌≡◌, ◌<◌, ◌+◌, ◌==◌, ◌&&◌, ℕ, min, map, not, nat_lt, Bool, true, List, [], ◌∷◌, Option, Some, None, slice_get, if◌then◌else◌}
 use Rattle.std.specs.List.{position}
-use Rattle.std.specs.Option.{is_some, option_and_then, option_map}
+use Rattle.std.specs.Option.{is_some, option_map}
 use Rattle.std.proofs.Common.{refl, sym, ap, subst, ◌∙◌, inl, inr, arith}
-use Rattle.std.proofs.lemmas.Bool.{eqb-true, ltb-true, and_parts}
+use Rattle.std.proofs.lemmas.Bool.{eqb-true, and_parts}
 use Rattle.hal_base.specs.declared.refusal.Place.{Place}
 use Rattle.hal_grammar.specs.Leaves.{Naming}
-use Rattle.hal_grammar.specs.Expressions.{Reference, Refers, Subscript, Unsubscripted, ByName, ByInteger, ByParts}
+use Rattle.hal_grammar.specs.Expressions.{Refers, Subscript}
 use Rattle.hal_phrases.specs.declared.role.Role.{Role}
 use Rattle.hal_phrases.specs.Phrases.{OfReference}
 use Rattle.hal_values.specs.declared.value.Kind.{Kind}
@@ -16,25 +16,21 @@ use Rattle.hal_code.specs.declared.instr.Instr.TheVariants as instr
 use Rattle.hal_code.specs.declared.row.Base.{Base}
 use Rattle.hal_code.specs.declared.row.Base.TheVariants as base
 use Rattle.hal_code.specs.declared.row.Dimension.{Dimension}
-use Rattle.hal_code.specs.declared.row.Run.{Run}
 use Rattle.hal_code.specs.declared.row.Target.{Target}
 use Rattle.hal_code.specs.declared.row.Target.TheVariants as target
 use Rattle.hal_code.specs.declared.row.View.{View}
-use Rattle.hal_meaning.specs.Calls.{Parameter, parameter_named}
+use Rattle.hal_meaning.specs.Calls.{parameter_named}
 use Rattle.hal_meaning.specs.Elements.{Shape, chosen, offset}
-use Rattle.hal_meaning.specs.Places.{Storing, InCells, InPlaces, ByReference, Unstored}
-use Rattle.hal_meaning.specs.ReportNames.{first_cell, first_place}
+use Rattle.hal_meaning.specs.Places.{Storing, InPlaces}
 use Rattle.hal_meaning.specs.Sets.{Set}
 use Rattle.hal_meaning.specs.Variables.{kind_of_first}
 use Rattle.hal_agreement.specs.Sites.{Site}
 use Rattle.hal_runs.proofs.Same.{kind_same}
 use Rattle.hal_storage.specs.referents.Referents.{Referent, DataOf, ConstantOf, EventOf, BlockOf, BuiltinOf, Unmeant}
-use Rattle.hal_gen_expr.specs.declared.aims.Aim.{Aim}
 use Rattle.hal_gen_expr.specs.declared.aims.Aim.TheVariants as aims
-use Rattle.hal_gen_expr.specs.declared.elements.Element.{Element}
-use Rattle.hal_gen_expr.specs.Elements.{an_element, counted, element_in}
+use Rattle.hal_gen_expr.specs.Elements.{an_element, counted}
 use Rattle.hal_gen_expr.specs.Leaves.{is_one, address_of, area_of, element_of, place_view}
-use Rattle.hal_gen_expr.specs.Led.{Led, led_by, led_to, rows_left, skips_led, first_chosen, addressed, aimed, plainly_aimed}
+use Rattle.hal_gen_expr.specs.Led.{Led, led_by, led_to, rows_left, skips_led, aimed, plainly_aimed}
 use Rattle.hal_gen_expr.specs.Numbering.{Numbering, below, most, base_of, same_base, same_row, same_rows, row_of, gives_cell, gives_area, cell_view, is_cell_view, area_view, is_area_view, view_number, area_number, shape_in}
 use Rattle.hal_gen_expr.specs.Referents.{referent}
 use Rattle.hal_gen_expr.specs.Shapes.{runs_of}
@@ -42,7 +38,7 @@ use Rattle.hal_gen_expr.proofs.Numbered.{below_is, mapped_is, then_is, first_is,
 use Rattle.hal_link.specs.Outlines.{Outline, numbering_of}
 use Rattle.hal_link.specs.Shapes.{shapes_of}
 use Rattle.hal_fit_rows.specs.Purposes.{IsSite, Says, HasPlace, IsPassed, IsCellFor, IsAreaFor}
-use Rattle.hal_fit_views.specs.Naming.{NamesCell, NamesArea, Names}
+use Rattle.hal_fit_views.specs.Naming.{NamesCell, Names}
 use Rattle.hal_fit_views.proofs.Bases.{base_low}
 
 -- rows of views that are the same

@@ -17,3 +17,7 @@ mod Choosing
 mod ChosenViews
 mod Referring
 mod Limits
+mod Outside
+mod Inner
+mod Leading
+mod Standing

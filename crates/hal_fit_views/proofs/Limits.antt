@@ -1,7 +1,7 @@
 -- A copy of data that lie in memory has few elements.
-use Rattle.std.specs.Prelude.{◌≡◌, ◌≤◌, ◌<◌, ◌+◌, ◌*◌, ◌&&◌, ℕ, zero, suc, Bool, true, false, List, [], ◌∷◌, ◌++◌, length, map, Option, Some, None, slice_get, unwrap_or}
+use Rattle.std.specs.Prelude.{◌≡◌, ◌≤◌, ◌<◌, ◌+◌, ◌*◌, ◌&&◌, ℕ, zero, suc, Bool, true, false, List, [], ◌∷◌, ◌++◌, length, Option, Some, None, slice_get, unwrap_or}
 use Rattle.std.specs.List.{sum_by}
-use Rattle.std.proofs.Common.{refl, sym, ap, subst, ◌∙◌, arith}
+use Rattle.std.proofs.Common.{refl, ap, arith}
 use Rattle.std.proofs.lemmas.List.{length-append, length-map}
 use Rattle.std.proofs.lemmas.List.Sums.{sum_by-cons}
 use Rattle.std.proofs.lemmas.Nat.{mul-le}
@@ -10,7 +10,6 @@ use Rattle.hal_values.specs.declared.tables.Cell.{Cell}
 use Rattle.hal_values.specs.declared.value.Kind.{Kind}
 use Rattle.hal_code.specs.declared.image.ImageParts.{ImageParts}
 use Rattle.hal_code.specs.declared.row.Base.{Base}
-use Rattle.hal_code.specs.declared.row.OwnPlace.{OwnPlace}
 use Rattle.hal_code.specs.declared.row.Process.{Process}
 use Rattle.hal_code.specs.declared.row.Run.{Run}
 use Rattle.hal_code.specs.Images as images
@@ -23,12 +22,10 @@ use Rattle.hal_meaning.specs.Places.{Storing, InCells, InPlaces, ByReference, Un
 use Rattle.hal_meaning.specs.ReportNames.{first_cell, first_place}
 use Rattle.hal_agreement.specs.Sites.{Site}
 use Rattle.hal_gen_expr.specs.Numbering.{base_of, most}
-use Rattle.hal_link.specs.Shapes.{Shapes}
 use Rattle.hal_fit_layout.proofs.Counting.{rows_counted}
-use Rattle.hal_fit_rows.proofs.Alone.{one_counted}
 use Rattle.hal_fit_rows.proofs.Formed.{AreCopies}
 use Rattle.hal_fit_rows.proofs.Lines.{kinds_long}
-use Rattle.hal_fit_views.specs.Holding.{RefersTo, Holds}
+use Rattle.hal_fit_views.specs.Holding.{Holds}
 
 -- what lies in memory is no longer than it
 there_low : {X : Type 0} (xs : List X) (k : ℕ) (x : X) → slice_get xs k ≡ Some x → k < length xs

@@ -1,9 +1,8 @@
 -- The code of each block of a linked image names views that are for what phrases name in the block's process.
 use Rattle.std.specs.Prelude.{◌≡◌, ◌≤◌, ◌<◌, ◌+◌, ◌-◌, ◌==◌, ◌&&◌, ◌||◌, ℕ, zero, suc, Bool, true, false, List, [], ◌∷◌, ◌++◌, drop, length, take, Option, Some, None, Ok, Err, slice_get}
 use Rattle.std.specs.List.{list_any}
-use Rattle.std.proofs.Common.{refl, sym, ap, subst, ◌∙◌, inl, inr, arith, length-append}
+use Rattle.std.proofs.Common.{refl, sym, subst, inl, inr, arith, length-append}
 use Rattle.std.proofs.lemmas.Bool.{and_parts, eqb-true}
-use Rattle.hal_base.specs.declared.refusal.Place.{Place}
 use Rattle.hal_grammar.specs.Units.{File}
 use Rattle.hal_phrases.specs.GatheredUnits.{phrases_of}
 use Rattle.hal_code.specs.declared.image.ImageParts.{ImageParts}
@@ -17,7 +16,7 @@ use Rattle.hal_meaning.specs.Bodies.{Body, bodies_of, processes_of}
 use Rattle.hal_meaning.specs.Calls.{is_function}
 use Rattle.hal_meaning.specs.Sets.{Set, body_at}
 use Rattle.hal_gen_expr.specs.Emitting.{Emitted}
-use Rattle.hal_link.proofs.Linked.{both_linked, block_linked, unless_function}
+use Rattle.hal_link.proofs.Linked.{both_linked, unless_function}
 use Rattle.hal_link.proofs.Outlined.{outlined_at}
 use Rattle.hal_link.specs.Linking.{Linked, Linking, linked, linking, image_of, image_by, image_with, behind_block, process_block, process_site, with_process, with_unit, with_units, with_outline, with_outlines}
 use Rattle.hal_link.specs.Outlines.{Outline, outlines_of, numbering_of, ranks_of}
@@ -27,9 +26,9 @@ use Rattle.hal_link.specs.UnitCode.{unit_code, unit_block}
 use Rattle.hal_fit_calls.specs.Each.{Each}
 use Rattle.hal_fit_calls.proofs.Each.{each_append, each_weaker}
 use Rattle.hal_fit_rows.proofs.Alone.{each_at}
-use Rattle.hal_fit_rows.specs.Purposes.{CallsUnit, StandsIn}
+use Rattle.hal_fit_rows.specs.Purposes.{StandsIn}
 use Rattle.hal_fit_views.specs.Naming.{NamesCell, NamesArea, NamesView, Names}
-use Rattle.hal_fit_views.proofs.Adding.{Adds, Gives}
+use Rattle.hal_fit_views.proofs.Adding.{Gives}
 use Rattle.hal_fit_views.proofs.Units.{process_named, unit_named}
 
 -- members of lists that are joined, in the second one and in the first one

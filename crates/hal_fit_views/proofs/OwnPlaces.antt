@@ -1,10 +1,9 @@
 -- Own places of groups and input parameters lie where they are.
-use Rattle.std.specs.Prelude.{◌≡◌, ◌<◌, ◌==◌, ◌&&◌, ◌||◌, ℕ, zero, suc, Bool, true, false, List, [], ◌∷◌, map, replicate, Option, Some, None, slice_get, if◌then◌else◌}
-use Rattle.std.specs.List.{list_any}
+use Rattle.std.specs.Prelude.{◌≡◌, ◌<◌, ◌==◌, ◌&&◌, ℕ, zero, suc, true, List, [], ◌∷◌, map, replicate, Some, slice_get, if◌then◌else◌}
 use Rattle.std.proofs.Common.{refl, sym, ap, subst, ◌∙◌, inl, inr, arith}
 use Rattle.std.proofs.lemmas.Bool.{and_from, eq-eqb, or_left, or_right}
 use Rattle.hal_grammar.specs.Leaves.{Naming}
-use Rattle.hal_phrases.specs.Phrases.{Node, Phrase, OfGroup, OfTemporaryGroup}
+use Rattle.hal_phrases.specs.Phrases.{Phrase}
 use Rattle.hal_names.specs.Laws.{IsCounted}
 use Rattle.hal_scope.specs.Rules.{IsAmong}
 use Rattle.hal_values.specs.declared.value.Kind.{Kind}
@@ -12,14 +11,13 @@ use Rattle.hal_values.specs.declared.value.Kind.TheVariants as kind
 use Rattle.hal_code.specs.declared.image.ImageParts.{ImageParts}
 use Rattle.hal_code.specs.declared.row.Base.{Base}
 use Rattle.hal_code.specs.declared.row.Dimension.{Dimension}
-use Rattle.hal_code.specs.declared.row.OwnPlace.{OwnPlace}
 use Rattle.hal_code.specs.declared.row.Target.TheVariants as target
 use Rattle.hal_code.specs.Images as images
 use Rattle.hal_code.specs.Memory.{lies_from, own_memory}
 use Rattle.hal_meaning.specs.Bodies.{Body, processes_of, processes_reaching}
 use Rattle.hal_meaning.specs.Calls.{parameter_named}
 use Rattle.hal_meaning.specs.Expressions.{inputs_at}
-use Rattle.hal_meaning.specs.Places.{Place, InPlaces, hidden, is_for_or_case, places_at, places_of, says_for_or_case, unit_numbers}
+use Rattle.hal_meaning.specs.Places.{InPlaces, hidden, is_for_or_case, places_at, places_of, says_for_or_case}
 use Rattle.hal_meaning.specs.ReportNames.{first_place}
 use Rattle.hal_meaning.specs.Sets.{Set, body_at}
 use Rattle.hal_meaning.specs.Variables.{kind_of_first}
@@ -30,16 +28,15 @@ use Rattle.hal_fit_expr.proofs.Given.{number_same}
 use Rattle.hal_link.specs.Linking.{own_row, process_site}
 use Rattle.hal_link.specs.Shapes.{shapes_of}
 use Rattle.hal_fit_layout.specs.Owned.{LiesIn, IsStored, AreStored}
-use Rattle.hal_fit_layout.proofs.Called.{Reaches}
 use Rattle.hal_fit_layout.proofs.Owned.{lies_in_process}
 use Rattle.hal_fit_layout.proofs.Parameters.{places_are}
 use Rattle.hal_fit_calls.specs.Each.{Each}
 use Rattle.hal_fit_rows.proofs.Alone.{each_at, place_of}
 use Rattle.hal_fit_rows.proofs.Lying.{own_lies, parameter_lies}
 use Rattle.hal_fit_rows.specs.Homes.{StandsPlaced}
-use Rattle.hal_fit_rows.specs.Purposes.{StandsIn, IsSite, SaysPlaces, HasPlace, ForPlace, ForParameter}
+use Rattle.hal_fit_rows.specs.Purposes.{StandsIn, SaysPlaces, ForPlace, ForParameter}
 use Rattle.hal_fit_views.specs.Lying.{lies_in, CellsLie}
-use Rattle.hal_fit_views.proofs.Held.{Chooses, own_held, one_chosen}
+use Rattle.hal_fit_views.proofs.Held.{own_held, one_chosen}
 use Rattle.hal_fit_views.proofs.Laying.{hidden_opens}
 use Rattle.hal_fit_views.proofs.Reached.{ReachesIt, stands_reached}
 

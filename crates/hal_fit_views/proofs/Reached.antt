@@ -1,6 +1,6 @@
 -- Units at whose sites phrases stand in a process: the process reaches them.
-use Rattle.std.specs.Prelude.{◌≡◌, ℕ, zero, suc, ◌+◌, ◌==◌, Bool, true, false, ◌||◌, List, [], ◌∷◌, cond, filter, length, Option, Some, None, slice_get, if◌then◌else◌}
-use Rattle.std.proofs.Common.{refl, sym, ap, subst, ◌∙◌, inl, inr, arith}
+use Rattle.std.specs.Prelude.{◌≡◌, ℕ, zero, suc, ◌==◌, Bool, true, false, ◌||◌, List, [], ◌∷◌, cond, filter, length, Some, None, slice_get, if◌then◌else◌}
+use Rattle.std.proofs.Common.{refl, sym, subst, inl, inr, arith}
 use Rattle.std.proofs.lemmas.Bool.{eqb-true, eq-eqb, or_left, or_right}
 use Rattle.hal_phrases.specs.Phrases.{Node, Phrase, OfUnit}
 use Rattle.hal_meaning.specs.Bodies.{is_process, is_unit, processes_of, processes_reaching, reaches}
@@ -11,11 +11,11 @@ use Rattle.hal_reach.proofs.Callees.{has_unit}
 use Rattle.hal_reach.proofs.Within.{Has}
 use Rattle.hal_fit_calls.proofs.Reached.{reaches_itself}
 use Rattle.hal_link.proofs.Outlined.{outlined_at}
-use Rattle.hal_link.specs.Outlines.{outlines_of, ranks_of}
+use Rattle.hal_link.specs.Outlines.{ranks_of}
 use Rattle.hal_fit_layout.proofs.Called.{Reaches, from_member, from_called, called_reaches}
 use Rattle.hal_fit_layout.proofs.Outlining.{called_are}
 use Rattle.hal_fit_rows.proofs.Calling.{placed}
-use Rattle.hal_fit_rows.specs.Purposes.{CallsUnit, StandsIn}
+use Rattle.hal_fit_rows.specs.Purposes.{StandsIn}
 
 -- a number with a place in a list is among its members
 pub listed : (ns : List ℕ) (n k : ℕ) → slice_get ns n ≡ Some k → is_among ns k ≡ true

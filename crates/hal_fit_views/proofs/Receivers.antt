@@ -1,20 +1,19 @@
 -- The code of receivers, of what stands without parts in statements, and of the own places of groups names views that are for them.
-use Rattle.std.specs.Prelude.{◌≡◌, ◌+◌, ◌<◌, ℕ, suc, Bool, true, false, List, [], ◌∷◌, ◌++◌, length, pos, Option, Some, None, Ok, Err, slice_get, if◌then◌else◌}
+use Rattle.std.specs.Prelude.{◌≡◌, ◌+◌, ◌<◌, ℕ, Bool, true, false, List, [], ◌∷◌, ◌++◌, length, Option, Some, None, Ok, Err, slice_get, if◌then◌else◌}
 use Rattle.std.specs.Option.{option_map, option_and_then}
-use Rattle.std.proofs.Common.{refl, sym, ap, subst, ◌∙◌, inl, inr, arith}
+use Rattle.std.proofs.Common.{refl, subst, inl, inr, arith}
 use Rattle.hal_base.specs.declared.refusal.Place as refusals
 use Rattle.hal_grammar.specs.Leaves.{Naming}
-use Rattle.hal_grammar.specs.Expressions.{Expression, Expressions, NoExpressions, MoreExpressions, Reference, Refers, Subscript, Unsubscripted, ByName, ByInteger, ByParts, Subscripts, NoSubscripts, MoreSubscripts}
-use Rattle.hal_grammar.specs.Statements.{EventAction, Signal, Set as Setting, Reset}
+use Rattle.hal_grammar.specs.Expressions.{Expressions, Reference, Refers, Subscript, Unsubscripted, ByName, ByInteger, ByParts, Subscripts, NoSubscripts, MoreSubscripts}
+use Rattle.hal_grammar.specs.Statements.{EventAction, Signal, Reset, Set as Setting}
 use Rattle.hal_phrases.specs.declared.around.Around.{Around}
 use Rattle.hal_phrases.specs.declared.role.Role.{Role}
 use Rattle.hal_phrases.specs.declared.role.Role.TheVariants as role
-use Rattle.hal_phrases.specs.Phrases.{Node, Phrase, phrase, add, gathered_each, OfReference, OfCall}
+use Rattle.hal_phrases.specs.Phrases.{Phrase, add, gathered_each, OfReference, OfCall}
 use Rattle.hal_phrases.specs.GatheredExpressions.{below, gathered_all, gathered_reference, gathered_subscript, gathered_subs}
 use Rattle.hal_phrases.specs.GatheredStatements.{gathered_receiver}
 use Rattle.hal_operations.specs.declared.operation.Op1.TheVariants as op1
 use Rattle.hal_constants.specs.Constants.{is_none}
-use Rattle.hal_values.specs.declared.value.Kind.TheVariants as kind
 use Rattle.hal_code.specs.declared.choice.Choice.TheVariants as choice
 use Rattle.hal_code.specs.declared.instr.Instr.{Instr}
 use Rattle.hal_code.specs.declared.instr.Instr.TheVariants as instr
@@ -22,31 +21,28 @@ use Rattle.hal_code.specs.declared.operand.Places.{Places}
 use Rattle.hal_code.specs.declared.operand.Places.TheVariants as chosen_places
 use Rattle.hal_code.specs.declared.row.View.{View}
 use Rattle.hal_meaning.specs.Bodies.{Body, marks_of}
-use Rattle.hal_meaning.specs.Calls.{parameter_named}
 use Rattle.hal_meaning.specs.Expressions.{inputs_at, outputs_at}
 use Rattle.hal_meaning.specs.Places.{Place}
 use Rattle.hal_meaning.specs.Runs.{places_of_process}
 use Rattle.hal_meaning.specs.Sets.{Set}
-use Rattle.hal_meaning.specs.Statements.{components_in}
-use Rattle.hal_meaning.specs.Variables.{is_arrayed, is_whole}
-use Rattle.hal_agreement.specs.PlacedExpressions.{two, places_of}
+use Rattle.hal_meaning.specs.Variables.{is_arrayed}
+use Rattle.hal_agreement.specs.PlacedExpressions.{places_of}
 use Rattle.hal_agreement.specs.PlacedStatements.{Leaving, ToFinish, ByReturn, ByResult, NoReturn, changes, patches}
 use Rattle.hal_agreement.specs.Sites.{Site}
 use Rattle.hal_storage.specs.referents.Referents.{Referent, DataOf, ConstantOf, EventOf, BlockOf, BuiltinOf, Unmeant}
 use Rattle.hal_gen_expr.specs.declared.aims.Aim.TheVariants as aims
-use Rattle.hal_gen_expr.specs.Calling.{spot_code, spots_code, passed_to_code, called_code}
+use Rattle.hal_gen_expr.specs.Calling.{spot_code, spots_code, passed_to_code}
 use Rattle.hal_gen_expr.specs.Emitting.{Emitted, onwards, emit}
 use Rattle.hal_gen_expr.specs.ExpressionCode.{emit_one, chosen_code, name_code, integer_code, part_code, arguments_code}
 use Rattle.hal_gen_expr.specs.Led.{Led, led_by, sizes_led}
-use Rattle.hal_gen_expr.specs.Leaves.{call_of, element_of, place_view}
+use Rattle.hal_gen_expr.specs.Leaves.{call_of, place_view}
 use Rattle.hal_gen_expr.specs.Numbering.{Numbering, below as below_limit}
 use Rattle.hal_gen_expr.specs.Referents.{referent}
-use Rattle.hal_gen_expr.specs.Shapes.{runs_of}
 use Rattle.hal_gen_expr.proofs.Numbered.{mapped_is, then_is}
 use Rattle.hal_gen.specs.declared.kept.Cells.{Cells}
 use Rattle.hal_gen.specs.KeptCode.{cell_of, cells, cells_at, cells_of, keeping, holding, case_tests, case_code, negative_tests, lesser_tests, bounds_keeping, bounding, nexting, counting}
 use Rattle.hal_gen.specs.Leaves.{return_of, result_of, as_result, text_result, gives_text, each_of, named_or_own_of, named_process}
-use Rattle.hal_gen.specs.Receiving.{patch_code, patched_code, stored_code, received_code, addressed_code, receiver_code, receiver_size}
+use Rattle.hal_gen.specs.Receiving.{patch_code, patched_code, stored_code, received_code, addressed_code, receiver_code}
 use Rattle.hal_gen.specs.SpanCode.{variable_of, store_code, fetch_code}
 use Rattle.hal_gen.specs.StatementCode.{receivers_code, procedure_code}
 use Rattle.hal_link.specs.Outlines.{Outline, outlines_of, numbering_of}
@@ -55,7 +51,7 @@ use Rattle.hal_fit_calls.specs.Each.{Each}
 use Rattle.hal_fit_calls.proofs.Each.{each_append}
 use Rattle.hal_fit_rules.specs.Begun.{AreFirst}
 use Rattle.hal_fit_rules.proofs.Beginning.{then_}
-use Rattle.hal_fit_rules.proofs.BegunExpressions.{reference_first, subscript_first, subs_first, expressions_first}
+use Rattle.hal_fit_rules.proofs.BegunExpressions.{subscript_first, subs_first, expressions_first}
 use Rattle.hal_fit_rules.proofs.BegunStatements.{receivers_first}
 use Rattle.hal_fit_rows.specs.Homes.{LeadsHome}
 use Rattle.hal_fit_rows.specs.Purposes.{IsSite, HasPlace, IsOutput, IsPassed}

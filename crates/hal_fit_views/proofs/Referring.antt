@@ -1,10 +1,7 @@
 -- References to the data of ASSIGN parameters lead to shapes that have their kinds.
-use Rattle.std.specs.Prelude.{◌≡◌, ◌≤◌, ℕ, true, List, [], map, Option, Some, None, slice_get}
+use Rattle.std.specs.Prelude.{◌≡◌, ◌≤◌, ℕ, List, [], map, Option, Some, None, slice_get}
 use Rattle.std.specs.List.{sum_by}
 use Rattle.std.proofs.Common.{refl, sym, ap, subst, ◌∙◌}
-use Rattle.std.proofs.lemmas.Bool.{and_parts, leb-true}
-use Rattle.hal_grammar.specs.Leaves.{Naming}
-use Rattle.hal_grammar.specs.Declarations.{Attribute, Declared}
 use Rattle.hal_grammar.specs.Units.{File}
 use Rattle.hal_phrases.specs.GatheredUnits.{phrases_of}
 use Rattle.hal_phrases.specs.Phrases.{Phrase, OfItem}
@@ -20,20 +17,18 @@ use Rattle.hal_code.specs.declared.row.Run.{Run}
 use Rattle.hal_code.specs.Images as images
 use Rattle.hal_code.specs.Images.{expanded, row_count}
 use Rattle.hal_code.specs.Memory.{shape_of_place, referred_shape}
-use Rattle.hal_meaning.specs.Bodies.{Body, processes_of, processes_reaching}
+use Rattle.hal_meaning.specs.Bodies.{Body, processes_of}
 use Rattle.hal_meaning.specs.Calls.{Parameter, parameter_named, outputs_of}
-use Rattle.hal_meaning.specs.Elements.{Shape, kinds_of, shape_of}
+use Rattle.hal_meaning.specs.Elements.{kinds_of, shape_of}
 use Rattle.hal_meaning.specs.Expressions.{outputs_at}
-use Rattle.hal_meaning.specs.Places.{Place, ByReference, storing, places_at, places_of, places_of_item, unit_numbers}
+use Rattle.hal_meaning.specs.Places.{ByReference, places_at, places_of, places_of_item, unit_numbers}
 use Rattle.hal_meaning.specs.ReportNames.{first_place}
 use Rattle.hal_meaning.specs.Sets.{Set, body_at, set_of}
-use Rattle.hal_reach.specs.Places.{is_among}
 use Rattle.hal_gen_expr.specs.Shapes.{runs_of}
 use Rattle.hal_gen_expr.proofs.Shaped.{kinds_found}
-use Rattle.hal_fit_calls.specs.Each.{Each}
 use Rattle.hal_link.specs.Linking.{own_row}
 use Rattle.hal_link.specs.Shapes.{Shapes, shapes_of}
-use Rattle.hal_fit_layout.specs.Owned.{LiesIn, IsStored, AreStored}
+use Rattle.hal_fit_layout.specs.Owned.{LiesIn, AreStored}
 use Rattle.hal_fit_layout.proofs.Owned.{lies_in_process}
 use Rattle.hal_fit_layout.proofs.Parameters.{parameter_is}
 use Rattle.hal_fit_rows.proofs.Alone.{AreKept, has_same, shapes_kept}
@@ -42,7 +37,7 @@ use Rattle.hal_fit_rows.proofs.Numbered.{reference_stored}
 use Rattle.hal_fit_rows.proofs.Purposed.{each_among}
 use Rattle.hal_fit_rows.proofs.Referred.{HasShape, have_outputs, stored_refers}
 use Rattle.hal_fit_rows.specs.Parts.{HaveParts}
-use Rattle.hal_fit_views.specs.Holding.{RefersTo, ReferencesHold}
+use Rattle.hal_fit_views.specs.Holding.{ReferencesHold}
 
 -- an own place that refers to a shape
 refers_there : (places : List OwnPlace) (number shape : ℕ) → referred_shape places number ≡ Some shape → slice_get places number ≡ Some (place.Reference shape)

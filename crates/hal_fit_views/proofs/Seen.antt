@@ -1,8 +1,6 @@
 -- Data with own places that a name means in a unit stand in a unit that the process reaches.
-use Rattle.std.specs.Prelude.{◌≡◌, ◌⊎◌, ◌||◌, ℕ, Bool, true, false, List, Option, Some, None, length, slice_get}
-use Rattle.std.specs.Option.{option_and_then}
+use Rattle.std.specs.Prelude.{◌≡◌, ◌⊎◌, ◌||◌, ℕ, true, false, List, Option, Some, None, length, slice_get}
 use Rattle.std.proofs.Common.{refl, sym, ap, subst, ◌∙◌, inl, inr}
-use Rattle.hal_grammar.specs.Leaves.{Naming}
 use Rattle.hal_grammar.specs.Units.{Preface}
 use Rattle.hal_phrases.specs.declared.around.Around.{Around}
 use Rattle.hal_phrases.specs.Phrases.{Node, Phrase, OfItem, OfTemporaryGroup}
@@ -23,22 +21,22 @@ use Rattle.hal_fit_views.specs.Placed.{keeps_own, is_temporary, has_own, AreWell
 
 module _ (ps : List Phrase) (looks : LooksUp ps) (home : Each (StandsHome ps) ps) (placed : Each (StandsPlaced ps) ps) (vs : Known) (well : AreWellPlaced ps vs) where
   abbrev Near : ℕ → List ℕ → ℕ → Type 0
-  Near block name m = IsNear ps looks home well.items block name m
+  Near block name m = IsNear ps looks home well.stand.items block name m
 
   abbrev Given : List ℕ → ℕ → Type 0
-  Given name m = IsGiven ps looks home well.items name m
+  Given name m = IsGiven ps looks home well.stand.items name m
 
   abbrev File : ℕ → Type 0
-  File k = IsFileAt ps looks home well.items k
+  File k = IsFileAt ps looks home well.stand.items k
 
   abbrev UnitOf : ℕ → Type 0
-  UnitOf m = IsUnitOf ps looks home well.items m
+  UnitOf m = IsUnitOf ps looks home well.stand.items m
 
   abbrev Pooled : ℕ → Type 0
-  Pooled m = IsPooled ps looks home well.items m
+  Pooled m = IsPooled ps looks home well.stand.items m
 
   same : (k : ℕ) (p q : Phrase) → slice_get ps k ≡ Some p → slice_get ps k ≡ Some q → p ≡ q
-  same k p q one other = same_phrase ps looks home well.items k p q one other
+  same k p q one other = same_phrase ps looks home well.stand.items k p q one other
 
   -- the owner of a declaration: the unit around an item, and a group itself
   item_owner : (k : ℕ) (a : Around) (node : Node) (owner : ℕ) (name : List ℕ) → keeps_own (storing ps vs (record { number = k; around = a; node = node }) node) ≡ true → declared_at k a node ≡ Some (key space.Declared owner name)
@@ -124,12 +122,12 @@ module _ (ps : List Phrase) (looks : LooksUp ps) (home : Each (StandsHome ps) ps
     -- an item with own places is found around the block
     item_near : (name : List ℕ) (m : ℕ) (p : Phrase) → slice_get ps m ≡ Some p → keeps_own (storing ps vs p p.node) ≡ true → Near block name m ⊎ Given name m → Near block name m
     item_near name m p there keeps (inl near) = near
-    item_near name m p there keeps (inr given) = by (included_is ps looks home well.items given.prefaces name m given.is) where
+    item_near name m p there keeps (inr given) = by (included_is ps looks home well.stand.items given.prefaces name m given.is) where
       outside : IsOpenUnit ps p.around.home
       outside = well.outside m p there keeps
 
       by : UnitOf m ⊎ Pooled m → Near block name m
-      by (inl one) = absurd (not_in_file ps looks home well.items p.around.home p.around.home outside (subst File (sym (item_home one.owner one.name m p one.found there keeps)) one.file) Itself)
+      by (inl one) = absurd (not_in_file ps looks home well.stand.items p.around.home p.around.home outside (subst File (sym (item_home one.owner one.name m p one.found there keeps)) one.file) Itself)
       by (inr pooled) =
           let owner = item_home pooled.pool pooled.name m p pooled.found there keeps in
           let phrases = same pooled.pool outside.phrase pooled.phrase (subst (λ n. slice_get ps n ≡ Some outside.phrase) owner outside.there) pooled.there in
@@ -140,7 +138,7 @@ module _ (ps : List Phrase) (looks : LooksUp ps) (home : Each (StandsHome ps) ps
     -- a group around the block stands in the unit
     in_group : (m : ℕ) (p : Phrase) → slice_get ps m ≡ Some p → is_temporary p.node ≡ true → (b : ℕ) → LeadsHome ps unit b → Encloses ps m b → p.around.home ≡ unit
     in_group m p there is _ AtHome around = absurd (no_group m p there is unit around q at_unit (inl is_one))
-    in_group m p there is _ (InGroup k g labels variable at_k node its rest) around = by (outward ps looks home well.items m k g at_k around) (in_group m p there is g.around.block rest) where
+    in_group m p there is _ (InGroup k g labels variable at_k node its rest) around = by (outward ps looks home well.stand.items m k g at_k around) (in_group m p there is g.around.block rest) where
       by : (m ≡ k) ⊎ Encloses ps m g.around.block → (Encloses ps m g.around.block → p.around.home ≡ unit) → p.around.home ≡ unit
       by (inl here) further = ap (λ (x : Phrase). x.around.home) (same k p g (subst (λ n. slice_get ps n ≡ Some p) here there) at_k) ∙ its
       by (inr beyond) further = further beyond
@@ -149,7 +147,7 @@ module _ (ps : List Phrase) (looks : LooksUp ps) (home : Each (StandsHome ps) ps
     temporary_home name m p there is (inl near) =
         let owner = group_home near.owner name m p near.found there is in
         in_group m p there is block leads (subst (λ n. Encloses ps n block) (sym owner) near.around)
-    temporary_home name m p there is (inr given) = by (included_is ps looks home well.items given.prefaces name m given.is) where
+    temporary_home name m p there is (inr given) = by (included_is ps looks home well.stand.items given.prefaces name m given.is) where
       by : UnitOf m ⊎ Pooled m → p.around.home ≡ unit
       by (inl one) = absurd (no_file m p there is (subst File (sym (group_home one.owner one.name m p one.found there is)) one.file))
       by (inr pooled) =
@@ -159,20 +157,20 @@ module _ (ps : List Phrase) (looks : LooksUp ps) (home : Each (StandsHome ps) ps
     found_so name m p is there isnt keeps =
         let one = meant_is block name m is in
         let has : has_own ps vs p ≡ true = ap (λ b. b || keeps_own (storing ps vs p p.node)) isnt ∙ keeps in
-        let itself = well.alone one.declared m p one.stands there has in
-        subst (λ n. Near block name n ⊎ Given name n) itself (nearest_is ps looks home well.items (length ps) block name one.declared one.means_it)
+        let itself = well.stand.alone one.declared m p one.stands there has in
+        subst (λ n. Near block name n ⊎ Given name n) itself (nearest_is ps looks home well.stand.items (length ps) block name one.declared one.means_it)
 
     module _ (k : ℕ) (process : is_among (processes_of ps) k ≡ true) (reach : reaches ps k unit ≡ true) where
       item_seen : (name : List ℕ) (m : ℕ) (p : Phrase) → slice_get ps m ≡ Some p → keeps_own (storing ps vs p p.node) ≡ true → Near block name m → reaches ps k p.around.home ≡ true
       item_seen name m p there keeps near =
           let outside = well.outside m p there keeps in
           let owner = item_home near.owner name m p near.found there keeps in
-          let around = to_home ps looks home well.items p.around.home unit block outside leads (subst (λ n. Encloses ps n block) (sym owner) near.around) in
-          by (reaches_around ps looks home well.items (unit_count ps) k unit p.around.home outside reach around)
+          let around = to_home ps looks home well.stand.items p.around.home unit block outside leads (subst (λ n. Encloses ps n block) (sym owner) near.around) in
+          by (reaches_around ps looks home well.stand.items (unit_count ps) k unit p.around.home outside reach around)
         where
           by : (reaches_within (unit_count ps) ps k p.around.home ≡ true) ⊎ Encloses ps p.around.home k → reaches ps k p.around.home ≡ true
           by (inl so) = so
-          by (inr beyond) = subst (λ n. reaches ps k n ≡ true) (sym (well.inner m p k there keeps process beyond)) (within_itself ps looks home well.items (unit_count ps) k)
+          by (inr beyond) = subst (λ n. reaches ps k n ≡ true) (sym (well.inner m p k there keeps process beyond)) (within_itself ps looks home well.stand.items (unit_count ps) k)
 
       -- an item that a name means there, with own places
       pub seen_item : (name : List ℕ) (m : ℕ) (p : Phrase) → meant ps block name ≡ Some m → slice_get ps m ≡ Some p → is_temporary p.node ≡ false → keeps_own (storing ps vs p p.node) ≡ true → reaches ps k p.around.home ≡ true
@@ -190,5 +188,5 @@ module _ (ps : List Phrase) (looks : LooksUp ps) (home : Each (StandsHome ps) ps
     seen_group name m p is there group =
         let one = meant_is block name m is in
         let has : has_own ps vs p ≡ true = ap (λ b. b || keeps_own (storing ps vs p p.node)) group in
-        let itself = well.alone one.declared m p one.stands there has in
-        temporary_home name m p there group (subst (λ n. Near block name n ⊎ Given name n) itself (nearest_is ps looks home well.items (length ps) block name one.declared one.means_it))
+        let itself = well.stand.alone one.declared m p one.stands there has in
+        temporary_home name m p there group (subst (λ n. Near block name n ⊎ Given name n) itself (nearest_is ps looks home well.stand.items (length ps) block name one.declared one.means_it))

@@ -1,7 +1,7 @@
 -- The code of statements names views that are for what their phrases name.
-use Rattle.std.specs.Prelude.{◌≡◌, ◌+◌, ◌<◌, ℕ, suc, Bool, true, false, List, [], ◌∷◌, ◌++◌, length, pos, Option, Some, None, Ok, Err, slice_get, if◌then◌else◌}
+use Rattle.std.specs.Prelude.{◌≡◌, ◌+◌, ℕ, suc, Bool, true, false, List, [], ◌∷◌, ◌++◌, length, pos, Option, Some, None, Ok, slice_get}
 use Rattle.std.specs.Option.{option_map, option_and_then}
-use Rattle.std.proofs.Common.{refl, sym, ap, subst, ◌∙◌, inl, inr, arith}
+use Rattle.std.proofs.Common.{refl, sym, ap, subst, inl, inr, arith}
 use Rattle.hal_base.specs.declared.refusal.Place as refusals
 use Rattle.hal_grammar.specs.Leaves.{Naming}
 use Rattle.hal_grammar.specs.Expressions.{Expression, Expressions, NoExpressions, MoreExpressions, Reference}
@@ -10,7 +10,7 @@ use Rattle.hal_phrases.specs.declared.around.Around.{Around}
 use Rattle.hal_phrases.specs.declared.role.Role.{Role}
 use Rattle.hal_phrases.specs.declared.role.Role.TheVariants as role
 use Rattle.hal_phrases.specs.Surroundings.{inside, grouped, updated}
-use Rattle.hal_phrases.specs.Phrases.{Node, Phrase, phrase, add, gathered_each, gathered_any, OfExpression, OfAssignment, OfGroup, OfTemporaryGroup, OfVariable, OfReturn, OfCall, OfRead, OfWrite, OfUpdate, OfRealTime, OfHandler}
+use Rattle.hal_phrases.specs.Phrases.{Node, Phrase, phrase, add, gathered_each, gathered_any, OfExpression, OfAssignment, OfGroup, OfTemporaryGroup, OfVariable, OfReturn, OfRead, OfWrite, OfUpdate, OfRealTime, OfHandler}
 use Rattle.hal_phrases.specs.GatheredDeclarations.{gathered_optional}
 use Rattle.hal_phrases.specs.GatheredExpressions.{below, gathered, gathered_all, gathered_reference}
 use Rattle.hal_phrases.specs.GatheredStatements.{gathered_label, gathered_receiver, gathered_process, gathered_guard, gathered_span, gathered_start, gathered_cycle, gathered_limit, gathered_schedule, begun_for, around_for, gathered_statement, gathered_basic, gathered_alternative, gathered_group, gathered_statements}
@@ -36,12 +36,12 @@ use Rattle.hal_gen_expr.proofs.Numbered.{mapped_is, then_is}
 use Rattle.hal_gen.specs.declared.kept.Cells.{Cells}
 use Rattle.hal_gen.specs.BlockExits.{of_body}
 use Rattle.hal_gen.specs.KeptCode.{cell_of, cells_of, keeping, holding, case_code, bounds_keeping, bounding, counting}
-use Rattle.hal_gen.specs.Leaves.{decimal_of, first_event, last_event, named_process, handler_entry, numbers_of, off_of, raise_of, response_entry, response_code, side_numbers}
+use Rattle.hal_gen.specs.Leaves.{decimal_of, first_event, last_event, named_process, handler_entry, numbers_of, raise_of, response_entry, response_code, side_numbers}
 use Rattle.hal_gen.specs.Receiving.{receiver_code}
 use Rattle.hal_gen.specs.Sizes.{value_size, next_values_size, group_size}
 use Rattle.hal_gen.specs.SpanCode.{store_code, fetch_code, step_code, begun_code, counted_code, counted_in, value_code, next_values_code, begin_code, again_code}
-use Rattle.hal_gen.specs.StatementCode.{items_code, with_number, reads_code, condition_code, first_test_code, test_code, first_span_code, later_span_code, span_start_code, span_end_code, spanned_code, with_cells, returning_code, receivers_code, statement_code, basic_code, direct_code, block_code, alternative_code, uncased_code, cases_code, selected_code, group_code, statements_code}
-use Rattle.hal_gen.specs.Timing.{time_by, time_code, pause_code, start_code, start_operand, priority_code, round_code, until_code, limit_code, limit_operand, schedule_by, schedule_of, schedule_code, update_priority_code}
+use Rattle.hal_gen.specs.StatementCode.{items_code, with_number, reads_code, condition_code, first_test_code, test_code, first_span_code, later_span_code, span_start_code, spanned_code, with_cells, receivers_code, statement_code, basic_code, direct_code, block_code, alternative_code, uncased_code, cases_code, selected_code, group_code, statements_code}
+use Rattle.hal_gen.specs.Timing.{time_by, time_code, pause_code, start_code, start_operand, priority_code, round_code, until_code, limit_code, limit_operand, schedule_by, schedule_of, schedule_code}
 use Rattle.hal_link.specs.Outlines.{Outline, outlines_of, numbering_of}
 use Rattle.hal_link.specs.Shapes.{shapes_of}
 use Rattle.hal_fit_calls.specs.Each.{Each}
@@ -53,7 +53,7 @@ use Rattle.hal_fit_rules.proofs.Marking.{Counts, mark_more, mark_there, expressi
 use Rattle.hal_fit_rows.specs.Homes.{LeadsHome, InGroup}
 use Rattle.hal_fit_rows.specs.Purposes.{IsSite, SaysPlaces, HasPlace}
 use Rattle.hal_fit_views.specs.Naming.{NamesCell, Names}
-use Rattle.hal_fit_views.proofs.Adding.{Adds, Gives, none_more, some_more, both_add, emit_gives, one_gives, then_gives, behind_gives, if_gives, call_gives}
+use Rattle.hal_fit_views.proofs.Adding.{Gives, none_more, some_more, both_add, emit_gives, one_gives, then_gives, behind_gives}
 use Rattle.hal_fit_views.proofs.Calling.{site_in}
 use Rattle.hal_fit_views.proofs.Expressions.{expression_gives}
 use Rattle.hal_fit_views.proofs.Receivers.{past_gives, mapped_gives, receiver_gives, receivers_give, procedure_gives, cell_named, AreNamed, cells_named, case_gives, keeping_adds, holding_adds, bounds_adds, bounding_adds, counting_adds, store_gives, fetch_gives, return_gives, result_gives, change_plain, asked_gives}

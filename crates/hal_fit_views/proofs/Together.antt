@@ -1,5 +1,5 @@
 -- Views lie in memory where all that they are for does.
-use Rattle.std.specs.Prelude.{◌≡◌, ◌≤◌, ◌<◌, ◌⊎◌, ◌+◌, ◌&&◌, ◌||◌, ℕ, zero, suc, Bool, true, false, not, List, [], ◌∷◌, length, Option, Some, None, slice_get}
+use Rattle.std.specs.Prelude.{◌≡◌, ◌≤◌, ◌<◌, ◌⊎◌, ◌+◌, ◌||◌, ℕ, zero, suc, Bool, true, false, not, List, [], ◌∷◌, length, Some, slice_get}
 use Rattle.std.specs.List.{list_all, list_any, range_with_len}
 use Rattle.std.proofs.Common.{refl, sym, ap, subst, ◌∙◌, inl, inr, arith}
 use Rattle.std.proofs.lemmas.Bool.{and_from}
@@ -15,10 +15,9 @@ use Rattle.hal_values.specs.declared.value.Kind.{Kind}
 use Rattle.hal_meaning.specs.Bodies.{processes_of}
 use Rattle.hal_meaning.specs.Sets.{Set}
 use Rattle.hal_agreement.specs.Sites.{Site}
-use Rattle.hal_gen_expr.specs.Numbering.{cell_view, area_view}
+use Rattle.hal_gen_expr.specs.Numbering.{cell_view}
 use Rattle.hal_link.proofs.Outlined.{outlined_at}
-use Rattle.hal_link.specs.Outlines.{Outline, outlines_of, ranks_of}
-use Rattle.hal_link.specs.CalledViews.{views_of}
+use Rattle.hal_link.specs.Outlines.{ranks_of}
 use Rattle.hal_fit_calls.specs.Each.{Each}
 use Rattle.hal_fit_rows.proofs.Alone.{each_at}
 use Rattle.hal_fit_rows.specs.Purposes.{StandsIn, IsSite, IsCellFor, HasPurpose}

@@ -1,5 +1,5 @@
 -- The code of each unit of a process names views that are for what phrases of the unit name.
-use Rattle.std.specs.Prelude.{◌≡◌, ℕ, Bool, true, false, List, [], ◌∷◌, ◌++◌, map, Option, Some, Ok, slice_get}
+use Rattle.std.specs.Prelude.{◌≡◌, ℕ, Bool, true, false, List, [], ◌∷◌, ◌++◌, map, Some, Ok, slice_get}
 use Rattle.std.proofs.Common.{refl}
 use Rattle.hal_grammar.specs.Statements.{Statement, Statements, NoStatements, MoreStatements}
 use Rattle.hal_grammar.specs.Units.{Head, File}
@@ -22,7 +22,6 @@ use Rattle.hal_meaning.specs.Sets.{Set, body_at}
 use Rattle.hal_agreement.specs.PlacedExpressions.{pushes}
 use Rattle.hal_agreement.specs.PlacedStatements.{Exits}
 use Rattle.hal_agreement.specs.Sites.{Site, within_block}
-use Rattle.hal_gen_expr.specs.Emitting.{onwards}
 use Rattle.hal_gen_expr.specs.Numbering.{Numbering}
 use Rattle.hal_gen.specs.StatementCode.{block_code, direct_code}
 use Rattle.hal_link.specs.Linking.{process_site}

@@ -13,22 +13,31 @@ use Rattle.hal_gen_expr.specs.Led.{Led, led_by}
 use Rattle.hal_gen_expr.specs.Referents.{referent}
 use Rattle.hal_fit_rows.specs.Purposes.{IsSite, Says}
 use Rattle.hal_fit_views.specs.Lying.{AreasLie}
-use Rattle.hal_fit_views.specs.Placed.{AreWellPlaced}
+use Rattle.hal_fit_views.specs.Placed.{PoolsHoldNoUnits, PoolsMatch, ProgramsStandAlone}
 
 -- there is a component
 abbrev pub LeadSomewhere : List Component → Type 0
 LeadSomewhere [] = ⊥
 LeadSomewhere (c ∷ cs) = Unit {0}
 
--- the path of a reference with a subscript leads to components of the data that its name means
-abbrev pub PathsLead : Set → Type 0
-PathsLead s =
+-- names of a reference with a subscript lead to components of the data that its name means
+abbrev pub AllLead : Set → Type 0
+AllLead s =
     (process : ℕ) (site : Site) (role : Role) (place : Place) (name : List ℕ) (path : List Naming) (subscript : Subscript) (led : Led) → IsSite s process site → Says site (OfReference role (Refers place name path subscript))
     → led_by path (referent site name) ≡ Some led → LeadSomewhere (chosen led.path led.shape.components)
 
+-- those of references with names of parts do
+abbrev pub PathsLead : Set → Type 0
+PathsLead s =
+    (process : ℕ) (site : Site) (role : Role) (place : Place) (name : List ℕ) (first : Naming) (others : List Naming) (subscript : Subscript) (led : Led) → IsSite s process site
+    → Says site (OfReference role (Refers place name (first ∷ others) subscript)) → led_by (first ∷ others) (referent site name) ≡ Some led → LeadSomewhere (chosen led.path led.shape.components)
+
 pub record ViewsLeft (s : Set) (image : ImageParts) : Type 0 where
-  -- rules of names, types and calls, and the grammar: data with own places stand where a process that names them reaches them
-  pub placed : AreWellPlaced s.phrases s.constants
+  -- rules of templates
+  pub pools : PoolsMatch s.phrases
+  -- grammar
+  pub hold : PoolsHoldNoUnits s.phrases
+  pub programs : ProgramsStandAlone s.phrases
   -- rules of names
   pub lead : PathsLead s
   -- rules of types: arguments have as many elements of such kinds as their parameters

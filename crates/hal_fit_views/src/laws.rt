@@ -5,6 +5,8 @@ ghost use Rattle.hal_base.specs.declared.limits.TheConstants.{CELL_LIMIT};
 ghost use Rattle.hal_grammar.specs.Units.{File};
 ghost use Rattle.hal_phrases.specs.GatheredUnits.{phrases_of};
 ghost use Rattle.hal_scope.specs.Rules.{IsSound, rows};
+ghost use Rattle.hal_types.specs.Rules.{type_rows};
+ghost use Rattle.hal_calls.specs.Rules.{call_rows};
 ghost use Rattle.hal_meaning.specs.Sets.{Set, set_of};
 ghost use Rattle.hal_code.specs.declared.image.ImageParts.{ImageParts};
 ghost use Rattle.hal_code.specs.declared.row.View.{View};
@@ -36,12 +38,12 @@ pub fn views_lie_where_all_that_they_are_for_does()
         → PurposesLie (set_of turns files) image → views_lie image 0 image.views ≡ true }
 {}
 
-/// And so they do in a set that breaks no rule of names, whose STRUCTUREs have parts, where data with own places stand where processes that name them reach them, and what
-/// is left of paths and arguments holds, and whose image has few cells: the elements of data to which names lead, those among which subscripts choose, own places of groups, and input
-/// parameters lie where they are stored (image document, When an image is right).
+/// And so they do in a set that breaks no rule of names, types or calls, whose STRUCTUREs have parts, whose image has few cells, and where what is left of templates, blocks, paths and
+/// arguments holds: the elements of data to which names lead, those among which subscripts choose, own places of groups, and input parameters lie where they are stored
+/// (image document, When an image is right).
 pub fn views_lie_where_what_is_left_of_data_holds()
-    ensures { (turns : ℕ) (files : List File) (image : ImageParts) → image_of (set_of turns files) (views_of (set_of turns files)) ≡ Ok image → IsSound rows (phrases_of files) → HaveParts (phrases_of files)
-        → spread_kept image ≡ true → cell_count image ≤ CELL_LIMIT → ViewsLeft (set_of turns files) image → views_lie image 0 image.views ≡ true }
+    ensures { (turns : ℕ) (files : List File) (image : ImageParts) → image_of (set_of turns files) (views_of (set_of turns files)) ≡ Ok image → IsSound rows (phrases_of files) → IsSound type_rows (phrases_of files)
+        → IsSound call_rows (phrases_of files) → HaveParts (phrases_of files) → spread_kept image ≡ true → cell_count image ≤ CELL_LIMIT → ViewsLeft (set_of turns files) image → views_lie image 0 image.views ≡ true }
 {
     phrases_are_counted();
     a_key_is_found_at_its_first_declaration();

@@ -1,6 +1,6 @@
 //! Addresses by views.
 
-ghost use Rattle.std.specs.Prelude.{◌≡◌, ◌<◌, ◌-◌, ◌*◌, ◌^◌, ◌∷◌, suc, drop, length, slice_get, OnOk, if◌then◌else◌};
+ghost use Rattle.std.specs.Prelude.{◌≡◌, ◌<◌, ◌-◌, ◌*◌, ◌^◌, [], ◌∷◌, suc, drop, length, slice_get, OnOk, if◌then◌else◌};
 ghost use Rattle.hal_states.specs.Numbers.{is_inside, before_nearest};
 ghost use Rattle.hal_values.specs.Answers.{error};
 ghost use Rattle.hal_states.specs.Spots.{further, referred_to};
@@ -78,11 +78,28 @@ impl Operands {
         }
     }
 
-    /// Which cell the subscripts of a view choose.
+    /// Which cell the subscript on top chooses in one dimension.
+    fn spread_once(&self, dimension: &Dimension) -> Option<Spread>
+        ensures { spread_seen (drop 1 (stack_seen self.now)) result ≡ saturated (spread (dimension.now ∷ []) (stack_seen self.now)) }
+    {
+        self.spread_on(
+            dimension,
+            Spread {
+                before: 0,
+                inside: true,
+            },
+            0,
+        )
+    }
+
+    /// Which cell the subscripts of a view choose. Most views have one dimension.
     fn spread_of(&self, view: &View) -> Option<Spread>
         ensures { spread_seen (drop (length view.now.dimensions) (stack_seen self.now)) result ≡ saturated (spread view.now.dimensions (stack_seen self.now)) }
     {
-        self.spread(view.dimensions.as_slice())
+        match view.dimensions.as_slice() {
+            [dimension] => self.spread_once(dimension),
+            dimensions => self.spread(dimensions),
+        }
     }
 }
 

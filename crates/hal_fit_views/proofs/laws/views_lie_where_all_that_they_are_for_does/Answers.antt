@@ -1,7 +1,6 @@
 use Rattle.std.specs.Prelude.{◌≡◌, List, length, true}
 use Rattle.std.proofs.Common.{refl, sym, ap, subst, ◌∙◌}
 use Rattle.std.proofs.lemmas.List.{length-map}
-use Rattle.hal_phrases.specs.GatheredUnits.{phrases_of}
 use Rattle.hal_values.specs.declared.tables.Tables.{Tables}
 use Rattle.hal_code.specs.declared.image.ImageParts.{ImageParts}
 use Rattle.hal_code.specs.declared.row.Process.{Process}

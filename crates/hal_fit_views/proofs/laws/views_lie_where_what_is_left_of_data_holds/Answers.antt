@@ -1,8 +1,7 @@
 use Rattle.std.specs.List.{sum_by}
-use Rattle.std.specs.Prelude.{◌≡◌, ℕ, nat_le, List, [], ◌∷◌, zero, suc, true, map, Option, Some, None, slice_get}
-use Rattle.std.proofs.Common.{refl, sym, ap, subst, ◌∙◌}
+use Rattle.std.specs.Prelude.{◌≡◌, ℕ, nat_le, List, [], ◌∷◌, zero, suc, true, map, Some, slice_get}
+use Rattle.std.proofs.Common.{sym, ap, subst, ◌∙◌}
 use Rattle.std.proofs.lemmas.Bool.{and_parts, leb-true}
-use Rattle.hal_phrases.specs.GatheredUnits.{phrases_of}
 use Rattle.hal_values.specs.declared.value.Kind.{Kind}
 use Rattle.hal_values.specs.declared.tables.Tables.{Tables}
 use Rattle.hal_code.specs.declared.image.ImageParts.{ImageParts}
@@ -11,7 +10,7 @@ use Rattle.hal_code.specs.declared.row.Run.{Run}
 use Rattle.hal_code.specs.Images as images
 use Rattle.hal_code.specs.Images.{row_count}
 use Rattle.hal_code.specs.Memory.{spread_limit, spread_of}
-use Rattle.hal_meaning.specs.Bodies.{Body, processes_of}
+use Rattle.hal_meaning.specs.Bodies.{processes_of}
 use Rattle.hal_meaning.specs.Places.{places_of, unit_numbers}
 use Rattle.hal_meaning.specs.ReportNames.{path_of}
 use Rattle.hal_meaning.specs.Sets.{Set, cells_of, set_of}
@@ -30,10 +29,15 @@ use Rattle.hal_fit_rows.proofs.HomingFiles.{all_home}
 use Rattle.hal_fit_rows.proofs.LookingUp.{LooksUp}
 use Rattle.hal_fit_rows.proofs.Made.{image_is}
 use Rattle.hal_fit_views.specs.Holding.{DataHold, ReferencesHold}
+use Rattle.hal_fit_views.specs.Placed.{AreWellPlaced}
 use Rattle.hal_fit_views.proofs.ChosenViews.{chosen_lie}
 use Rattle.hal_fit_views.proofs.Held.{elements_lie}
+use Rattle.hal_fit_views.proofs.Inner.{stands_inner}
 use Rattle.hal_fit_views.proofs.Laying.{all_hold}
+use Rattle.hal_fit_views.proofs.Leading.{lead_all}
+use Rattle.hal_fit_views.proofs.Standing.{items_stand, stands_alone}
 use Rattle.hal_fit_views.proofs.Referring.{references_hold}
+use Rattle.hal_fit_views.proofs.Outside.{stands_outside}
 use Rattle.hal_fit_views.proofs.OwnPlaces.{parameters_lie, places_lie}
 use Rattle.hal_fit_views.proofs.laws.views_lie_where_what_is_left_of_data_holds.Goals as goal
 
@@ -44,7 +48,7 @@ mapped_at f (y ∷ xs) zero x is = ap (λ z. Some (f z)) (let same : y ≡ x = c
 mapped_at f (y ∷ xs) (suc n) x is = mapped_at f xs n x is
 
 pub returns : goal.returns
-returns c turns files image is sound parts kept limits left =
+returns c turns files image is sound typed called parts kept limits left =
     let s : Set = set_of turns files in
     let views : List View = views_of s in
     let made = image_is s views image is in
@@ -68,14 +72,20 @@ returns c turns files image is sound parts kept limits left =
     (λ home b found.
     let one = body_is files looks.counted turns home b found in
     placed (unit_numbers s.phrases) home (subst (λ k. is_among (unit_numbers s.phrases) k ≡ true) (looks.counted home one.phrase one.there) (has_unit s.phrases home one.phrase one.there (head_unit one.phrase.node b.head one.head)))) in
+    let items = items_stand s.phrases looks left.pools left.hold in
+    let well : AreWellPlaced s.phrases s.constants = record {
+      stand = record { items = items; alone = stands_alone files looks sound typed left.pools s.constants };
+      outside = stands_outside files looks sound typed s.constants;
+      inner = stands_inner files looks sound typed called items left.programs s.constants;
+    } in
     let hold : DataHold s image =
-    all_hold s looks (all_home files) (all_grouped files) left.placed image cells laid references
+    all_hold s looks (all_home files) (all_grouped files) well image cells laid references
     (λ unit b found. let one = body_is files looks.counted turns unit b found in
     (one.phrase, subst (λ k. slice_get s.phrases k ≡ Some one.phrase) (sym one.number) one.there, head_unit one.phrase.node b.head one.head)) in
     c.views_lie_where_all_that_they_are_for_does.ensures turns files image is
     (record {
       elements = elements_lie image s hold;
-      chosen = chosen_lie s image limits few hold left.lead;
+      chosen = chosen_lie s image limits few hold (lead_all files looks sound parts turns left.lead);
       places = places_lie s looks.counted image laid (all_grouped files);
       parameters = parameters_lie s looks.counted image laid (stored.inputs turns files sound parts);
       areas = left.areas;
