@@ -8,12 +8,12 @@ mod Plain
 mod PlainExpressions
 mod PlainDeclarations
 mod PlainStatements
-mod Told
+pub mod Told
 mod ToldDeclarations
-mod ToldUnits
+pub mod ToldUnits
 pub mod Bodied
 pub mod Filled
-mod Templates
+pub mod Templates
 pub mod Stored
 mod Referring
 mod Strict

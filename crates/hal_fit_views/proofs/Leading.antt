@@ -32,7 +32,7 @@ some_first shape some = by shape.components some where
   by [] so = let none = has_none (unwrap_or shape.copies 1) in absurd (cc)
   by (c ∷ cs) so = tt
 
-led_path : (path : List Naming) (r : Referent) (l : Led) → led_by path r ≡ Some l → l.path ≡ path
+pub led_path : (path : List Naming) (r : Referent) (l : Led) → led_by path r ≡ Some l → l.path ≡ path
 led_path path (DataOf k way shape) l is = let same : led_to path k way shape ≡ l = cc in sym (ap (λ (x : Led). x.path) same)
 led_path path (ConstantOf v) l is = absurd (cc)
 led_path path (EventOf e) l is = absurd (cc)

@@ -21,3 +21,4 @@ mod Outside
 mod Inner
 mod Leading
 mod Standing
+mod PathsLeading

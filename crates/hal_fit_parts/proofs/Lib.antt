@@ -1,0 +1,10 @@
+mod Plain
+mod PlainExpressions
+mod PlainDeclarations
+mod PlainStatements
+mod Opening
+mod Belonging
+mod Standing
+mod Leading
+mod Above
+mod Choosing

@@ -1,0 +1,30 @@
+//! What holds of the parts of structures of a set that breaks no rule of names.
+
+ghost use Rattle.std.specs.Prelude.{◌≡◌, ◌<◌, ℕ, true, false, List, [], ◌∷◌, length, map, Some, slice_get};
+ghost use Rattle.hal_grammar.specs.Leaves.{Naming};
+ghost use Rattle.hal_grammar.specs.Declarations.{Part};
+ghost use Rattle.hal_grammar.specs.Units.{File};
+ghost use Rattle.hal_phrases.specs.Phrases.{OfPart, OfStructure, Phrase};
+ghost use Rattle.hal_phrases.specs.GatheredUnits.{phrases_of};
+ghost use Rattle.hal_scope.specs.Rules.{IsSound, rows};
+ghost use Rattle.hal_kinds.specs.Data.{part_under};
+ghost use Rattle.hal_constants.specs.Known.{Known};
+ghost use Rattle.hal_meaning.specs.Elements.{chosen, component, components_at};
+ghost use Rattle.hal_fit_parts.specs.Parts.{IsPartAt};
+
+use hal_names::{a_key_is_found_at_its_first_declaration, phrases_are_counted};
+
+/// Where no rule of names is broken, a path that leads from a STRUCTURE to a part without parts of its own chooses the one component that the part is; a path that leads to a
+/// part with parts chooses some components; and what a path leads to is a part (language document, Structures).
+pub fn a_path_to_a_bottom_part_chooses_its_component()
+    ensures bottom { (files : List File) (vs : Known) (k j : ℕ) (p q : Phrase) (name : Naming) (parts : List Part) (path : List Naming) (part : Part) → IsSound rows (phrases_of files)
+        → slice_get (phrases_of files) k ≡ Some p → p.node ≡ OfStructure name parts → part_under (phrases_of files) k path ≡ Some j → slice_get (phrases_of files) j ≡ Some q
+        → q.node ≡ OfPart true part → chosen path (components_at (phrases_of files) vs p p.node) ≡ component (phrases_of files) vs p (map (λ (n : Naming). n.name) path) part.attributes ∷ [] }
+    ensures others { (files : List File) (vs : Known) (k j : ℕ) (p q : Phrase) (name : Naming) (parts : List Part) (path : List Naming) (part : Part) → IsSound rows (phrases_of files)
+        → slice_get (phrases_of files) k ≡ Some p → p.node ≡ OfStructure name parts → part_under (phrases_of files) k path ≡ Some j → slice_get (phrases_of files) j ≡ Some q
+        → q.node ≡ OfPart false part → 0 < length (chosen path (components_at (phrases_of files) vs p p.node)) }
+    ensures parts { (files : List File) (k j : ℕ) (n : Naming) (path : List Naming) → part_under (phrases_of files) k (n ∷ path) ≡ Some j → IsPartAt (phrases_of files) j }
+{
+    phrases_are_counted();
+    a_key_is_found_at_its_first_declaration();
+}
