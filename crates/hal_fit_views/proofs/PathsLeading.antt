@@ -1,45 +1,32 @@
--- Names of parts lead to components of the data that a name means, where no rule of names is broken and the name means nothing of a written template.
-use Rattle.std.specs.Prelude.{◌≡◌, ◌<◌, ℕ, Bool, true, false, not, ◌||◌, List, [], ◌∷◌, ◌++◌, length, map, Option, Some, None, slice_get, if◌then◌else◌}
+-- Names of parts lead to components of the data that a name means, where no rule of names is broken and what the name means stands for itself.
+use Rattle.std.specs.Prelude.{◌≡◌, ◌<◌, ℕ, Bool, true, false, not, ◌||◌, List, [], ◌∷◌, ◌++◌, length, map, Option, Some, None, slice_get}
 use Rattle.std.specs.Option.{option_and_then, is_some}
 use Rattle.std.proofs.Common.{refl, sym, ap, subst, ◌∙◌, arith, inl, inr}
 use Rattle.hal_base.specs.declared.refusal.Place.{Place}
 use Rattle.hal_grammar.specs.Leaves.{Naming}
 use Rattle.hal_grammar.specs.Expressions.{Refers, Subscript}
 use Rattle.hal_grammar.specs.Declarations.{Kind, IntegerKind, BooleanKind, EventKind, BitKind, CharacterKind, StructureKind, Attribute, Declared, Part}
-use Rattle.hal_grammar.specs.Units.{Head, Program, Compool, Task, Procedure, Function}
 use Rattle.hal_phrases.specs.declared.role.Role.{Role}
-use Rattle.hal_phrases.specs.Phrases.{Node, Phrase, OfUnit, OfItem, OfStructure, OfPart, OfReference, OfTemporaryGroup}
-use Rattle.hal_phrases.specs.GatheredDeclarations.{is_bottom}
+use Rattle.hal_phrases.specs.Phrases.{Node, Phrase, OfItem, OfStructure, OfPart, OfReference}
 use Rattle.hal_names.specs.declared.key.Space.TheVariants as space
 use Rattle.hal_names.specs.Keys.{key, own}
 use Rattle.hal_names.specs.Laws.{IsDeclaration}
 use Rattle.hal_names.specs.Means.{means}
 use Rattle.hal_scope.specs.Builtins.{builtin_named}
-use Rattle.hal_scope.specs.declared.builtin.Builtin.{Builtin}
 use Rattle.hal_scope.specs.Components.{has_path, is_structure, structure_has, template_has, type_has, has_component, lacks, lacks_in, meaning_has}
 use Rattle.hal_scope.specs.Rules.{IsAmong, IsSound, rows, ruled}
-use Rattle.hal_scope.specs.Sorts.{type_among, type_of, sort_of}
+use Rattle.hal_scope.specs.Sorts.{type_of, sort_of}
 use Rattle.hal_scope.specs.Uses.{is_nil}
-use Rattle.hal_kinds.specs.Data.{is_event_type, part_under}
+use Rattle.hal_kinds.specs.Data.{part_under}
 use Rattle.hal_constants.specs.Known.{Known}
-use Rattle.hal_constants.specs.Naming.{is_value_item, value_at}
-use Rattle.hal_values.specs.declared.value.Value.{Value}
 use Rattle.hal_meaning.specs.Bodies.{standing_for}
-use Rattle.hal_meaning.specs.Elements.{Above, Component, Shape, chosen, component, components_at, components_from, components_named, lower, path_to, shape_of, shape_of_type}
-use Rattle.hal_meaning.specs.Places.{Storing, storing}
-use Rattle.hal_meaning.specs.Variables.{temporary_shape}
-use Rattle.hal_meaning.specs.Events.{event_of}
+use Rattle.hal_meaning.specs.Elements.{Component, Shape, chosen, component, components_at, components_named, shape_of, shape_of_type}
+use Rattle.hal_meaning.specs.Places.{Storing}
 use Rattle.hal_agreement.specs.Sites.{Site}
-use Rattle.hal_storage.specs.referents.Referents.{Referent, DataOf, ConstantOf, EventOf, BlockOf, BuiltinOf, Unmeant, builtin_referent, declaration_referent, event_referent, item_referent, head_referent, node_referent}
-use Rattle.hal_gen_expr.specs.Led.{Led, led_by, led_to}
+use Rattle.hal_gen_expr.specs.Led.{Led, led_by}
 use Rattle.hal_gen_expr.specs.Referents.{referent}
-use Rattle.hal_fit_calls.specs.Each.{Each}
-use Rattle.hal_fit_rules.specs.Owned.{IsOwn}
 use Rattle.hal_fit_rules.proofs.Declaring.{types_joined}
-use Rattle.hal_fit_names.specs.Suited.{is_templated}
-use Rattle.hal_fit_names.specs.Used.{NamesAreOwn}
 use Rattle.hal_fit_parts.specs.Parts.{IsPartAt}
-use Rattle.hal_fit_rows.specs.Parts.{HaveParts}
 use Rattle.hal_fit_rows.specs.Purposes.{Says}
 use Rattle.hal_fit_rows.proofs.Rules.{ruled_none, unbroken}
 use Rattle.hal_fit_rows.proofs.Templates.{names_structure, unless_true, NamesStructure}
@@ -148,11 +135,10 @@ data_leads s knows k p n ns there has _ _ _ (OfAnItem common item node) =
     item_leads s.phrases s.constants knows k p common item n ns there node (ap (has_component s.phrases p (n ∷ ns)) (sym node) ∙ has)
 data_leads s knows k p n ns there has _ _ _ (OfAGroup labels variable node) = let not_ = ap (has_component s.phrases p (n ∷ ns)) (sym node) ∙ has in absurd (cc)
 
-pub name_leads : (s : Set) → KnowsParts s.phrases → ((site : Site) (name : List ℕ) (k : ℕ) (p : Phrase) → means site.set.phrases site.block name ≡ Some k → slice_get site.set.phrases k ≡ Some p → is_templated site.set.phrases p p.node ≡ false → IsOwn site name)
-    → (site : Site) (role : Role) (place : Place) (name : List ℕ) (n : Naming) (ns : List Naming) (subscript : Subscript) (led : Led) → site.set ≡ s
-    → ((k : ℕ) (p : Phrase) → means s.phrases site.block name ≡ Some k → slice_get s.phrases k ≡ Some p → is_templated s.phrases p p.node ≡ false)
+pub name_leads : (s : Set) → KnowsParts s.phrases → (site : Site) (role : Role) (place : Place) (name : List ℕ) (n : Naming) (ns : List Naming) (subscript : Subscript) (led : Led) → site.set ≡ s
+    → ((k : ℕ) → means s.phrases site.block name ≡ Some k → standing_for s.phrases k ≡ k)
     → Says site (OfReference role (Refers place name (n ∷ ns) subscript)) → led_by (n ∷ ns) (referent site name) ≡ Some led → LeadSomewhere (chosen led.path led.shape.components)
-name_leads s knows owns site role place name n ns subscript led same own says leads =
+name_leads s knows site role place name n ns subscript led same own says leads =
     subst (λ path. LeadSomewhere (chosen path led.shape.components)) (sym (led_path (n ∷ ns) (referent site name) led leads)) (by (means s.phrases site.block name) refl meaning.means_it) where
       meaning : IsData s site.block name led.declared led.stored led.shape
       meaning = data_is s site name led.declared led.stored led.shape same (led_is (n ∷ ns) (referent site name) led leads)
@@ -165,15 +151,7 @@ name_leads s knows owns site role place name n ns subscript led same own says le
       by : (o : Option ℕ) → means s.phrases site.block name ≡ o → elim o [ None ↦ None | Some k ↦ Some (standing_for s.phrases k) ] ≡ Some meaning.place → LeadSomewhere (chosen (n ∷ ns) led.shape.components)
       by None none so = absurd (cc)
       by (Some k) is so =
-          let declared = knows.meant site.block name k is in
-          let there = declared.1.there in
-          let plain = own k declared.1.declaring is there in
-          let owned = owns site name k declared.1.declaring (subst (λ (x : Set). means x.phrases site.block name ≡ Some k) (sym same) is) (subst (λ (x : Set). slice_get x.phrases k ≡ Some declared.1.declaring) (sym same) there)
-          (subst (λ (x : Set). is_templated x.phrases declared.1.declaring declared.1.declaring.node ≡ false) (sym same) plain) in
-          let numbers : Some owned.number ≡ Some k = sym (subst (λ (x : Set). means x.phrases site.block name ≡ Some owned.number) same owned.meant) ∙ is in
-          let number : owned.number ≡ k = cc in
-          let itself : standing_for s.phrases k ≡ k = subst (λ m. standing_for s.phrases m ≡ m) number (subst (λ (x : Set). standing_for x.phrases owned.number ≡ owned.number) same owned.own) in
-          let places : Some k ≡ Some meaning.place = ap Some (sym itself) ∙ so in
+          let places : Some k ≡ Some meaning.place = ap Some (sym (own k is)) ∙ so in
           let placed : k ≡ meaning.place = cc in
           let at : slice_get s.phrases k ≡ Some meaning.phrase = ap (slice_get s.phrases) placed ∙ meaning.there in
           data_leads s knows k meaning.phrase n ns at (component_so s.phrases s.constants knows site.block k meaning.phrase name (n ∷ ns) is at has) led.declared led.stored led.shape meaning.is

@@ -1,24 +1,24 @@
 //! What holds of the views that the code of an image names.
 
-ghost use Rattle.std.specs.Prelude.{◌≡◌, ◌≤◌, ℕ, true, false, List, ◌∷◌, Some, Ok, slice_get};
+ghost use Rattle.std.specs.Prelude.{◌≡◌, ◌≤◌, ℕ, true, List, ◌∷◌, Some, Ok};
 ghost use Rattle.hal_base.specs.declared.limits.TheConstants.{CELL_LIMIT};
 ghost use Rattle.hal_base.specs.declared.refusal.Place.{Place};
 ghost use Rattle.hal_grammar.specs.Leaves.{Naming};
 ghost use Rattle.hal_grammar.specs.Expressions.{Refers, Subscript};
 ghost use Rattle.hal_grammar.specs.Units.{File};
 ghost use Rattle.hal_phrases.specs.declared.role.Role.{Role};
-ghost use Rattle.hal_phrases.specs.Phrases.{OfReference, Phrase};
+ghost use Rattle.hal_phrases.specs.Phrases.{OfReference};
 ghost use Rattle.hal_names.specs.Means.{means};
 ghost use Rattle.hal_phrases.specs.GatheredUnits.{phrases_of};
 ghost use Rattle.hal_scope.specs.Rules.{IsSound, rows};
 ghost use Rattle.hal_types.specs.Rules.{type_rows};
 ghost use Rattle.hal_calls.specs.Rules.{call_rows};
+ghost use Rattle.hal_meaning.specs.Bodies.{standing_for};
 ghost use Rattle.hal_meaning.specs.Elements.{chosen};
 ghost use Rattle.hal_meaning.specs.Sets.{Set, set_of};
 ghost use Rattle.hal_agreement.specs.Sites.{Site};
 ghost use Rattle.hal_gen_expr.specs.Led.{Led, led_by};
 ghost use Rattle.hal_gen_expr.specs.Referents.{referent};
-ghost use Rattle.hal_fit_names.specs.Suited.{is_templated};
 ghost use Rattle.hal_code.specs.declared.image.ImageParts.{ImageParts};
 ghost use Rattle.hal_code.specs.declared.row.View.{View};
 ghost use Rattle.hal_code.specs.Right.{cell_count, process_names, views_lie};
@@ -31,12 +31,24 @@ ghost use Rattle.hal_fit_views.specs.Left.{LeadSomewhere, ViewsLeft};
 ghost use Rattle.hal_fit_views.specs.Lying.{PurposesLie};
 ghost use Rattle.hal_fit_views.specs.Naming.{NamesView};
 
-use hal_fit_names::names_of_no_template_are_own;
 use hal_fit_parts::a_path_to_a_bottom_part_chooses_its_component;
 use hal_fit_rows::parameters_of_units_are_stored;
 use hal_names::{
     a_key_is_found_at_its_first_declaration, phrases_are_counted, what_is_meant_declares_the_name,
 };
+
+/// Names of parts of a reference lead to components of the data that its name means, in a set that breaks no rule of names, where what the name means stands for itself, as
+/// all does that is of no written template (language document, Structures).
+pub fn names_of_parts_lead_to_components()
+    ensures { (turns : ℕ) (files : List File) (site : Site) (role : Role) (place : Place) (name : List ℕ) (first : Naming) (others : List Naming) (subscript : Subscript) (led : Led)
+        → IsSound rows (phrases_of files) → site.set ≡ set_of turns files
+        → ((k : ℕ) → means (phrases_of files) site.block name ≡ Some k → standing_for (phrases_of files) k ≡ k)
+        → Says site (OfReference role (Refers place name (first ∷ others) subscript)) → led_by (first ∷ others) (referent site name) ≡ Some led
+        → LeadSomewhere (chosen led.path led.shape.components) }
+{
+    what_is_meant_declares_the_name();
+    a_path_to_a_bottom_part_chooses_its_component();
+}
 
 /// The blocks of a process name views that are for what phrases of its units name where they stand in it: for data, for own places of groups, for input parameters of the units
 /// that it calls, and for arguments (image document, The image of a set).
@@ -52,22 +64,8 @@ pub fn views_lie_where_all_that_they_are_for_does()
         → PurposesLie (set_of turns files) image → views_lie image 0 image.views ≡ true }
 {}
 
-/// Names of parts of a reference lead to components of the data that its name means, in a set that breaks no rule of names, where the name means nothing of a written template
-/// (language document, Structures).
-pub fn names_of_parts_lead_to_components()
-    ensures { (turns : ℕ) (files : List File) (site : Site) (role : Role) (place : Place) (name : List ℕ) (first : Naming) (others : List Naming) (subscript : Subscript) (led : Led)
-        → IsSound rows (phrases_of files) → site.set ≡ set_of turns files
-        → ((k : ℕ) (p : Phrase) → means (phrases_of files) site.block name ≡ Some k → slice_get (phrases_of files) k ≡ Some p → is_templated (phrases_of files) p p.node ≡ false)
-        → Says site (OfReference role (Refers place name (first ∷ others) subscript)) → led_by (first ∷ others) (referent site name) ≡ Some led
-        → LeadSomewhere (chosen led.path led.shape.components) }
-{
-    what_is_meant_declares_the_name();
-    names_of_no_template_are_own();
-    a_path_to_a_bottom_part_chooses_its_component();
-}
-
-/// And so they do in a set that breaks no rule of names, types or calls, whose STRUCTUREs have parts, whose image has few cells, and where what is left of templates, blocks, paths and
-/// arguments holds: the elements of data to which names lead, those among which subscripts choose, own places of groups, and input parameters lie where they are stored
+/// And so they do in a set that breaks no rule of names, types or calls, whose STRUCTUREs have parts, whose image has few cells, and where what is left of templates, blocks, names of parts of
+/// written templates and arguments holds: the elements of data to which names lead, those among which subscripts choose, own places of groups, and input parameters lie where they are stored
 /// (image document, When an image is right).
 pub fn views_lie_where_what_is_left_of_data_holds()
     ensures { (turns : ℕ) (files : List File) (image : ImageParts) → image_of (set_of turns files) (views_of (set_of turns files)) ≡ Ok image → IsSound rows (phrases_of files) → IsSound type_rows (phrases_of files)
@@ -78,4 +76,5 @@ pub fn views_lie_where_what_is_left_of_data_holds()
     what_is_meant_declares_the_name();
     parameters_of_units_are_stored();
     views_lie_where_all_that_they_are_for_does();
+    names_of_parts_lead_to_components();
 }

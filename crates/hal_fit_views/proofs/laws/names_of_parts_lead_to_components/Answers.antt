@@ -17,4 +17,4 @@ returns c turns files site role place name first others subscript led sound same
       others = λ vs k j p q of parts path part there is leading at so. c.a_path_to_a_bottom_part_chooses_its_component.ensures.others files vs k j p q of parts path part sound there is leading at so;
       part = c.a_path_to_a_bottom_part_chooses_its_component.ensures.parts files;
     })
-    c.names_of_no_template_are_own.ensures site role place name first others subscript led same own says leads
+    site role place name first others subscript led same own says leads

@@ -85,7 +85,7 @@ returns c turns files image is sound typed called parts kept limits left =
     c.views_lie_where_all_that_they_are_for_does.ensures turns files image is
     (record {
       elements = elements_lie image s hold;
-      chosen = chosen_lie s image limits few hold (lead_all files looks sound parts turns left.lead);
+      chosen = chosen_lie s image limits few hold (lead_all files looks sound parts turns left.lead (c.names_of_parts_lead_to_components.ensures turns files));
       places = places_lie s looks.counted image laid (all_grouped files);
       parameters = parameters_lie s looks.counted image laid (stored.inputs turns files sound parts);
       areas = left.areas;
