@@ -8,3 +8,4 @@ mod Standing
 mod Leading
 mod Above
 mod Choosing
+mod Alike

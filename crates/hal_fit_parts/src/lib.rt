@@ -4,4 +4,6 @@
 
 mod laws;
 
-pub use laws::a_path_to_a_bottom_part_chooses_its_component;
+pub use laws::{
+    a_part_at_the_bottom_is_what_its_component_is, a_path_to_a_bottom_part_chooses_its_component,
+};
