@@ -7,7 +7,7 @@ use Rattle.hal_grammar.specs.Expressions.{Expressions, NoExpressions, MoreExpres
 use Rattle.hal_grammar.specs.Leaves.{Naming}
 use Rattle.hal_phrases.specs.declared.role.Role.{Role}
 use Rattle.hal_phrases.specs.declared.role.Role.TheVariants as role
-use Rattle.hal_grammar.specs.Declarations.{Kind, IntegerKind, BooleanKind, EventKind, BitKind, CharacterKind, StructureKind, Attribute, Declared}
+use Rattle.hal_grammar.specs.Declarations.{Kind, IntegerKind, BooleanKind, EventKind, BitKind, CharacterKind, StructureKind, Attribute, Declared, Initials}
 use Rattle.hal_grammar.specs.Statements.{Eventful}
 use Rattle.hal_grammar.specs.Units.{Head, Program, Compool, Task, Procedure, Function}
 use Rattle.hal_phrases.specs.Phrases.{Node, Phrase, OfFile, OfTemplate, OfUnit, OfParameter, OfItem, OfStructure, OfPart, OfLabel, OfTemporaryGroup, OfReference, OfSubscriptName, OfVariable, OfEvent, OfCallForm, OfCall}
@@ -38,6 +38,7 @@ use Rattle.hal_uses.specs.Calls as calls
 use Rattle.hal_attributes.specs.Typed.{untyped, is_no_variable, misplaced_event}
 use Rattle.hal_uses.specs.Receivers.{is_input_parameter, is_component, put_fault, put, is_integer, counted_fault, variable_fault, varied, may_receive, received_by, received, reference_receives, misreceived}
 use Rattle.hal_types.specs.Rules.{attribute_rows, operand_rows, use_rows, size_rows, type_rows}
+use Rattle.hal_constants.specs.Known.{known}
 use Rattle.hal_constants.specs.Naming.{is_value_item}
 use Rattle.hal_meaning.specs.Bodies.{is_called_head, is_process_head, standing_for}
 use Rattle.hal_meaning.specs.Places.{is_in_unit}
@@ -53,8 +54,8 @@ use Rattle.hal_fit_rules.specs.Passing.{IsProcedure}
 use Rattle.hal_fit_rules.specs.Passed.{ProcedureAgrees}
 use Rattle.hal_fit_rules.specs.Received.{CellsAgree}
 use Rattle.hal_fit_rules.specs.Signalled.{EventAgrees, HasEvents}
-use Rattle.hal_fit_rules.specs.Valued.{HasConstants}
-use Rattle.hal_fit_rules.proofs.Constants.{constant_agrees, constant_formed}
+use Rattle.hal_fit_rules.specs.Valued.{HasConstants, IsConstantItem}
+use Rattle.hal_fit_rules.proofs.Constants.{constant_agrees, constant_agrees_as, constant_formed, constant_formed_as}
 use Rattle.hal_fit_rules.proofs.Calling.{formed_by, procedure_agrees, data_formed, temporary_formed, event_formed, event_formed_as, function_formed, builtin_formed}
 use Rattle.hal_fit_rules.proofs.Declaring.{item_meant_so, lying, plain_data_agree, plain_cells_agree, temporary_agrees, temporary_cells_agree, builtin_agrees, function_agrees}
 use Rattle.hal_fit_rules.proofs.Eventful.{event_known, event_known_as}
@@ -67,9 +68,10 @@ use Rattle.hal_fit_names.specs.Standing.{StandsForData}
 use Rattle.hal_fit_names.specs.Suited.{HasFitLiterals, AreDeclared, is_in_file, is_plain, is_templated}
 use Rattle.hal_fit_names.proofs.Asking.{asked_all, asked_runtime, eventful_sort}
 use Rattle.hal_fit_names.proofs.Declaring.{plain_data}
-use Rattle.hal_fit_names.proofs.Owning.{IsShown, Plain, Pooled, PooledEvent, Written, own_number, shown_so}
+use Rattle.hal_fit_names.proofs.Owning.{IsShown, Plain, Pooled, PooledConstant, PooledEvent, Written, own_number, shown_so}
 use Rattle.hal_fit_names.proofs.Pooled.{all_false, pooled_agree, pooled_cells, pooled_formed, structure_class}
 use Rattle.hal_fit_names.proofs.Placing.{NodePlaced, at_among}
+use Rattle.hal_fit_names.proofs.SameValues.{valued_same}
 use Rattle.hal_fit_names.proofs.Suiting.{unless_true}
 
 -- a built-in function whose name is a value has no list
@@ -159,6 +161,11 @@ no_event (Some b) known_ fits = absurd (by (form_of b) known_ fits) where
 no_variable : {X : Type 0} (o : Option Builtin) (place : Place) → elim o [ None ↦ false | Some b ↦ is_known usage.Variable (form_of b) ] ≡ true → ◌≡◌ {A = Option (ℕ × Place)} (if is_some o then Some (712, place) else None) None → X
 no_variable None place known_ none = absurd (cc)
 no_variable (Some b) place known_ none = absurd (cc)
+
+-- a constant that is its value is a constant
+valued_constant : (o : Option Initials) (rest : Bool) → is_some o && rest ≡ true → is_some o ≡ true
+valued_constant (Some list) rest is = refl
+valued_constant None rest is = absurd (cc)
 
 -- a single integer that isn't fixed
 single_free : (integer alone constant_ input : Bool) → ◌≡◌ {A = Option ℕ} (if integer && alone then (if constant_ || input then Some 709 else None) else Some 712) None → (integer ≡ true) × (constant_ ≡ false)
@@ -417,6 +424,46 @@ module _ (u : Uses) (site : Site) (named : IsSound rows site.set.phrases) (sound
         within = stands.within;
       }
 
+  -- a constant that a template of a COMPOOL declares has the value of the one that it stands for
+  record IsPair (k : ℕ) (p : Phrase) : Type 0 where
+    mine : IsConstantItem site p
+    other : Phrase
+    stands : standing_for site.set.phrases k ≡ other.number
+    at : slice_get site.set.phrases other.number ≡ Some other
+    theirs : IsConstantItem site other
+    same : theirs.value ≡ mine.value
+
+  type_there : (o : Option Kind) → is_some o ≡ true → (t : Kind) × (o ≡ Some t)
+  type_there (Some t) is = (t, refl)
+  type_there None is = absurd (cc)
+
+  constant_pair : (name : List ℕ) (left : AreLeft site name) (k : ℕ) (p : Phrase) (common : List Attribute) (item : Declared) → means site.set.phrases site.block name ≡ Some k → slice_get site.set.phrases k ≡ Some p → p.node ≡ OfItem common item
+      → is_event_type (type_of common item) ≡ false → is_value_item common item ≡ true → is_in_file site.set.phrases p.around.home ≡ true → IsPair k p
+  constant_pair name left k p common item meant there is eventless constant filed =
+      let stands = stood_for name left k p common item meant there is filed in
+      let q : Phrase = stands.phrase in
+      let worth = left.valued k p common item meant there is constant in
+      let mine = type_there (type_of common item) (item_typed p common item (at_among site.set.phrases k p there) is) in
+      let theirs = type_there (type_of stands.other_common stands.other) (item_typed q stands.other_common stands.other (at_among site.set.phrases q.number q stands.there) stands.declares) in
+      record {
+        mine = record { common = common; item = item; declares = is; kind = mine.0; typed = mine.1; eventless = ap is_event_type (sym mine.1) ∙ eventless; valued = constant; value = worth.0; worth = worth.1 };
+        other = q;
+        stands = stands.stands;
+        at = stands.there;
+        theirs = record {
+          common = stands.other_common;
+          item = stands.other;
+          declares = stands.declares;
+          kind = theirs.0;
+          typed = theirs.1;
+          eventless = ap is_event_type (sym theirs.1) ∙ (sym stands.same.attributes.words.event ∙ eventless);
+          valued = sym (valued_same site.set.phrases (known site.set.phrases) p q common stands.other_common item stands.other stands.same) ∙ constant;
+          value = worth.0;
+          worth = left.same k p common item meant there is constant stands ∙ worth.1;
+        };
+        same = refl;
+      }
+
   -- a name that means a declaration
   named_as : (name : List ℕ) (left : AreLeft site name) (may : MayAsk u site name) (functions : AreFunctions u site name) (owner k : ℕ) (q p : Phrase) → means site.set.phrases site.block name ≡ Some k → slice_get site.set.phrases k ≡ Some p
       → declared_at p.number p.around p.node ≡ Some (key space.Declared owner name) → IsShown site.set.phrases p → fits_declared site.set.phrases q usage.Value (sort_of p.node) ≡ true → NameAgrees u site site.set.phrases site.block name []
@@ -442,6 +489,9 @@ module _ (u : Uses) (site : Site) (named : IsSound rows site.set.phrases) (sound
       let stands = stood_for name left k p common item meant there is filed in
       event_agrees_as u site (asked_all u site name k p meant there may (eventful_sort p common item is eventful)) counted name k p common item meant there is eventful
       (event_single p common item (at_among site.set.phrases k p there) is eventful) stands.phrase.number stands.phrase stands.stands stands.there (event_for k p common item eventful stands)
+  named_as name left may functions owner k q p meant there declares (PooledConstant common item is eventless constant filed) fits =
+      let pair = constant_pair name left k p common item meant there is eventless constant filed in
+      constant_agrees_as u site counted has name k p meant there pair.mine pair.other.number pair.other pair.stands pair.at pair.theirs pair.same
 
   meant_by_name : (name : List ℕ) (left : AreLeft site name) (may : MayAsk u site name) (functions : AreFunctions u site name) (q : Phrase) (o : Option ℕ) → means site.set.phrases site.block name ≡ o → (is_some o || is_known_builtin name usage.Value) ≡ true
       → elim o [ None ↦ fits_named name usage.Value | Some k ↦ fits_declared site.set.phrases q usage.Value (sort_at site.set.phrases k) ] ≡ true → NameAgrees u site site.set.phrases site.block name []
@@ -532,6 +582,10 @@ module _ (u : Uses) (site : Site) (named : IsSound rows site.set.phrases) (sound
   received_as name left k q p meant there (PooledEvent common item is eventful filed) fits may =
       absurd (let other : true ≡ false =
       sym eventful ∙ (neither_true (is_some (attributes.constant_of common item)) (is_input_parameter site.set.phrases p item.name.name) (is_event_type (type_of common item)) (ap (may_receive site.set.phrases p) (sym is) ∙ may)).1 in cc)
+  received_as name left k q p meant there (PooledConstant common item is eventless constant filed) fits may =
+      absurd (let other : true ≡ false =
+      sym (valued_constant (attributes.constant_of common item) _ constant)
+      ∙ (neither_true (is_some (attributes.constant_of common item)) (is_input_parameter site.set.phrases p item.name.name) (is_event_type (type_of common item)) (ap (may_receive site.set.phrases p) (sym is) ∙ may)).0 in cc)
 
   no_builtin : {X : Type 0} (o : Option Builtin) → elim o [ None ↦ false | Some b ↦ is_known usage.Receiver (form_of b) ] ≡ true
       → elim o [ None ↦ true | Some b ↦ not (is_known usage.Receiver (form_of b)) || fits_builtin usage.Receiver (form_of b) ] ≡ true → X
@@ -589,6 +643,11 @@ module _ (u : Uses) (site : Site) (named : IsSound rows site.set.phrases) (sound
       sym eventful
       ∙ (unfixed (is_event_type (type_of common item)) (is_some (attributes.constant_of common item)) (is_input_parameter site.set.phrases p item.name.name) (is_component (data_at site.set.phrases p [] (OfItem common item)) x)
       (ap (put_fault site.set.phrases p [] x) (sym is) ∙ none)).0 in cc)
+  put_as name left x k p meant there (PooledConstant common item is eventless constant filed) none =
+      absurd (let other : true ≡ false =
+      sym (valued_constant (attributes.constant_of common item) _ constant)
+      ∙ (unfixed (is_event_type (type_of common item)) (is_some (attributes.constant_of common item)) (is_input_parameter site.set.phrases p item.name.name) (is_component (data_at site.set.phrases p [] (OfItem common item)) x)
+      (ap (put_fault site.set.phrases p [] x) (sym is) ∙ none)).1 in cc)
 
   put_by_name : (name : List ℕ) (left : AreLeft site name) (x : Subscript) (place : Place) (o : Option ℕ) → means site.set.phrases site.block name ≡ o → (is_some o || is_known_builtin name usage.Output) ≡ true
       → ◌≡◌ {A = Option (ℕ × Place)} (elim o [ None ↦ if is_some (builtin_named name) then Some (722, place) else None | Some k ↦ elim (slice_get site.set.phrases k) [ None ↦ None | Some r ↦ at place (put_fault site.set.phrases r [] x r.node) ] ]) None
@@ -652,6 +711,8 @@ module _ (u : Uses) (site : Site) (named : IsSound rows site.set.phrases) (sound
       let stands = stood_for e.name.name left k p common item meant there is filed in
       event_known_as image site counted events e k p common item meant there is eventful stands.phrase.number stands.phrase stands.stands stands.there (event_for k p common item eventful stands)
       (λ marked. sym stands.same.attributes.words.latched ∙ marked)
+  event_as image e left owner k q p events meant there declares (PooledConstant common item is eventless constant filed) fits =
+      absurd (let other : true ≡ false = sym (event_type site.set.phrases q (type_of common item) (ap (λ n. fits_declared site.set.phrases q usage.Event (sort_of n)) (sym is) ∙ fits)) ∙ eventless in cc)
 
   event_by_name : (image : ImageParts) (e : Eventful) (q : Phrase) (o : Option ℕ) → AreLeft site e.name.name → HasEvents image site → means site.set.phrases site.block e.name.name ≡ o → (is_some o || is_known_builtin e.name.name usage.Event) ≡ true
       → elim o [ None ↦ fits_named e.name.name usage.Event | Some k ↦ fits_declared site.set.phrases q usage.Event (sort_at site.set.phrases k) ] ≡ true → EventAgrees image site site.set.phrases site.block e
@@ -698,6 +759,14 @@ module _ (u : Uses) (site : Site) (named : IsSound rows site.set.phrases) (sound
       let both = single_free (is_integer (class_of_type t)) (not (nat_lt 0 d.dimensions || d.copies)) (is_some (attributes.constant_of common item)) (is_input_parameter site.set.phrases p item.name.name) none in
       ap is_event_type typed ∙ (integer_type t both.0).0
 
+  -- and no constant
+  no_constant_varies : (p : Phrase) (common : List Attribute) (item : Declared) (o : Option Kind) → is_some o ≡ true → counted_fault site.set.phrases p common item (data_of o (sizes_of common item)) ≡ None → is_some (attributes.constant_of common item) ≡ false
+  unfolding counted_fault data_of
+  no_constant_varies p common item None some none = absurd (cc)
+  no_constant_varies p common item (Some t) some none =
+      let d : Data = data_with (class_of_type t) (dimensions_of (sizes_of common item)) (has_copies t) in
+      (single_free (is_integer (class_of_type t)) (not (nat_lt 0 d.dimensions || d.copies)) (is_some (attributes.constant_of common item)) (is_input_parameter site.set.phrases p item.name.name) none).1
+
   node_varies : (name : List ℕ) (own : IsOwn site name) (n : Node) → own.phrase.node ≡ n → IsAmong own.phrase site.set.phrases → variable_fault site.set.phrases own.phrase n ≡ None
       → CellsAgree site.set.phrases [] (means site.set.phrases site.block name) (name_meant (here_at site) name [])
   unfolding variable_fault data_at is_nil
@@ -714,6 +783,10 @@ module _ (u : Uses) (site : Site) (named : IsSound rows site.set.phrases) (sound
   varied_as name left k p meant there (Pooled common item is plain) none = plain_cells name k p common item meant there is (plainly name left k p common item meant there is plain)
   varied_as name left k p meant there (PooledEvent common item is eventful filed) none =
       absurd (let other : true ≡ false = sym eventful ∙ no_event_varies p common item (type_of common item) refl (ap (variable_fault site.set.phrases p) (sym is) ∙ none) in cc)
+  varied_as name left k p meant there (PooledConstant common item is eventless constant filed) none =
+      absurd (let other : true ≡ false =
+      sym (valued_constant (attributes.constant_of common item) _ constant)
+      ∙ no_constant_varies p common item (type_of common item) (item_typed p common item (at_among site.set.phrases k p there) is) (ap (variable_fault site.set.phrases p) (sym is) ∙ none) in cc)
 
   varied_by_name : (name : List ℕ) (left : AreLeft site name) (place : Place) (o : Option ℕ) → means site.set.phrases site.block name ≡ o → (is_some o || is_known_builtin name usage.Variable) ≡ true
       → ◌≡◌ {A = Option (ℕ × Place)} (elim o [ None ↦ if is_some (builtin_named name) then Some (712, place) else None | Some k ↦ elim (slice_get site.set.phrases k) [ None ↦ None | Some r ↦ at place (variable_fault site.set.phrases r r.node) ] ]) None
@@ -796,6 +869,9 @@ module _ (u : Uses) (site : Site) (named : IsSound rows site.set.phrases) (sound
       let stands = stood_for name left k p common item meant there is filed in
       event_formed_as u site name k p common item counted meant there is eventful (event_single p common item (at_among site.set.phrases k p there) is eventful) stands.phrase.number stands.phrase stands.stands stands.there
       (event_for k p common item eventful stands)
+  formed_as name left functions parameters f place ts k p meant there (PooledConstant common item is eventless constant filed) none =
+      let pair = constant_pair name left k p common item meant there is eventless constant filed in
+      constant_formed_as u site counted has name k p meant there pair.mine pair.other.number pair.other pair.stands pair.at pair.theirs pair.same
 
   builtin_forms : (name : List ℕ) (o : Option Builtin) → means site.set.phrases site.block name ≡ None → builtin_named name ≡ o → elim o [ None ↦ false | Some b ↦ is_known usage.CallForm (form_of b) ] ≡ true → FormAgrees u site site.set.phrases site.block name
   builtin_forms name None undeclared is known_ = absurd (cc)
@@ -853,6 +929,8 @@ module _ (u : Uses) (site : Site) (named : IsSound rows site.set.phrases) (sound
   called_as name procedures owner k q p meant there declares (Pooled common item is plain) fits =
       absurd (no_call site.set.phrases q (type_of common item) (ap (λ n. fits_declared site.set.phrases q usage.Called (sort_of n)) (sym is) ∙ fits))
   called_as name procedures owner k q p meant there declares (PooledEvent common item is eventful filed) fits =
+      absurd (no_call site.set.phrases q (type_of common item) (ap (λ n. fits_declared site.set.phrases q usage.Called (sort_of n)) (sym is) ∙ fits))
+  called_as name procedures owner k q p meant there declares (PooledConstant common item is eventless constant filed) fits =
       absurd (no_call site.set.phrases q (type_of common item) (ap (λ n. fits_declared site.set.phrases q usage.Called (sort_of n)) (sym is) ∙ fits))
 
   called_by_name : (name : Naming) (left : AreLeft site name.name) (procedures : AreProcedures u site name.name) (q : Phrase) (o : Option ℕ) → means site.set.phrases site.block name.name ≡ o → (is_some o || is_known_builtin name.name usage.Called) ≡ true

@@ -17,8 +17,8 @@ use Rattle.hal_fit_rules.specs.Passing.{AreParameters, IsProcedure}
 use Rattle.hal_fit_names.specs.Standing.{StandsForData}
 use Rattle.hal_fit_names.specs.Suited.{is_in_file, shows_parts}
 
--- it means no written template of a unit that is called, no constant of one, and no event of one but a COMPOOL's; a template of a process stands for the process, and other data for those of a COMPOOL, or
--- for themselves; and it has a value where it means a constant that is its value
+-- it means no written template of a unit that is called, and no constant or event of one but a COMPOOL's; a template of a process stands for the process, and other data for those of a COMPOOL, or
+-- for themselves; and it has a value where it means a constant that is its value, which is that of the COMPOOL's constant
 pub record AreLeft (site : Site) (name : List ℕ) : Type 0 where
   pub untemplated : (k : ℕ) (p : Phrase) → means site.set.phrases site.block name ≡ Some k → slice_get site.set.phrases k ≡ Some p → shows_parts site.set.phrases p p.node ≡ false
   pub standing : (k : ℕ) (p : Phrase) (template : Naming) (head : Head) (declarations : List Declaration) → means site.set.phrases site.block name ≡ Some k → slice_get site.set.phrases k ≡ Some p
@@ -27,6 +27,8 @@ pub record AreLeft (site : Site) (name : List ℕ) : Type 0 where
       → StandsForData site.set.phrases k p common item ⊎ ((standing_for site.set.phrases k ≡ k) × (is_in_file site.set.phrases p.around.home ≡ false))
   pub valued : (k : ℕ) (p : Phrase) (common : List Attribute) (item : Declared) → means site.set.phrases site.block name ≡ Some k → slice_get site.set.phrases k ≡ Some p → p.node ≡ OfItem common item
       → is_value_item common item ≡ true → (v : Value) × (value_at site.set.constants p.number ≡ Some v)
+  pub same : (k : ℕ) (p : Phrase) (common : List Attribute) (item : Declared) → means site.set.phrases site.block name ≡ Some k → slice_get site.set.phrases k ≡ Some p → p.node ≡ OfItem common item
+      → is_value_item common item ≡ true → (stands : StandsForData site.set.phrases k p common item) → value_at site.set.constants stands.phrase.number ≡ value_at site.set.constants p.number
 
 -- a FUNCTION that it means may be called
 abbrev pub AreFunctions : Uses → Site → List ℕ → Type 0
