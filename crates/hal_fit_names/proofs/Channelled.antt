@@ -32,8 +32,8 @@ use Rattle.hal_fit_constants.specs.Names.{NamesAgree}
 use Rattle.hal_fit_rules.specs.Begun.{AreFirst}
 use Rattle.hal_fit_rules.specs.Channels.{ChannelAgrees}
 use Rattle.hal_fit_rules.specs.Valued.{HasConstants}
-use Rattle.hal_fit_names.specs.Standing.{StandsForData}
-use Rattle.hal_fit_names.specs.Suited.{AreDeclared, HasFitLiterals, Suits, is_in_file}
+use Rattle.hal_fit_names.specs.Standing.{StandsForData, StandsForItself}
+use Rattle.hal_fit_names.specs.Suited.{AreDeclared, HasFitLiterals, Suits}
 use Rattle.hal_fit_names.proofs.Clashing.{constant_eventless}
 use Rattle.hal_fit_names.proofs.Placing.{NodePlaced, at_among}
 use Rattle.hal_fit_names.proofs.SameValues.{valued_same}
@@ -91,7 +91,7 @@ referred_same ps vs block name = by (means ps block name) refl where
 module _ (site : Site) (named : IsSound rows site.set.phrases) (sound : IsSound type_rows site.set.phrases) (counted : IsCounted site.set.phrases) (declared : AreDeclared site.set.phrases) (literals : HasFitLiterals site.set.phrases)
     (has : HasConstants site)
     (pools : (k : ℕ) (p : Phrase) (common : List Attribute) (item : Declared) → slice_get site.set.phrases k ≡ Some p → p.node ≡ OfItem common item
-    → StandsForData site.set.phrases k p common item ⊎ ((standing_for site.set.phrases k ≡ k) × (is_in_file site.set.phrases p.around.home ≡ false)))
+    → StandsForData site.set.phrases k p common item ⊎ StandsForItself site.set.phrases k p common item)
     (same : (k : ℕ) (p : Phrase) (common : List Attribute) (item : Declared) → slice_get site.set.phrases k ≡ Some p → p.node ≡ OfItem common item → is_value_item common item ≡ true
     → (stands : StandsForData site.set.phrases k p common item) → value_at site.set.constants stands.phrase.number ≡ value_at site.set.constants p.number) (placed : (p : Phrase) → IsAmong p site.set.phrases → NodePlaced site.set.phrases p p.node) (q : Phrase) where
   -- what a constant refers to
@@ -126,7 +126,7 @@ module _ (site : Site) (named : IsSound rows site.set.phrases) (sound : IsSound 
               ∙ (ap (λ (x : Option Phrase). elim x [ None ↦ Unmeant | Some p ↦ phrase_referent site.set.phrases site.set.constants p ]) at
               ∙ item_refers s c d v (at_among site.set.phrases j s at) is_item valued known_)
 
-          by_standing : StandsForData site.set.phrases k r common item ⊎ ((standing_for site.set.phrases k ≡ k) × (is_in_file site.set.phrases r.around.home ≡ false)) → is_value_item common item ≡ true
+          by_standing : StandsForData site.set.phrases k r common item ⊎ StandsForItself site.set.phrases k r common item → is_value_item common item ≡ true
               → value_at (known site.set.phrases) r.number ≡ Some v → declaration_referent site.set.phrases site.set.constants (standing_for site.set.phrases k) ≡ ConstantOf v
           by_standing (inr itself) valued known_ = referred k r common item itself.0 there node valued known_
           by_standing (inl stands) valued known_ =

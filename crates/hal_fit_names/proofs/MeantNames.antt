@@ -64,8 +64,8 @@ use Rattle.hal_fit_rules.proofs.Structuring.{structure_agrees, structure_alike, 
 use Rattle.hal_fit_rules.proofs.Unbroken.{among_first, unbroken, ruled_none, no_rule, of_uses}
 use Rattle.hal_fit_names.specs.Named.{AreFunctions, AreLeft, AreProcedures, FunctionParameters}
 use Rattle.hal_fit_names.specs.Serving.{MayAsk}
-use Rattle.hal_fit_names.specs.Standing.{StandsForData}
-use Rattle.hal_fit_names.specs.Suited.{HasFitLiterals, AreDeclared, is_in_file, is_plain, is_templated}
+use Rattle.hal_fit_names.specs.Standing.{StandsForData, StandsForItself}
+use Rattle.hal_fit_names.specs.Suited.{HasFitLiterals, AreDeclared, is_plain, is_templated}
 use Rattle.hal_fit_names.proofs.Asking.{asked_all, asked_runtime, eventful_sort}
 use Rattle.hal_fit_names.proofs.Declaring.{plain_data}
 use Rattle.hal_fit_names.proofs.Owning.{IsShown, Plain, Pooled, PooledConstant, PooledEvent, Written, own_number, shown_so}
@@ -370,7 +370,7 @@ module _ (u : Uses) (site : Site) (named : IsSound rows site.set.phrases) (sound
   plainly : (name : List ℕ) (left : AreLeft site name) (k : ℕ) (p : Phrase) (common : List Attribute) (item : Declared) → means site.set.phrases site.block name ≡ Some k → slice_get site.set.phrases k ≡ Some p → p.node ≡ OfItem common item
       → is_plain common item ≡ true → IsPlainName site name k p common item
   plainly name left k p common item meant there is plain = by (type_of common item) refl (item_typed p common item (at_among site.set.phrases k p there) is) (left.pooled k p common item meant there is) where
-    by : (o : Option Kind) → type_of common item ≡ o → is_some o ≡ true → StandsForData site.set.phrases k p common item ⊎ ((standing_for site.set.phrases k ≡ k) × (is_in_file site.set.phrases p.around.home ≡ false)) → IsPlainName site name k p common item
+    by : (o : Option Kind) → type_of common item ≡ o → is_some o ≡ true → StandsForData site.set.phrases k p common item ⊎ StandsForItself site.set.phrases k p common item → IsPlainName site name k p common item
     by None typed some stands = absurd (cc)
     by (Some t) typed some (inl stands) =
         let parts = all_false (is_event_type (type_of common item)) (is_value_item common item) plain in ForData t typed (ap is_event_type (sym typed) ∙ parts.0) parts.1 stands
@@ -405,13 +405,6 @@ module _ (u : Uses) (site : Site) (named : IsSound rows site.set.phrases) (sound
       (structure_alike (data_at site.set.phrases own.phrase [] (OfItem common item)) [] (shape_of site.set.phrases site.set.constants own.phrase common item) (data_with (class_of_type t) (dimensions_of (sizes_of common item)) (has_copies t)) (structure_known own.phrase common item t typed) (structure_class t structured))
 
   -- an event that a template of a COMPOOL declares stands for one
-  stood_for : (name : List ℕ) (left : AreLeft site name) (k : ℕ) (p : Phrase) (common : List Attribute) (item : Declared) → means site.set.phrases site.block name ≡ Some k → slice_get site.set.phrases k ≡ Some p → p.node ≡ OfItem common item
-      → is_in_file site.set.phrases p.around.home ≡ true → StandsForData site.set.phrases k p common item
-  stood_for name left k p common item meant there is filed = by (left.pooled k p common item meant there is) where
-    by : StandsForData site.set.phrases k p common item ⊎ ((standing_for site.set.phrases k ≡ k) × (is_in_file site.set.phrases p.around.home ≡ false)) → StandsForData site.set.phrases k p common item
-    by (inl stands) = stands
-    by (inr itself) = absurd (let other : true ≡ false = sym filed ∙ itself.1 in cc)
-
   event_for : (k : ℕ) (p : Phrase) (common : List Attribute) (item : Declared) → is_event_type (type_of common item) ≡ true → (stands : StandsForData site.set.phrases k p common item) → IsEvent site stands.phrase
   event_for k p common item eventful stands =
       let eventful_too : is_event_type (type_of stands.other_common stands.other) ≡ true = sym stands.same.attributes.words.event ∙ eventful in
@@ -438,9 +431,8 @@ module _ (u : Uses) (site : Site) (named : IsSound rows site.set.phrases) (sound
   type_there None is = absurd (cc)
 
   constant_pair : (name : List ℕ) (left : AreLeft site name) (k : ℕ) (p : Phrase) (common : List Attribute) (item : Declared) → means site.set.phrases site.block name ≡ Some k → slice_get site.set.phrases k ≡ Some p → p.node ≡ OfItem common item
-      → is_event_type (type_of common item) ≡ false → is_value_item common item ≡ true → is_in_file site.set.phrases p.around.home ≡ true → IsPair k p
-  constant_pair name left k p common item meant there is eventless constant filed =
-      let stands = stood_for name left k p common item meant there is filed in
+      → is_event_type (type_of common item) ≡ false → is_value_item common item ≡ true → StandsForData site.set.phrases k p common item → IsPair k p
+  constant_pair name left k p common item meant there is eventless constant stands =
       let q : Phrase = stands.phrase in
       let worth = left.valued k p common item meant there is constant in
       let mine = type_there (type_of common item) (item_typed p common item (at_among site.set.phrases k p there) is) in
@@ -466,7 +458,7 @@ module _ (u : Uses) (site : Site) (named : IsSound rows site.set.phrases) (sound
 
   -- a name that means a declaration
   named_as : (name : List ℕ) (left : AreLeft site name) (may : MayAsk u site name) (functions : AreFunctions u site name) (owner k : ℕ) (q p : Phrase) → means site.set.phrases site.block name ≡ Some k → slice_get site.set.phrases k ≡ Some p
-      → declared_at p.number p.around p.node ≡ Some (key space.Declared owner name) → IsShown site.set.phrases p → fits_declared site.set.phrases q usage.Value (sort_of p.node) ≡ true → NameAgrees u site site.set.phrases site.block name []
+      → declared_at p.number p.around p.node ≡ Some (key space.Declared owner name) → IsShown site.set.phrases k p → fits_declared site.set.phrases q usage.Value (sort_of p.node) ≡ true → NameAgrees u site site.set.phrases site.block name []
   unfolding sort_of
   named_as name left may functions owner k q p meant there declares (Plain plain) fits =
       node_agrees name left may functions (record { number = k; meant = meant; phrase = p; there = there; own = own_number site.set.phrases k p there plain }) owner q p.node refl (at_among site.set.phrases k p there) declares plain fits
@@ -485,12 +477,11 @@ module _ (u : Uses) (site : Site) (named : IsSound rows site.set.phrases) (sound
         standing = left.standing k p template head declarations meant there is process.0;
       })
   named_as name left may functions owner k q p meant there declares (Pooled common item is plain) fits = plain_agrees name k p common item meant there is (plainly name left k p common item meant there is plain)
-  named_as name left may functions owner k q p meant there declares (PooledEvent common item is eventful filed) fits =
-      let stands = stood_for name left k p common item meant there is filed in
+  named_as name left may functions owner k q p meant there declares (PooledEvent common item is eventful stands) fits =
       event_agrees_as u site (asked_all u site name k p meant there may (eventful_sort p common item is eventful)) counted name k p common item meant there is eventful
       (event_single p common item (at_among site.set.phrases k p there) is eventful) stands.phrase.number stands.phrase stands.stands stands.there (event_for k p common item eventful stands)
-  named_as name left may functions owner k q p meant there declares (PooledConstant common item is eventless constant filed) fits =
-      let pair = constant_pair name left k p common item meant there is eventless constant filed in
+  named_as name left may functions owner k q p meant there declares (PooledConstant common item is eventless constant stands) fits =
+      let pair = constant_pair name left k p common item meant there is eventless constant stands in
       constant_agrees_as u site counted has name k p meant there pair.mine pair.other.number pair.other pair.stands pair.at pair.theirs pair.same
 
   meant_by_name : (name : List ℕ) (left : AreLeft site name) (may : MayAsk u site name) (functions : AreFunctions u site name) (q : Phrase) (o : Option ℕ) → means site.set.phrases site.block name ≡ o → (is_some o || is_known_builtin name usage.Value) ≡ true
@@ -500,7 +491,7 @@ module _ (u : Uses) (site : Site) (named : IsSound rows site.set.phrases) (sound
       let is_declared = declared site.block name k meant in
       let first = is_declared.1 in
       let p : Phrase = first.declaring in
-      named_as name left may functions is_declared.0 k q p meant first.there first.declares (shown_so site.set.phrases p p.node refl (left.untemplated k p meant first.there))
+      named_as name left may functions is_declared.0 k q p meant first.there first.declares (shown_so site.set.phrases k p p.node refl (left.untemplated k p meant first.there) (λ common item is_item. left.pooled k p common item meant first.there is_item))
       (ap (λ o. fits_declared site.set.phrases q usage.Value (option_and_then (λ (x : Phrase). sort_of x.node) o)) (sym first.there) ∙ fits)
 
   -- a name that is used as a value
@@ -572,17 +563,17 @@ module _ (u : Uses) (site : Site) (named : IsSound rows site.set.phrases) (sound
   node_receives name own q (OfStructure structure parts) is within fits may = absurd (cc)
   node_receives name own q other is within fits may = absurd (cc)
 
-  received_as : (name : List ℕ) (left : AreLeft site name) (k : ℕ) (q p : Phrase) → means site.set.phrases site.block name ≡ Some k → slice_get site.set.phrases k ≡ Some p → IsShown site.set.phrases p → fits_declared site.set.phrases q usage.Receiver (sort_of p.node) ≡ true
+  received_as : (name : List ℕ) (left : AreLeft site name) (k : ℕ) (q p : Phrase) → means site.set.phrases site.block name ≡ Some k → slice_get site.set.phrases k ≡ Some p → IsShown site.set.phrases k p → fits_declared site.set.phrases q usage.Receiver (sort_of p.node) ≡ true
       → may_receive site.set.phrases p p.node ≡ true → CellsAgree site.set.phrases [] (means site.set.phrases site.block name) (name_meant (here_at site) name [])
   unfolding may_receive
   received_as name left k q p meant there (Plain plain) fits may = node_receives name (record { number = k; meant = meant; phrase = p; there = there; own = own_number site.set.phrases k p there plain }) q p.node refl (at_among site.set.phrases k p there) fits may
   received_as name left k q p meant there (Written template head declarations is none) fits may =
       let other : may_receive site.set.phrases p (OfTemplate template head declarations) ≡ true = ap (may_receive site.set.phrases p) (sym is) ∙ may in absurd (cc)
   received_as name left k q p meant there (Pooled common item is plain) fits may = plain_cells name k p common item meant there is (plainly name left k p common item meant there is plain)
-  received_as name left k q p meant there (PooledEvent common item is eventful filed) fits may =
+  received_as name left k q p meant there (PooledEvent common item is eventful stands) fits may =
       absurd (let other : true ≡ false =
       sym eventful ∙ (neither_true (is_some (attributes.constant_of common item)) (is_input_parameter site.set.phrases p item.name.name) (is_event_type (type_of common item)) (ap (may_receive site.set.phrases p) (sym is) ∙ may)).1 in cc)
-  received_as name left k q p meant there (PooledConstant common item is eventless constant filed) fits may =
+  received_as name left k q p meant there (PooledConstant common item is eventless constant stands) fits may =
       absurd (let other : true ≡ false =
       sym (valued_constant (attributes.constant_of common item) _ constant)
       ∙ (neither_true (is_some (attributes.constant_of common item)) (is_input_parameter site.set.phrases p item.name.name) (is_event_type (type_of common item)) (ap (may_receive site.set.phrases p) (sym is) ∙ may)).0 in cc)
@@ -599,7 +590,7 @@ module _ (u : Uses) (site : Site) (named : IsSound rows site.set.phrases) (sound
   received_by_name name left q place (Some k) meant known_ fits none =
       let first = (declared site.block name k meant).1 in
       let p : Phrase = first.declaring in
-      received_as name left k q p meant first.there (shown_so site.set.phrases p p.node refl (left.untemplated k p meant first.there))
+      received_as name left k q p meant first.there (shown_so site.set.phrases k p p.node refl (left.untemplated k p meant first.there) (λ common item is_item. left.pooled k p common item meant first.there is_item))
       (ap (λ o. fits_declared site.set.phrases q usage.Receiver (option_and_then (λ (x : Phrase). sort_of x.node) o)) (sym first.there) ∙ fits)
       (may_be_received (may_receive site.set.phrases p p.node) (709, place) (ap (option_and_then (received_by site.set.phrases place)) (sym first.there) ∙ none))
 
@@ -631,19 +622,19 @@ module _ (u : Uses) (site : Site) (named : IsSound rows site.set.phrases) (sound
   node_puts name own x (OfTemporaryGroup labels variable) is within none = temporary_cells_agree u site name own (record { labels = labels; variable = variable; declares = is })
   node_puts name own x other is within none = absurd (cc)
 
-  put_as : (name : List ℕ) (left : AreLeft site name) (x : Subscript) (k : ℕ) (p : Phrase) → means site.set.phrases site.block name ≡ Some k → slice_get site.set.phrases k ≡ Some p → IsShown site.set.phrases p → put_fault site.set.phrases p [] x p.node ≡ None
+  put_as : (name : List ℕ) (left : AreLeft site name) (x : Subscript) (k : ℕ) (p : Phrase) → means site.set.phrases site.block name ≡ Some k → slice_get site.set.phrases k ≡ Some p → IsShown site.set.phrases k p → put_fault site.set.phrases p [] x p.node ≡ None
       → CellsAgree site.set.phrases [] (means site.set.phrases site.block name) (name_meant (here_at site) name [])
   unfolding put_fault
   put_as name left x k p meant there (Plain plain) none = node_puts name (record { number = k; meant = meant; phrase = p; there = there; own = own_number site.set.phrases k p there plain }) x p.node refl (at_among site.set.phrases k p there) none
   put_as name left x k p meant there (Written template head declarations is uncalled_) none =
       let other : put_fault site.set.phrases p [] x (OfTemplate template head declarations) ≡ None = ap (put_fault site.set.phrases p [] x) (sym is) ∙ none in absurd (cc)
   put_as name left x k p meant there (Pooled common item is plain) none = plain_cells name k p common item meant there is (plainly name left k p common item meant there is plain)
-  put_as name left x k p meant there (PooledEvent common item is eventful filed) none =
+  put_as name left x k p meant there (PooledEvent common item is eventful stands) none =
       absurd (let other : true ≡ false =
       sym eventful
       ∙ (unfixed (is_event_type (type_of common item)) (is_some (attributes.constant_of common item)) (is_input_parameter site.set.phrases p item.name.name) (is_component (data_at site.set.phrases p [] (OfItem common item)) x)
       (ap (put_fault site.set.phrases p [] x) (sym is) ∙ none)).0 in cc)
-  put_as name left x k p meant there (PooledConstant common item is eventless constant filed) none =
+  put_as name left x k p meant there (PooledConstant common item is eventless constant stands) none =
       absurd (let other : true ≡ false =
       sym (valued_constant (attributes.constant_of common item) _ constant)
       ∙ (unfixed (is_event_type (type_of common item)) (is_some (attributes.constant_of common item)) (is_input_parameter site.set.phrases p item.name.name) (is_component (data_at site.set.phrases p [] (OfItem common item)) x)
@@ -656,7 +647,7 @@ module _ (u : Uses) (site : Site) (named : IsSound rows site.set.phrases) (sound
   put_by_name name left x place (Some k) meant known_ none =
       let first = (declared site.block name k meant).1 in
       let p : Phrase = first.declaring in
-      put_as name left x k p meant first.there (shown_so site.set.phrases p p.node refl (left.untemplated k p meant first.there))
+      put_as name left x k p meant first.there (shown_so site.set.phrases k p p.node refl (left.untemplated k p meant first.there) (λ common item is_item. left.pooled k p common item meant first.there is_item))
       (no_rule place (put_fault site.set.phrases p [] x p.node)
       (ap (λ (o : Option Phrase). elim o [ None ↦ None | Some r ↦ at place (put_fault site.set.phrases r [] x r.node) ]) (sym first.there) ∙ none))
 
@@ -696,7 +687,7 @@ module _ (u : Uses) (site : Site) (named : IsSound rows site.set.phrases) (sound
   node_event name own owner q other is within declares plain fits = absurd (cc)
 
   event_as : (image : ImageParts) (e : Eventful) (left : AreLeft site e.name.name) (owner k : ℕ) (q p : Phrase) → HasEvents image site → means site.set.phrases site.block e.name.name ≡ Some k → slice_get site.set.phrases k ≡ Some p
-      → declared_at p.number p.around p.node ≡ Some (key space.Declared owner e.name.name) → IsShown site.set.phrases p → fits_declared site.set.phrases q usage.Event (sort_of p.node) ≡ true → EventAgrees image site site.set.phrases site.block e
+      → declared_at p.number p.around p.node ≡ Some (key space.Declared owner e.name.name) → IsShown site.set.phrases k p → fits_declared site.set.phrases q usage.Event (sort_of p.node) ≡ true → EventAgrees image site site.set.phrases site.block e
   unfolding sort_of event_for
   event_as image e left owner k q p events meant there declares (Plain plain) fits =
       let own : IsOwn site e.name.name = record { number = k; meant = meant; phrase = p; there = there; own = own_number site.set.phrases k p there plain } in
@@ -707,11 +698,10 @@ module _ (u : Uses) (site : Site) (named : IsSound rows site.set.phrases) (sound
       absurd (let other : true ≡ false =
       sym (event_type site.set.phrases q (type_of common item) (ap (λ n. fits_declared site.set.phrases q usage.Event (sort_of n)) (sym is) ∙ fits))
       ∙ (all_false (is_event_type (type_of common item)) (is_value_item common item) plain).0 in cc)
-  event_as image e left owner k q p events meant there declares (PooledEvent common item is eventful filed) fits =
-      let stands = stood_for e.name.name left k p common item meant there is filed in
+  event_as image e left owner k q p events meant there declares (PooledEvent common item is eventful stands) fits =
       event_known_as image site counted events e k p common item meant there is eventful stands.phrase.number stands.phrase stands.stands stands.there (event_for k p common item eventful stands)
       (λ marked. sym stands.same.attributes.words.latched ∙ marked)
-  event_as image e left owner k q p events meant there declares (PooledConstant common item is eventless constant filed) fits =
+  event_as image e left owner k q p events meant there declares (PooledConstant common item is eventless constant stands) fits =
       absurd (let other : true ≡ false = sym (event_type site.set.phrases q (type_of common item) (ap (λ n. fits_declared site.set.phrases q usage.Event (sort_of n)) (sym is) ∙ fits)) ∙ eventless in cc)
 
   event_by_name : (image : ImageParts) (e : Eventful) (q : Phrase) (o : Option ℕ) → AreLeft site e.name.name → HasEvents image site → means site.set.phrases site.block e.name.name ≡ o → (is_some o || is_known_builtin e.name.name usage.Event) ≡ true
@@ -721,7 +711,7 @@ module _ (u : Uses) (site : Site) (named : IsSound rows site.set.phrases) (sound
       let is_declared = declared site.block e.name.name k meant in
       let first = is_declared.1 in
       let p : Phrase = first.declaring in
-      event_as image e left is_declared.0 k q p events meant first.there first.declares (shown_so site.set.phrases p p.node refl (left.untemplated k p meant first.there))
+      event_as image e left is_declared.0 k q p events meant first.there first.declares (shown_so site.set.phrases k p p.node refl (left.untemplated k p meant first.there) (λ common item is_item. left.pooled k p common item meant first.there is_item))
       (ap (λ o. fits_declared site.set.phrases q usage.Event (option_and_then (λ (x : Phrase). sort_of x.node) o)) (sym first.there) ∙ fits)
 
   pub changed_agrees : (image : ImageParts) (q : Phrase) (e : Eventful) → AreLeft site e.name.name → HasEvents image site → IsAmong q site.set.phrases → q.node ≡ OfEvent e → q.around.block ≡ site.block → EventAgrees image site site.set.phrases site.block e
@@ -774,16 +764,16 @@ module _ (u : Uses) (site : Site) (named : IsSound rows site.set.phrases) (sound
   node_varies name own (OfTemporaryGroup labels variable) is within none = temporary_cells_agree u site name own (record { labels = labels; variable = variable; declares = is })
   node_varies name own other is within none = absurd (cc)
 
-  varied_as : (name : List ℕ) (left : AreLeft site name) (k : ℕ) (p : Phrase) → means site.set.phrases site.block name ≡ Some k → slice_get site.set.phrases k ≡ Some p → IsShown site.set.phrases p → variable_fault site.set.phrases p p.node ≡ None
+  varied_as : (name : List ℕ) (left : AreLeft site name) (k : ℕ) (p : Phrase) → means site.set.phrases site.block name ≡ Some k → slice_get site.set.phrases k ≡ Some p → IsShown site.set.phrases k p → variable_fault site.set.phrases p p.node ≡ None
       → CellsAgree site.set.phrases [] (means site.set.phrases site.block name) (name_meant (here_at site) name [])
   unfolding variable_fault data_at is_nil
   varied_as name left k p meant there (Plain plain) none = node_varies name (record { number = k; meant = meant; phrase = p; there = there; own = own_number site.set.phrases k p there plain }) p.node refl (at_among site.set.phrases k p there) none
   varied_as name left k p meant there (Written template head declarations is uncalled_) none =
       let other : variable_fault site.set.phrases p (OfTemplate template head declarations) ≡ None = ap (variable_fault site.set.phrases p) (sym is) ∙ none in absurd (cc)
   varied_as name left k p meant there (Pooled common item is plain) none = plain_cells name k p common item meant there is (plainly name left k p common item meant there is plain)
-  varied_as name left k p meant there (PooledEvent common item is eventful filed) none =
+  varied_as name left k p meant there (PooledEvent common item is eventful stands) none =
       absurd (let other : true ≡ false = sym eventful ∙ no_event_varies p common item (type_of common item) refl (ap (variable_fault site.set.phrases p) (sym is) ∙ none) in cc)
-  varied_as name left k p meant there (PooledConstant common item is eventless constant filed) none =
+  varied_as name left k p meant there (PooledConstant common item is eventless constant stands) none =
       absurd (let other : true ≡ false =
       sym (valued_constant (attributes.constant_of common item) _ constant)
       ∙ no_constant_varies p common item (type_of common item) (item_typed p common item (at_among site.set.phrases k p there) is) (ap (variable_fault site.set.phrases p) (sym is) ∙ none) in cc)
@@ -795,7 +785,7 @@ module _ (u : Uses) (site : Site) (named : IsSound rows site.set.phrases) (sound
   varied_by_name name left place (Some k) meant known_ none =
       let first = (declared site.block name k meant).1 in
       let p : Phrase = first.declaring in
-      varied_as name left k p meant first.there (shown_so site.set.phrases p p.node refl (left.untemplated k p meant first.there))
+      varied_as name left k p meant first.there (shown_so site.set.phrases k p p.node refl (left.untemplated k p meant first.there) (λ common item is_item. left.pooled k p common item meant first.there is_item))
       (no_rule place (variable_fault site.set.phrases p p.node) (ap (λ (o : Option Phrase). elim o [ None ↦ None | Some r ↦ at place (variable_fault site.set.phrases r r.node) ]) (sym first.there) ∙ none))
 
   pub variable_agrees : (q : Phrase) (name : Naming) → AreLeft site name.name → IsAmong q site.set.phrases → q.node ≡ OfVariable name → q.around.block ≡ site.block
@@ -858,19 +848,18 @@ module _ (u : Uses) (site : Site) (named : IsSound rows site.set.phrases) (sound
   node_forms name left functions parameters own f place ts other is within plain none = absurd (cc)
 
   formed_as : (name : List ℕ) (left : AreLeft site name) (functions : AreFunctions u site name) (parameters : FunctionParameters u site name) (f : Phrase) (place : Place) (ts : Expressions) (k : ℕ) (p : Phrase) → means site.set.phrases site.block name ≡ Some k
-      → slice_get site.set.phrases k ≡ Some p → IsShown site.set.phrases p → declared_fault site.set.phrases f place ts p p.node ≡ None → FormAgrees u site site.set.phrases site.block name
+      → slice_get site.set.phrases k ≡ Some p → IsShown site.set.phrases k p → declared_fault site.set.phrases f place ts p p.node ≡ None → FormAgrees u site site.set.phrases site.block name
   unfolding declared_fault
   formed_as name left functions parameters f place ts k p meant there (Plain plain) none =
       node_forms name left functions parameters (record { number = k; meant = meant; phrase = p; there = there; own = own_number site.set.phrases k p there plain }) f place ts p.node refl (at_among site.set.phrases k p there) plain none
   formed_as name left functions parameters f place ts k p meant there (Written template head declarations is uncalled_) none =
       unformed site.set.phrases f.around.block place head ts uncalled_ (ap (declared_fault site.set.phrases f place ts p) (sym is) ∙ none)
   formed_as name left functions parameters f place ts k p meant there (Pooled common item is plain) none = plain_forms name k p common item meant there is (plainly name left k p common item meant there is plain)
-  formed_as name left functions parameters f place ts k p meant there (PooledEvent common item is eventful filed) none =
-      let stands = stood_for name left k p common item meant there is filed in
+  formed_as name left functions parameters f place ts k p meant there (PooledEvent common item is eventful stands) none =
       event_formed_as u site name k p common item counted meant there is eventful (event_single p common item (at_among site.set.phrases k p there) is eventful) stands.phrase.number stands.phrase stands.stands stands.there
       (event_for k p common item eventful stands)
-  formed_as name left functions parameters f place ts k p meant there (PooledConstant common item is eventless constant filed) none =
-      let pair = constant_pair name left k p common item meant there is eventless constant filed in
+  formed_as name left functions parameters f place ts k p meant there (PooledConstant common item is eventless constant stands) none =
+      let pair = constant_pair name left k p common item meant there is eventless constant stands in
       constant_formed_as u site counted has name k p meant there pair.mine pair.other.number pair.other pair.stands pair.at pair.theirs pair.same
 
   builtin_forms : (name : List ℕ) (o : Option Builtin) → means site.set.phrases site.block name ≡ None → builtin_named name ≡ o → elim o [ None ↦ false | Some b ↦ is_known usage.CallForm (form_of b) ] ≡ true → FormAgrees u site site.set.phrases site.block name
@@ -884,7 +873,7 @@ module _ (u : Uses) (site : Site) (named : IsSound rows site.set.phrases) (sound
   formed_by_name name left functions parameters f place ts (Some k) meant known_ none =
       let first = (declared site.block name k meant).1 in
       let p : Phrase = first.declaring in
-      formed_as name left functions parameters f place ts k p meant first.there (shown_so site.set.phrases p p.node refl (left.untemplated k p meant first.there))
+      formed_as name left functions parameters f place ts k p meant first.there (shown_so site.set.phrases k p p.node refl (left.untemplated k p meant first.there) (λ common item is_item. left.pooled k p common item meant first.there is_item))
       (ap (option_and_then (λ (r : Phrase). declared_fault site.set.phrases f place ts r r.node)) (sym first.there) ∙ none)
 
   -- a call form
@@ -919,7 +908,7 @@ module _ (u : Uses) (site : Site) (named : IsSound rows site.set.phrases) (sound
   node_called name procedures own owner q other is declares plain fits = absurd (cc)
 
   called_as : (name : Naming) (procedures : AreProcedures u site name.name) (owner k : ℕ) (q p : Phrase) → means site.set.phrases site.block name.name ≡ Some k → slice_get site.set.phrases k ≡ Some p
-      → declared_at p.number p.around p.node ≡ Some (key space.Declared owner name.name) → IsShown site.set.phrases p → fits_declared site.set.phrases q usage.Called (sort_of p.node) ≡ true → ProcedureAgrees u site site.set.phrases site.block name
+      → declared_at p.number p.around p.node ≡ Some (key space.Declared owner name.name) → IsShown site.set.phrases k p → fits_declared site.set.phrases q usage.Called (sort_of p.node) ≡ true → ProcedureAgrees u site site.set.phrases site.block name
   unfolding sort_of sort_of_type
   called_as name procedures owner k q p meant there declares (Plain plain) fits =
       let own : IsOwn site name.name = record { number = k; meant = meant; phrase = p; there = there; own = own_number site.set.phrases k p there plain } in
@@ -928,9 +917,9 @@ module _ (u : Uses) (site : Site) (named : IsSound rows site.set.phrases) (sound
       uncalled site.set.phrases q head none (ap (λ n. fits_declared site.set.phrases q usage.Called (sort_of n)) (sym is) ∙ fits)
   called_as name procedures owner k q p meant there declares (Pooled common item is plain) fits =
       absurd (no_call site.set.phrases q (type_of common item) (ap (λ n. fits_declared site.set.phrases q usage.Called (sort_of n)) (sym is) ∙ fits))
-  called_as name procedures owner k q p meant there declares (PooledEvent common item is eventful filed) fits =
+  called_as name procedures owner k q p meant there declares (PooledEvent common item is eventful stands) fits =
       absurd (no_call site.set.phrases q (type_of common item) (ap (λ n. fits_declared site.set.phrases q usage.Called (sort_of n)) (sym is) ∙ fits))
-  called_as name procedures owner k q p meant there declares (PooledConstant common item is eventless constant filed) fits =
+  called_as name procedures owner k q p meant there declares (PooledConstant common item is eventless constant stands) fits =
       absurd (no_call site.set.phrases q (type_of common item) (ap (λ n. fits_declared site.set.phrases q usage.Called (sort_of n)) (sym is) ∙ fits))
 
   called_by_name : (name : Naming) (left : AreLeft site name.name) (procedures : AreProcedures u site name.name) (q : Phrase) (o : Option ℕ) → means site.set.phrases site.block name.name ≡ o → (is_some o || is_known_builtin name.name usage.Called) ≡ true
@@ -940,7 +929,7 @@ module _ (u : Uses) (site : Site) (named : IsSound rows site.set.phrases) (sound
       let is_declared = declared site.block name.name k meant in
       let first = is_declared.1 in
       let p : Phrase = first.declaring in
-      called_as name procedures is_declared.0 k q p meant first.there first.declares (shown_so site.set.phrases p p.node refl (left.untemplated k p meant first.there))
+      called_as name procedures is_declared.0 k q p meant first.there first.declares (shown_so site.set.phrases k p p.node refl (left.untemplated k p meant first.there) (λ common item is_item. left.pooled k p common item meant first.there is_item))
       (ap (λ o. fits_declared site.set.phrases q usage.Called (option_and_then (λ (x : Phrase). sort_of x.node) o)) (sym first.there) ∙ fits)
 
   -- CALL

@@ -67,8 +67,7 @@ is_plain common item = not (is_event_type (type_of common item)) && not (is_valu
 abbrev pub is_in_file : List Phrase → ℕ → Bool
 is_in_file ps home = elim (slice_get ps home) [ None ↦ false | Some f ↦ is_some (prefaces_of f.node) ]
 
--- whether it is one by which a part of its unit is seen: the template of a unit that is called, or data that aren't plain and that a template declares for itself, not for its file
-abbrev pub shows_parts : List Phrase → Phrase → Node → Bool
-shows_parts ps p (OfTemplate name head declarations) = is_called_head head
-shows_parts ps p (OfItem common item) = not (is_in_unit ps p.around.home) && (not (is_plain common item) && not (is_in_file ps p.around.home))
-shows_parts ps p other = false
+-- whether it is a template by which the parameters of its unit are seen: that of a unit that is called
+abbrev pub shows_parts : Node → Bool
+shows_parts (OfTemplate name head declarations) = is_called_head head
+shows_parts other = false

@@ -10,13 +10,13 @@ use Rattle.hal_scope.specs.Rules.{IsAmong, IsSound, rows}
 use Rattle.hal_types.specs.Rules.{type_rows}
 use Rattle.hal_constants.specs.Known.{Known, known}
 use Rattle.hal_constants.specs.Naming.{is_value_item, value_at}
-use Rattle.hal_meaning.specs.Bodies.{is_process_head, standing_for}
+use Rattle.hal_meaning.specs.Bodies.{is_process_head}
 use Rattle.hal_meaning.specs.Calls.{inputs_of}
 use Rattle.hal_fit_rules.specs.Happening.{StandsForProcess}
 use Rattle.hal_fit_names.specs.Used.{AreDeclaredParameters}
 use Rattle.hal_fit_names.specs.Spelled.{AreSpelled}
-use Rattle.hal_fit_names.specs.Standing.{StandsForData}
-use Rattle.hal_fit_names.specs.Suited.{AreDeclared, HasFitLiterals, is_in_file}
+use Rattle.hal_fit_names.specs.Standing.{StandsForData, StandsForItself}
+use Rattle.hal_fit_names.specs.Suited.{AreDeclared, HasFitLiterals}
 use Rattle.hal_fit_names.proofs.Bodied.{unit_has_body}
 use Rattle.hal_fit_names.proofs.UnitPhrases.{body_has_phrase}
 use Rattle.hal_fit_names.proofs.Standing.{data_or_itself}
@@ -34,8 +34,8 @@ returns c image g u files site home whole bodies has serves owned stands events 
     (subst HasFitLiterals (sym whole) literals) (subst AreSpelled (sym whole) spelled) has serves owned
     (subst (λ (ps : List Phrase). (k : ℕ) (p : Phrase) (template : Naming) (head : Head) (declarations : List Declaration) → slice_get ps k ≡ Some p → p.node ≡ OfTemplate template head declarations → is_process_head head ≡ true → StandsForProcess ps k) (sym whole)
     (λ k p template head declarations there is process. stands_for_process files k p template head declarations there is process (c.a_written_template_gives_what_its_unit_shows.ensures files given named p template head declarations (at_among (phrases_of files) k p there) is)))
-    (subst (λ (ps : List Phrase). (k : ℕ) (p : Phrase) (common : List Attribute) (item : Declared) → slice_get ps k ≡ Some p → p.node ≡ OfItem common item → StandsForData ps k p common item ⊎ ((standing_for ps k ≡ k) × (is_in_file ps p.around.home ≡ false))) (sym whole)
-    (λ k p common item there is. data_or_itself files named (c.a_written_template_gives_what_its_unit_shows.ensures files given named) k p common item there is))
+    (subst (λ (ps : List Phrase). (k : ℕ) (p : Phrase) (common : List Attribute) (item : Declared) → slice_get ps k ≡ Some p → p.node ≡ OfItem common item → StandsForData ps k p common item ⊎ StandsForItself ps k p common item) (sym whole)
+    (λ k p common item there is. data_or_itself files named (c.a_written_template_gives_what_its_unit_shows.ensures files given named) k p common item there is sound counted))
     (c.constants_have_values.ensures files site.set whole has named sound literals spelled)
     (subst (λ (ps : List Phrase). (k : ℕ) (p : Phrase) (common : List Attribute) (item : Declared) → slice_get ps k ≡ Some p → p.node ≡ OfItem common item → is_value_item common item ≡ true → (stands_ : StandsForData ps k p common item)
     → value_at site.set.constants stands_.phrase.number ≡ value_at site.set.constants p.number) (sym whole)
