@@ -1,5 +1,5 @@
 -- Channels are for the meaning what they are for the checks, in a set that breaks no rule.
-use Rattle.std.proofs.Common.{◌≡◌, ℕ, Bool, true, false, ◌&&◌, List, [], Option, Some, None, slice_get, refl, sym, ap, ◌∙◌, subst}
+use Rattle.std.proofs.Common.{◌≡◌, ◌⊎◌, ℕ, Bool, true, false, ◌&&◌, List, [], Option, Some, None, slice_get, refl, sym, ap, ◌∙◌, subst, inl, inr}
 use Rattle.std.specs.Prelude.{pos, unwrap_or, if◌then◌else◌}
 use Rattle.std.specs.Option.{is_some}
 use Rattle.hal_grammar.specs.Declarations.{Attribute, Declared, Initials}
@@ -32,11 +32,11 @@ use Rattle.hal_fit_constants.specs.Names.{NamesAgree}
 use Rattle.hal_fit_rules.specs.Begun.{AreFirst}
 use Rattle.hal_fit_rules.specs.Channels.{ChannelAgrees}
 use Rattle.hal_fit_rules.specs.Valued.{HasConstants}
+use Rattle.hal_fit_names.specs.Standing.{StandsForData, StandsForItself}
 use Rattle.hal_fit_names.specs.Suited.{AreDeclared, HasFitLiterals, Suits}
-use Rattle.hal_fit_names.specs.Used.{NamesAreOwn}
 use Rattle.hal_fit_names.proofs.Clashing.{constant_eventless}
-use Rattle.hal_fit_names.proofs.Owning.{item_plain, own_number}
 use Rattle.hal_fit_names.proofs.Placing.{NodePlaced, at_among}
+use Rattle.hal_fit_names.proofs.SameValues.{valued_same}
 use Rattle.hal_fit_names.proofs.Suiting.{suits}
 
 when_true : {X : Type 0} (b : Bool) (x y : X) → b ≡ true → (if b then x else y) ≡ x
@@ -89,7 +89,11 @@ referred_same ps vs block name = by (means ps block name) refl where
   by o is = at_standing (meant ps block name) ∙ ap (referred_to ps vs name) (stands (means ps block name) ∙ ap (standing ps) (sym is))
 
 module _ (site : Site) (named : IsSound rows site.set.phrases) (sound : IsSound type_rows site.set.phrases) (counted : IsCounted site.set.phrases) (declared : AreDeclared site.set.phrases) (literals : HasFitLiterals site.set.phrases)
-    (has : HasConstants site) (owned : NamesAreOwn site.set.phrases) (placed : (p : Phrase) → IsAmong p site.set.phrases → NodePlaced site.set.phrases p p.node) (q : Phrase) where
+    (has : HasConstants site)
+    (pools : (k : ℕ) (p : Phrase) (common : List Attribute) (item : Declared) → slice_get site.set.phrases k ≡ Some p → p.node ≡ OfItem common item
+    → StandsForData site.set.phrases k p common item ⊎ StandsForItself site.set.phrases k p common item)
+    (same : (k : ℕ) (p : Phrase) (common : List Attribute) (item : Declared) → slice_get site.set.phrases k ≡ Some p → p.node ≡ OfItem common item → is_value_item common item ≡ true
+    → (stands : StandsForData site.set.phrases k p common item) → value_at site.set.constants stands.phrase.number ≡ value_at site.set.constants p.number) (placed : (p : Phrase) → IsAmong p site.set.phrases → NodePlaced site.set.phrases p p.node) (q : Phrase) where
   -- what a constant refers to
   item_refers : (r : Phrase) (common : List Attribute) (item : Declared) (v : Value) → IsAmong r site.set.phrases → r.node ≡ OfItem common item → is_value_item common item ≡ true
       → value_at (known site.set.phrases) r.number ≡ Some v → phrase_referent site.set.phrases site.set.constants r ≡ ConstantOf v
@@ -114,9 +118,21 @@ module _ (site : Site) (named : IsSound rows site.set.phrases) (sound : IsSound 
         → declaration_referent site.set.phrases site.set.constants (standing_for site.set.phrases k) ≡ ConstantOf v
     of_node r there (OfItem common item) node worth =
         let both = item_value (is_value_item common item) (is_before site.set.phrases q r) (value_at (known site.set.phrases) r.number) v worth in
-        ap (declaration_referent site.set.phrases site.set.constants) (own_number site.set.phrases k r there (item_plain site.set.phrases r common item node both.0 (owned q.around.block name k r means_it there)))
-        ∙ (ap (λ (x : Option Phrase). elim x [ None ↦ Unmeant | Some p ↦ phrase_referent site.set.phrases site.set.constants p ]) there
-        ∙ item_refers r common item v (at_among site.set.phrases k r there) node both.0 both.1)
+        by_standing (pools k r common item there node) both.0 both.1 where
+          referred : (j : ℕ) (s : Phrase) (c : List Attribute) (d : Declared) → standing_for site.set.phrases k ≡ j → slice_get site.set.phrases j ≡ Some s → s.node ≡ OfItem c d → is_value_item c d ≡ true
+              → value_at (known site.set.phrases) s.number ≡ Some v → declaration_referent site.set.phrases site.set.constants (standing_for site.set.phrases k) ≡ ConstantOf v
+          referred j s c d stands at is_item valued known_ =
+              ap (declaration_referent site.set.phrases site.set.constants) stands
+              ∙ (ap (λ (x : Option Phrase). elim x [ None ↦ Unmeant | Some p ↦ phrase_referent site.set.phrases site.set.constants p ]) at
+              ∙ item_refers s c d v (at_among site.set.phrases j s at) is_item valued known_)
+
+          by_standing : StandsForData site.set.phrases k r common item ⊎ StandsForItself site.set.phrases k r common item → is_value_item common item ≡ true
+              → value_at (known site.set.phrases) r.number ≡ Some v → declaration_referent site.set.phrases site.set.constants (standing_for site.set.phrases k) ≡ ConstantOf v
+          by_standing (inr itself) valued known_ = referred k r common item itself.0 there node valued known_
+          by_standing (inl stands) valued known_ =
+              referred stands.phrase.number stands.phrase stands.other_common stands.other stands.stands stands.there stands.declares
+              (sym (valued_same site.set.phrases (known site.set.phrases) r stands.phrase common stands.other_common item stands.other stands.same) ∙ valued)
+              (ap (λ (vs : Known). value_at vs stands.phrase.number) (sym has) ∙ (same k r common item there node valued stands ∙ (ap (λ (vs : Known). value_at vs r.number) has ∙ known_)))
     of_node r there other node worth = absurd (cc)
 
     by : (o : Option Phrase) → slice_get site.set.phrases k ≡ o → ◌≡◌ {A = Constant} (elim o [ None ↦ constant.Unfit | Some r ↦ constant_at site.set.phrases (known site.set.phrases) q r [] r.node ]) (constant.Worth v)

@@ -32,4 +32,7 @@ mod Processes
 mod Channelled
 mod Standing
 mod Pooled
+mod FirstValues
+mod SameValues
+mod PooledValues
 mod UnitsKnown

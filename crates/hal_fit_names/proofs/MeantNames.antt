@@ -7,7 +7,7 @@ use Rattle.hal_grammar.specs.Expressions.{Expressions, NoExpressions, MoreExpres
 use Rattle.hal_grammar.specs.Leaves.{Naming}
 use Rattle.hal_phrases.specs.declared.role.Role.{Role}
 use Rattle.hal_phrases.specs.declared.role.Role.TheVariants as role
-use Rattle.hal_grammar.specs.Declarations.{Kind, IntegerKind, BooleanKind, EventKind, BitKind, CharacterKind, StructureKind, Attribute, Declared}
+use Rattle.hal_grammar.specs.Declarations.{Kind, IntegerKind, BooleanKind, EventKind, BitKind, CharacterKind, StructureKind, Attribute, Declared, Initials}
 use Rattle.hal_grammar.specs.Statements.{Eventful}
 use Rattle.hal_grammar.specs.Units.{Head, Program, Compool, Task, Procedure, Function}
 use Rattle.hal_phrases.specs.Phrases.{Node, Phrase, OfFile, OfTemplate, OfUnit, OfParameter, OfItem, OfStructure, OfPart, OfLabel, OfTemporaryGroup, OfReference, OfSubscriptName, OfVariable, OfEvent, OfCallForm, OfCall}
@@ -38,6 +38,7 @@ use Rattle.hal_uses.specs.Calls as calls
 use Rattle.hal_attributes.specs.Typed.{untyped, is_no_variable, misplaced_event}
 use Rattle.hal_uses.specs.Receivers.{is_input_parameter, is_component, put_fault, put, is_integer, counted_fault, variable_fault, varied, may_receive, received_by, received, reference_receives, misreceived}
 use Rattle.hal_types.specs.Rules.{attribute_rows, operand_rows, use_rows, size_rows, type_rows}
+use Rattle.hal_constants.specs.Known.{known}
 use Rattle.hal_constants.specs.Naming.{is_value_item}
 use Rattle.hal_meaning.specs.Bodies.{is_called_head, is_process_head, standing_for}
 use Rattle.hal_meaning.specs.Places.{is_in_unit}
@@ -53,8 +54,8 @@ use Rattle.hal_fit_rules.specs.Passing.{IsProcedure}
 use Rattle.hal_fit_rules.specs.Passed.{ProcedureAgrees}
 use Rattle.hal_fit_rules.specs.Received.{CellsAgree}
 use Rattle.hal_fit_rules.specs.Signalled.{EventAgrees, HasEvents}
-use Rattle.hal_fit_rules.specs.Valued.{HasConstants}
-use Rattle.hal_fit_rules.proofs.Constants.{constant_agrees, constant_formed}
+use Rattle.hal_fit_rules.specs.Valued.{HasConstants, IsConstantItem}
+use Rattle.hal_fit_rules.proofs.Constants.{constant_agrees, constant_agrees_as, constant_formed, constant_formed_as}
 use Rattle.hal_fit_rules.proofs.Calling.{formed_by, procedure_agrees, data_formed, temporary_formed, event_formed, event_formed_as, function_formed, builtin_formed}
 use Rattle.hal_fit_rules.proofs.Declaring.{item_meant_so, lying, plain_data_agree, plain_cells_agree, temporary_agrees, temporary_cells_agree, builtin_agrees, function_agrees}
 use Rattle.hal_fit_rules.proofs.Eventful.{event_known, event_known_as}
@@ -63,13 +64,14 @@ use Rattle.hal_fit_rules.proofs.Structuring.{structure_agrees, structure_alike, 
 use Rattle.hal_fit_rules.proofs.Unbroken.{among_first, unbroken, ruled_none, no_rule, of_uses}
 use Rattle.hal_fit_names.specs.Named.{AreFunctions, AreLeft, AreProcedures, FunctionParameters}
 use Rattle.hal_fit_names.specs.Serving.{MayAsk}
-use Rattle.hal_fit_names.specs.Standing.{StandsForData}
-use Rattle.hal_fit_names.specs.Suited.{HasFitLiterals, AreDeclared, is_in_file, is_plain, is_templated}
+use Rattle.hal_fit_names.specs.Standing.{StandsForData, StandsForItself}
+use Rattle.hal_fit_names.specs.Suited.{HasFitLiterals, AreDeclared, is_plain, is_templated}
 use Rattle.hal_fit_names.proofs.Asking.{asked_all, asked_runtime, eventful_sort}
 use Rattle.hal_fit_names.proofs.Declaring.{plain_data}
-use Rattle.hal_fit_names.proofs.Owning.{IsShown, Plain, Pooled, PooledEvent, Written, own_number, shown_so}
+use Rattle.hal_fit_names.proofs.Owning.{IsShown, Plain, Pooled, PooledConstant, PooledEvent, Written, own_number, shown_so}
 use Rattle.hal_fit_names.proofs.Pooled.{all_false, pooled_agree, pooled_cells, pooled_formed, structure_class}
 use Rattle.hal_fit_names.proofs.Placing.{NodePlaced, at_among}
+use Rattle.hal_fit_names.proofs.SameValues.{valued_same}
 use Rattle.hal_fit_names.proofs.Suiting.{unless_true}
 
 -- a built-in function whose name is a value has no list
@@ -159,6 +161,11 @@ no_event (Some b) known_ fits = absurd (by (form_of b) known_ fits) where
 no_variable : {X : Type 0} (o : Option Builtin) (place : Place) → elim o [ None ↦ false | Some b ↦ is_known usage.Variable (form_of b) ] ≡ true → ◌≡◌ {A = Option (ℕ × Place)} (if is_some o then Some (712, place) else None) None → X
 no_variable None place known_ none = absurd (cc)
 no_variable (Some b) place known_ none = absurd (cc)
+
+-- a constant that is its value is a constant
+valued_constant : (o : Option Initials) (rest : Bool) → is_some o && rest ≡ true → is_some o ≡ true
+valued_constant (Some list) rest is = refl
+valued_constant None rest is = absurd (cc)
 
 -- a single integer that isn't fixed
 single_free : (integer alone constant_ input : Bool) → ◌≡◌ {A = Option ℕ} (if integer && alone then (if constant_ || input then Some 709 else None) else Some 712) None → (integer ≡ true) × (constant_ ≡ false)
@@ -363,7 +370,7 @@ module _ (u : Uses) (site : Site) (named : IsSound rows site.set.phrases) (sound
   plainly : (name : List ℕ) (left : AreLeft site name) (k : ℕ) (p : Phrase) (common : List Attribute) (item : Declared) → means site.set.phrases site.block name ≡ Some k → slice_get site.set.phrases k ≡ Some p → p.node ≡ OfItem common item
       → is_plain common item ≡ true → IsPlainName site name k p common item
   plainly name left k p common item meant there is plain = by (type_of common item) refl (item_typed p common item (at_among site.set.phrases k p there) is) (left.pooled k p common item meant there is) where
-    by : (o : Option Kind) → type_of common item ≡ o → is_some o ≡ true → StandsForData site.set.phrases k p common item ⊎ ((standing_for site.set.phrases k ≡ k) × (is_in_file site.set.phrases p.around.home ≡ false)) → IsPlainName site name k p common item
+    by : (o : Option Kind) → type_of common item ≡ o → is_some o ≡ true → StandsForData site.set.phrases k p common item ⊎ StandsForItself site.set.phrases k p common item → IsPlainName site name k p common item
     by None typed some stands = absurd (cc)
     by (Some t) typed some (inl stands) =
         let parts = all_false (is_event_type (type_of common item)) (is_value_item common item) plain in ForData t typed (ap is_event_type (sym typed) ∙ parts.0) parts.1 stands
@@ -398,13 +405,6 @@ module _ (u : Uses) (site : Site) (named : IsSound rows site.set.phrases) (sound
       (structure_alike (data_at site.set.phrases own.phrase [] (OfItem common item)) [] (shape_of site.set.phrases site.set.constants own.phrase common item) (data_with (class_of_type t) (dimensions_of (sizes_of common item)) (has_copies t)) (structure_known own.phrase common item t typed) (structure_class t structured))
 
   -- an event that a template of a COMPOOL declares stands for one
-  stood_for : (name : List ℕ) (left : AreLeft site name) (k : ℕ) (p : Phrase) (common : List Attribute) (item : Declared) → means site.set.phrases site.block name ≡ Some k → slice_get site.set.phrases k ≡ Some p → p.node ≡ OfItem common item
-      → is_in_file site.set.phrases p.around.home ≡ true → StandsForData site.set.phrases k p common item
-  stood_for name left k p common item meant there is filed = by (left.pooled k p common item meant there is) where
-    by : StandsForData site.set.phrases k p common item ⊎ ((standing_for site.set.phrases k ≡ k) × (is_in_file site.set.phrases p.around.home ≡ false)) → StandsForData site.set.phrases k p common item
-    by (inl stands) = stands
-    by (inr itself) = absurd (let other : true ≡ false = sym filed ∙ itself.1 in cc)
-
   event_for : (k : ℕ) (p : Phrase) (common : List Attribute) (item : Declared) → is_event_type (type_of common item) ≡ true → (stands : StandsForData site.set.phrases k p common item) → IsEvent site stands.phrase
   event_for k p common item eventful stands =
       let eventful_too : is_event_type (type_of stands.other_common stands.other) ≡ true = sym stands.same.attributes.words.event ∙ eventful in
@@ -417,9 +417,48 @@ module _ (u : Uses) (site : Site) (named : IsSound rows site.set.phrases) (sound
         within = stands.within;
       }
 
+  -- a constant that a template of a COMPOOL declares has the value of the one that it stands for
+  record IsPair (k : ℕ) (p : Phrase) : Type 0 where
+    mine : IsConstantItem site p
+    other : Phrase
+    stands : standing_for site.set.phrases k ≡ other.number
+    at : slice_get site.set.phrases other.number ≡ Some other
+    theirs : IsConstantItem site other
+    same : theirs.value ≡ mine.value
+
+  type_there : (o : Option Kind) → is_some o ≡ true → (t : Kind) × (o ≡ Some t)
+  type_there (Some t) is = (t, refl)
+  type_there None is = absurd (cc)
+
+  constant_pair : (name : List ℕ) (left : AreLeft site name) (k : ℕ) (p : Phrase) (common : List Attribute) (item : Declared) → means site.set.phrases site.block name ≡ Some k → slice_get site.set.phrases k ≡ Some p → p.node ≡ OfItem common item
+      → is_event_type (type_of common item) ≡ false → is_value_item common item ≡ true → StandsForData site.set.phrases k p common item → IsPair k p
+  constant_pair name left k p common item meant there is eventless constant stands =
+      let q : Phrase = stands.phrase in
+      let worth = left.valued k p common item meant there is constant in
+      let mine = type_there (type_of common item) (item_typed p common item (at_among site.set.phrases k p there) is) in
+      let theirs = type_there (type_of stands.other_common stands.other) (item_typed q stands.other_common stands.other (at_among site.set.phrases q.number q stands.there) stands.declares) in
+      record {
+        mine = record { common = common; item = item; declares = is; kind = mine.0; typed = mine.1; eventless = ap is_event_type (sym mine.1) ∙ eventless; valued = constant; value = worth.0; worth = worth.1 };
+        other = q;
+        stands = stands.stands;
+        at = stands.there;
+        theirs = record {
+          common = stands.other_common;
+          item = stands.other;
+          declares = stands.declares;
+          kind = theirs.0;
+          typed = theirs.1;
+          eventless = ap is_event_type (sym theirs.1) ∙ (sym stands.same.attributes.words.event ∙ eventless);
+          valued = sym (valued_same site.set.phrases (known site.set.phrases) p q common stands.other_common item stands.other stands.same) ∙ constant;
+          value = worth.0;
+          worth = left.same k p common item meant there is constant stands ∙ worth.1;
+        };
+        same = refl;
+      }
+
   -- a name that means a declaration
   named_as : (name : List ℕ) (left : AreLeft site name) (may : MayAsk u site name) (functions : AreFunctions u site name) (owner k : ℕ) (q p : Phrase) → means site.set.phrases site.block name ≡ Some k → slice_get site.set.phrases k ≡ Some p
-      → declared_at p.number p.around p.node ≡ Some (key space.Declared owner name) → IsShown site.set.phrases p → fits_declared site.set.phrases q usage.Value (sort_of p.node) ≡ true → NameAgrees u site site.set.phrases site.block name []
+      → declared_at p.number p.around p.node ≡ Some (key space.Declared owner name) → IsShown site.set.phrases k p → fits_declared site.set.phrases q usage.Value (sort_of p.node) ≡ true → NameAgrees u site site.set.phrases site.block name []
   unfolding sort_of
   named_as name left may functions owner k q p meant there declares (Plain plain) fits =
       node_agrees name left may functions (record { number = k; meant = meant; phrase = p; there = there; own = own_number site.set.phrases k p there plain }) owner q p.node refl (at_among site.set.phrases k p there) declares plain fits
@@ -438,10 +477,12 @@ module _ (u : Uses) (site : Site) (named : IsSound rows site.set.phrases) (sound
         standing = left.standing k p template head declarations meant there is process.0;
       })
   named_as name left may functions owner k q p meant there declares (Pooled common item is plain) fits = plain_agrees name k p common item meant there is (plainly name left k p common item meant there is plain)
-  named_as name left may functions owner k q p meant there declares (PooledEvent common item is eventful filed) fits =
-      let stands = stood_for name left k p common item meant there is filed in
+  named_as name left may functions owner k q p meant there declares (PooledEvent common item is eventful stands) fits =
       event_agrees_as u site (asked_all u site name k p meant there may (eventful_sort p common item is eventful)) counted name k p common item meant there is eventful
       (event_single p common item (at_among site.set.phrases k p there) is eventful) stands.phrase.number stands.phrase stands.stands stands.there (event_for k p common item eventful stands)
+  named_as name left may functions owner k q p meant there declares (PooledConstant common item is eventless constant stands) fits =
+      let pair = constant_pair name left k p common item meant there is eventless constant stands in
+      constant_agrees_as u site counted has name k p meant there pair.mine pair.other.number pair.other pair.stands pair.at pair.theirs pair.same
 
   meant_by_name : (name : List ℕ) (left : AreLeft site name) (may : MayAsk u site name) (functions : AreFunctions u site name) (q : Phrase) (o : Option ℕ) → means site.set.phrases site.block name ≡ o → (is_some o || is_known_builtin name usage.Value) ≡ true
       → elim o [ None ↦ fits_named name usage.Value | Some k ↦ fits_declared site.set.phrases q usage.Value (sort_at site.set.phrases k) ] ≡ true → NameAgrees u site site.set.phrases site.block name []
@@ -450,7 +491,7 @@ module _ (u : Uses) (site : Site) (named : IsSound rows site.set.phrases) (sound
       let is_declared = declared site.block name k meant in
       let first = is_declared.1 in
       let p : Phrase = first.declaring in
-      named_as name left may functions is_declared.0 k q p meant first.there first.declares (shown_so site.set.phrases p p.node refl (left.untemplated k p meant first.there))
+      named_as name left may functions is_declared.0 k q p meant first.there first.declares (shown_so site.set.phrases k p p.node refl (left.untemplated k p meant first.there) (λ common item is_item. left.pooled k p common item meant first.there is_item))
       (ap (λ o. fits_declared site.set.phrases q usage.Value (option_and_then (λ (x : Phrase). sort_of x.node) o)) (sym first.there) ∙ fits)
 
   -- a name that is used as a value
@@ -522,16 +563,20 @@ module _ (u : Uses) (site : Site) (named : IsSound rows site.set.phrases) (sound
   node_receives name own q (OfStructure structure parts) is within fits may = absurd (cc)
   node_receives name own q other is within fits may = absurd (cc)
 
-  received_as : (name : List ℕ) (left : AreLeft site name) (k : ℕ) (q p : Phrase) → means site.set.phrases site.block name ≡ Some k → slice_get site.set.phrases k ≡ Some p → IsShown site.set.phrases p → fits_declared site.set.phrases q usage.Receiver (sort_of p.node) ≡ true
+  received_as : (name : List ℕ) (left : AreLeft site name) (k : ℕ) (q p : Phrase) → means site.set.phrases site.block name ≡ Some k → slice_get site.set.phrases k ≡ Some p → IsShown site.set.phrases k p → fits_declared site.set.phrases q usage.Receiver (sort_of p.node) ≡ true
       → may_receive site.set.phrases p p.node ≡ true → CellsAgree site.set.phrases [] (means site.set.phrases site.block name) (name_meant (here_at site) name [])
   unfolding may_receive
   received_as name left k q p meant there (Plain plain) fits may = node_receives name (record { number = k; meant = meant; phrase = p; there = there; own = own_number site.set.phrases k p there plain }) q p.node refl (at_among site.set.phrases k p there) fits may
   received_as name left k q p meant there (Written template head declarations is none) fits may =
       let other : may_receive site.set.phrases p (OfTemplate template head declarations) ≡ true = ap (may_receive site.set.phrases p) (sym is) ∙ may in absurd (cc)
   received_as name left k q p meant there (Pooled common item is plain) fits may = plain_cells name k p common item meant there is (plainly name left k p common item meant there is plain)
-  received_as name left k q p meant there (PooledEvent common item is eventful filed) fits may =
+  received_as name left k q p meant there (PooledEvent common item is eventful stands) fits may =
       absurd (let other : true ≡ false =
       sym eventful ∙ (neither_true (is_some (attributes.constant_of common item)) (is_input_parameter site.set.phrases p item.name.name) (is_event_type (type_of common item)) (ap (may_receive site.set.phrases p) (sym is) ∙ may)).1 in cc)
+  received_as name left k q p meant there (PooledConstant common item is eventless constant stands) fits may =
+      absurd (let other : true ≡ false =
+      sym (valued_constant (attributes.constant_of common item) _ constant)
+      ∙ (neither_true (is_some (attributes.constant_of common item)) (is_input_parameter site.set.phrases p item.name.name) (is_event_type (type_of common item)) (ap (may_receive site.set.phrases p) (sym is) ∙ may)).0 in cc)
 
   no_builtin : {X : Type 0} (o : Option Builtin) → elim o [ None ↦ false | Some b ↦ is_known usage.Receiver (form_of b) ] ≡ true
       → elim o [ None ↦ true | Some b ↦ not (is_known usage.Receiver (form_of b)) || fits_builtin usage.Receiver (form_of b) ] ≡ true → X
@@ -545,7 +590,7 @@ module _ (u : Uses) (site : Site) (named : IsSound rows site.set.phrases) (sound
   received_by_name name left q place (Some k) meant known_ fits none =
       let first = (declared site.block name k meant).1 in
       let p : Phrase = first.declaring in
-      received_as name left k q p meant first.there (shown_so site.set.phrases p p.node refl (left.untemplated k p meant first.there))
+      received_as name left k q p meant first.there (shown_so site.set.phrases k p p.node refl (left.untemplated k p meant first.there) (λ common item is_item. left.pooled k p common item meant first.there is_item))
       (ap (λ o. fits_declared site.set.phrases q usage.Receiver (option_and_then (λ (x : Phrase). sort_of x.node) o)) (sym first.there) ∙ fits)
       (may_be_received (may_receive site.set.phrases p p.node) (709, place) (ap (option_and_then (received_by site.set.phrases place)) (sym first.there) ∙ none))
 
@@ -577,18 +622,23 @@ module _ (u : Uses) (site : Site) (named : IsSound rows site.set.phrases) (sound
   node_puts name own x (OfTemporaryGroup labels variable) is within none = temporary_cells_agree u site name own (record { labels = labels; variable = variable; declares = is })
   node_puts name own x other is within none = absurd (cc)
 
-  put_as : (name : List ℕ) (left : AreLeft site name) (x : Subscript) (k : ℕ) (p : Phrase) → means site.set.phrases site.block name ≡ Some k → slice_get site.set.phrases k ≡ Some p → IsShown site.set.phrases p → put_fault site.set.phrases p [] x p.node ≡ None
+  put_as : (name : List ℕ) (left : AreLeft site name) (x : Subscript) (k : ℕ) (p : Phrase) → means site.set.phrases site.block name ≡ Some k → slice_get site.set.phrases k ≡ Some p → IsShown site.set.phrases k p → put_fault site.set.phrases p [] x p.node ≡ None
       → CellsAgree site.set.phrases [] (means site.set.phrases site.block name) (name_meant (here_at site) name [])
   unfolding put_fault
   put_as name left x k p meant there (Plain plain) none = node_puts name (record { number = k; meant = meant; phrase = p; there = there; own = own_number site.set.phrases k p there plain }) x p.node refl (at_among site.set.phrases k p there) none
   put_as name left x k p meant there (Written template head declarations is uncalled_) none =
       let other : put_fault site.set.phrases p [] x (OfTemplate template head declarations) ≡ None = ap (put_fault site.set.phrases p [] x) (sym is) ∙ none in absurd (cc)
   put_as name left x k p meant there (Pooled common item is plain) none = plain_cells name k p common item meant there is (plainly name left k p common item meant there is plain)
-  put_as name left x k p meant there (PooledEvent common item is eventful filed) none =
+  put_as name left x k p meant there (PooledEvent common item is eventful stands) none =
       absurd (let other : true ≡ false =
       sym eventful
       ∙ (unfixed (is_event_type (type_of common item)) (is_some (attributes.constant_of common item)) (is_input_parameter site.set.phrases p item.name.name) (is_component (data_at site.set.phrases p [] (OfItem common item)) x)
       (ap (put_fault site.set.phrases p [] x) (sym is) ∙ none)).0 in cc)
+  put_as name left x k p meant there (PooledConstant common item is eventless constant stands) none =
+      absurd (let other : true ≡ false =
+      sym (valued_constant (attributes.constant_of common item) _ constant)
+      ∙ (unfixed (is_event_type (type_of common item)) (is_some (attributes.constant_of common item)) (is_input_parameter site.set.phrases p item.name.name) (is_component (data_at site.set.phrases p [] (OfItem common item)) x)
+      (ap (put_fault site.set.phrases p [] x) (sym is) ∙ none)).1 in cc)
 
   put_by_name : (name : List ℕ) (left : AreLeft site name) (x : Subscript) (place : Place) (o : Option ℕ) → means site.set.phrases site.block name ≡ o → (is_some o || is_known_builtin name usage.Output) ≡ true
       → ◌≡◌ {A = Option (ℕ × Place)} (elim o [ None ↦ if is_some (builtin_named name) then Some (722, place) else None | Some k ↦ elim (slice_get site.set.phrases k) [ None ↦ None | Some r ↦ at place (put_fault site.set.phrases r [] x r.node) ] ]) None
@@ -597,7 +647,7 @@ module _ (u : Uses) (site : Site) (named : IsSound rows site.set.phrases) (sound
   put_by_name name left x place (Some k) meant known_ none =
       let first = (declared site.block name k meant).1 in
       let p : Phrase = first.declaring in
-      put_as name left x k p meant first.there (shown_so site.set.phrases p p.node refl (left.untemplated k p meant first.there))
+      put_as name left x k p meant first.there (shown_so site.set.phrases k p p.node refl (left.untemplated k p meant first.there) (λ common item is_item. left.pooled k p common item meant first.there is_item))
       (no_rule place (put_fault site.set.phrases p [] x p.node)
       (ap (λ (o : Option Phrase). elim o [ None ↦ None | Some r ↦ at place (put_fault site.set.phrases r [] x r.node) ]) (sym first.there) ∙ none))
 
@@ -637,7 +687,7 @@ module _ (u : Uses) (site : Site) (named : IsSound rows site.set.phrases) (sound
   node_event name own owner q other is within declares plain fits = absurd (cc)
 
   event_as : (image : ImageParts) (e : Eventful) (left : AreLeft site e.name.name) (owner k : ℕ) (q p : Phrase) → HasEvents image site → means site.set.phrases site.block e.name.name ≡ Some k → slice_get site.set.phrases k ≡ Some p
-      → declared_at p.number p.around p.node ≡ Some (key space.Declared owner e.name.name) → IsShown site.set.phrases p → fits_declared site.set.phrases q usage.Event (sort_of p.node) ≡ true → EventAgrees image site site.set.phrases site.block e
+      → declared_at p.number p.around p.node ≡ Some (key space.Declared owner e.name.name) → IsShown site.set.phrases k p → fits_declared site.set.phrases q usage.Event (sort_of p.node) ≡ true → EventAgrees image site site.set.phrases site.block e
   unfolding sort_of event_for
   event_as image e left owner k q p events meant there declares (Plain plain) fits =
       let own : IsOwn site e.name.name = record { number = k; meant = meant; phrase = p; there = there; own = own_number site.set.phrases k p there plain } in
@@ -648,10 +698,11 @@ module _ (u : Uses) (site : Site) (named : IsSound rows site.set.phrases) (sound
       absurd (let other : true ≡ false =
       sym (event_type site.set.phrases q (type_of common item) (ap (λ n. fits_declared site.set.phrases q usage.Event (sort_of n)) (sym is) ∙ fits))
       ∙ (all_false (is_event_type (type_of common item)) (is_value_item common item) plain).0 in cc)
-  event_as image e left owner k q p events meant there declares (PooledEvent common item is eventful filed) fits =
-      let stands = stood_for e.name.name left k p common item meant there is filed in
+  event_as image e left owner k q p events meant there declares (PooledEvent common item is eventful stands) fits =
       event_known_as image site counted events e k p common item meant there is eventful stands.phrase.number stands.phrase stands.stands stands.there (event_for k p common item eventful stands)
       (λ marked. sym stands.same.attributes.words.latched ∙ marked)
+  event_as image e left owner k q p events meant there declares (PooledConstant common item is eventless constant stands) fits =
+      absurd (let other : true ≡ false = sym (event_type site.set.phrases q (type_of common item) (ap (λ n. fits_declared site.set.phrases q usage.Event (sort_of n)) (sym is) ∙ fits)) ∙ eventless in cc)
 
   event_by_name : (image : ImageParts) (e : Eventful) (q : Phrase) (o : Option ℕ) → AreLeft site e.name.name → HasEvents image site → means site.set.phrases site.block e.name.name ≡ o → (is_some o || is_known_builtin e.name.name usage.Event) ≡ true
       → elim o [ None ↦ fits_named e.name.name usage.Event | Some k ↦ fits_declared site.set.phrases q usage.Event (sort_at site.set.phrases k) ] ≡ true → EventAgrees image site site.set.phrases site.block e
@@ -660,7 +711,7 @@ module _ (u : Uses) (site : Site) (named : IsSound rows site.set.phrases) (sound
       let is_declared = declared site.block e.name.name k meant in
       let first = is_declared.1 in
       let p : Phrase = first.declaring in
-      event_as image e left is_declared.0 k q p events meant first.there first.declares (shown_so site.set.phrases p p.node refl (left.untemplated k p meant first.there))
+      event_as image e left is_declared.0 k q p events meant first.there first.declares (shown_so site.set.phrases k p p.node refl (left.untemplated k p meant first.there) (λ common item is_item. left.pooled k p common item meant first.there is_item))
       (ap (λ o. fits_declared site.set.phrases q usage.Event (option_and_then (λ (x : Phrase). sort_of x.node) o)) (sym first.there) ∙ fits)
 
   pub changed_agrees : (image : ImageParts) (q : Phrase) (e : Eventful) → AreLeft site e.name.name → HasEvents image site → IsAmong q site.set.phrases → q.node ≡ OfEvent e → q.around.block ≡ site.block → EventAgrees image site site.set.phrases site.block e
@@ -698,6 +749,14 @@ module _ (u : Uses) (site : Site) (named : IsSound rows site.set.phrases) (sound
       let both = single_free (is_integer (class_of_type t)) (not (nat_lt 0 d.dimensions || d.copies)) (is_some (attributes.constant_of common item)) (is_input_parameter site.set.phrases p item.name.name) none in
       ap is_event_type typed ∙ (integer_type t both.0).0
 
+  -- and no constant
+  no_constant_varies : (p : Phrase) (common : List Attribute) (item : Declared) (o : Option Kind) → is_some o ≡ true → counted_fault site.set.phrases p common item (data_of o (sizes_of common item)) ≡ None → is_some (attributes.constant_of common item) ≡ false
+  unfolding counted_fault data_of
+  no_constant_varies p common item None some none = absurd (cc)
+  no_constant_varies p common item (Some t) some none =
+      let d : Data = data_with (class_of_type t) (dimensions_of (sizes_of common item)) (has_copies t) in
+      (single_free (is_integer (class_of_type t)) (not (nat_lt 0 d.dimensions || d.copies)) (is_some (attributes.constant_of common item)) (is_input_parameter site.set.phrases p item.name.name) none).1
+
   node_varies : (name : List ℕ) (own : IsOwn site name) (n : Node) → own.phrase.node ≡ n → IsAmong own.phrase site.set.phrases → variable_fault site.set.phrases own.phrase n ≡ None
       → CellsAgree site.set.phrases [] (means site.set.phrases site.block name) (name_meant (here_at site) name [])
   unfolding variable_fault data_at is_nil
@@ -705,15 +764,19 @@ module _ (u : Uses) (site : Site) (named : IsSound rows site.set.phrases) (sound
   node_varies name own (OfTemporaryGroup labels variable) is within none = temporary_cells_agree u site name own (record { labels = labels; variable = variable; declares = is })
   node_varies name own other is within none = absurd (cc)
 
-  varied_as : (name : List ℕ) (left : AreLeft site name) (k : ℕ) (p : Phrase) → means site.set.phrases site.block name ≡ Some k → slice_get site.set.phrases k ≡ Some p → IsShown site.set.phrases p → variable_fault site.set.phrases p p.node ≡ None
+  varied_as : (name : List ℕ) (left : AreLeft site name) (k : ℕ) (p : Phrase) → means site.set.phrases site.block name ≡ Some k → slice_get site.set.phrases k ≡ Some p → IsShown site.set.phrases k p → variable_fault site.set.phrases p p.node ≡ None
       → CellsAgree site.set.phrases [] (means site.set.phrases site.block name) (name_meant (here_at site) name [])
   unfolding variable_fault data_at is_nil
   varied_as name left k p meant there (Plain plain) none = node_varies name (record { number = k; meant = meant; phrase = p; there = there; own = own_number site.set.phrases k p there plain }) p.node refl (at_among site.set.phrases k p there) none
   varied_as name left k p meant there (Written template head declarations is uncalled_) none =
       let other : variable_fault site.set.phrases p (OfTemplate template head declarations) ≡ None = ap (variable_fault site.set.phrases p) (sym is) ∙ none in absurd (cc)
   varied_as name left k p meant there (Pooled common item is plain) none = plain_cells name k p common item meant there is (plainly name left k p common item meant there is plain)
-  varied_as name left k p meant there (PooledEvent common item is eventful filed) none =
+  varied_as name left k p meant there (PooledEvent common item is eventful stands) none =
       absurd (let other : true ≡ false = sym eventful ∙ no_event_varies p common item (type_of common item) refl (ap (variable_fault site.set.phrases p) (sym is) ∙ none) in cc)
+  varied_as name left k p meant there (PooledConstant common item is eventless constant stands) none =
+      absurd (let other : true ≡ false =
+      sym (valued_constant (attributes.constant_of common item) _ constant)
+      ∙ no_constant_varies p common item (type_of common item) (item_typed p common item (at_among site.set.phrases k p there) is) (ap (variable_fault site.set.phrases p) (sym is) ∙ none) in cc)
 
   varied_by_name : (name : List ℕ) (left : AreLeft site name) (place : Place) (o : Option ℕ) → means site.set.phrases site.block name ≡ o → (is_some o || is_known_builtin name usage.Variable) ≡ true
       → ◌≡◌ {A = Option (ℕ × Place)} (elim o [ None ↦ if is_some (builtin_named name) then Some (712, place) else None | Some k ↦ elim (slice_get site.set.phrases k) [ None ↦ None | Some r ↦ at place (variable_fault site.set.phrases r r.node) ] ]) None
@@ -722,7 +785,7 @@ module _ (u : Uses) (site : Site) (named : IsSound rows site.set.phrases) (sound
   varied_by_name name left place (Some k) meant known_ none =
       let first = (declared site.block name k meant).1 in
       let p : Phrase = first.declaring in
-      varied_as name left k p meant first.there (shown_so site.set.phrases p p.node refl (left.untemplated k p meant first.there))
+      varied_as name left k p meant first.there (shown_so site.set.phrases k p p.node refl (left.untemplated k p meant first.there) (λ common item is_item. left.pooled k p common item meant first.there is_item))
       (no_rule place (variable_fault site.set.phrases p p.node) (ap (λ (o : Option Phrase). elim o [ None ↦ None | Some r ↦ at place (variable_fault site.set.phrases r r.node) ]) (sym first.there) ∙ none))
 
   pub variable_agrees : (q : Phrase) (name : Naming) → AreLeft site name.name → IsAmong q site.set.phrases → q.node ≡ OfVariable name → q.around.block ≡ site.block
@@ -785,17 +848,19 @@ module _ (u : Uses) (site : Site) (named : IsSound rows site.set.phrases) (sound
   node_forms name left functions parameters own f place ts other is within plain none = absurd (cc)
 
   formed_as : (name : List ℕ) (left : AreLeft site name) (functions : AreFunctions u site name) (parameters : FunctionParameters u site name) (f : Phrase) (place : Place) (ts : Expressions) (k : ℕ) (p : Phrase) → means site.set.phrases site.block name ≡ Some k
-      → slice_get site.set.phrases k ≡ Some p → IsShown site.set.phrases p → declared_fault site.set.phrases f place ts p p.node ≡ None → FormAgrees u site site.set.phrases site.block name
+      → slice_get site.set.phrases k ≡ Some p → IsShown site.set.phrases k p → declared_fault site.set.phrases f place ts p p.node ≡ None → FormAgrees u site site.set.phrases site.block name
   unfolding declared_fault
   formed_as name left functions parameters f place ts k p meant there (Plain plain) none =
       node_forms name left functions parameters (record { number = k; meant = meant; phrase = p; there = there; own = own_number site.set.phrases k p there plain }) f place ts p.node refl (at_among site.set.phrases k p there) plain none
   formed_as name left functions parameters f place ts k p meant there (Written template head declarations is uncalled_) none =
       unformed site.set.phrases f.around.block place head ts uncalled_ (ap (declared_fault site.set.phrases f place ts p) (sym is) ∙ none)
   formed_as name left functions parameters f place ts k p meant there (Pooled common item is plain) none = plain_forms name k p common item meant there is (plainly name left k p common item meant there is plain)
-  formed_as name left functions parameters f place ts k p meant there (PooledEvent common item is eventful filed) none =
-      let stands = stood_for name left k p common item meant there is filed in
+  formed_as name left functions parameters f place ts k p meant there (PooledEvent common item is eventful stands) none =
       event_formed_as u site name k p common item counted meant there is eventful (event_single p common item (at_among site.set.phrases k p there) is eventful) stands.phrase.number stands.phrase stands.stands stands.there
       (event_for k p common item eventful stands)
+  formed_as name left functions parameters f place ts k p meant there (PooledConstant common item is eventless constant stands) none =
+      let pair = constant_pair name left k p common item meant there is eventless constant stands in
+      constant_formed_as u site counted has name k p meant there pair.mine pair.other.number pair.other pair.stands pair.at pair.theirs pair.same
 
   builtin_forms : (name : List ℕ) (o : Option Builtin) → means site.set.phrases site.block name ≡ None → builtin_named name ≡ o → elim o [ None ↦ false | Some b ↦ is_known usage.CallForm (form_of b) ] ≡ true → FormAgrees u site site.set.phrases site.block name
   builtin_forms name None undeclared is known_ = absurd (cc)
@@ -808,7 +873,7 @@ module _ (u : Uses) (site : Site) (named : IsSound rows site.set.phrases) (sound
   formed_by_name name left functions parameters f place ts (Some k) meant known_ none =
       let first = (declared site.block name k meant).1 in
       let p : Phrase = first.declaring in
-      formed_as name left functions parameters f place ts k p meant first.there (shown_so site.set.phrases p p.node refl (left.untemplated k p meant first.there))
+      formed_as name left functions parameters f place ts k p meant first.there (shown_so site.set.phrases k p p.node refl (left.untemplated k p meant first.there) (λ common item is_item. left.pooled k p common item meant first.there is_item))
       (ap (option_and_then (λ (r : Phrase). declared_fault site.set.phrases f place ts r r.node)) (sym first.there) ∙ none)
 
   -- a call form
@@ -843,7 +908,7 @@ module _ (u : Uses) (site : Site) (named : IsSound rows site.set.phrases) (sound
   node_called name procedures own owner q other is declares plain fits = absurd (cc)
 
   called_as : (name : Naming) (procedures : AreProcedures u site name.name) (owner k : ℕ) (q p : Phrase) → means site.set.phrases site.block name.name ≡ Some k → slice_get site.set.phrases k ≡ Some p
-      → declared_at p.number p.around p.node ≡ Some (key space.Declared owner name.name) → IsShown site.set.phrases p → fits_declared site.set.phrases q usage.Called (sort_of p.node) ≡ true → ProcedureAgrees u site site.set.phrases site.block name
+      → declared_at p.number p.around p.node ≡ Some (key space.Declared owner name.name) → IsShown site.set.phrases k p → fits_declared site.set.phrases q usage.Called (sort_of p.node) ≡ true → ProcedureAgrees u site site.set.phrases site.block name
   unfolding sort_of sort_of_type
   called_as name procedures owner k q p meant there declares (Plain plain) fits =
       let own : IsOwn site name.name = record { number = k; meant = meant; phrase = p; there = there; own = own_number site.set.phrases k p there plain } in
@@ -852,7 +917,9 @@ module _ (u : Uses) (site : Site) (named : IsSound rows site.set.phrases) (sound
       uncalled site.set.phrases q head none (ap (λ n. fits_declared site.set.phrases q usage.Called (sort_of n)) (sym is) ∙ fits)
   called_as name procedures owner k q p meant there declares (Pooled common item is plain) fits =
       absurd (no_call site.set.phrases q (type_of common item) (ap (λ n. fits_declared site.set.phrases q usage.Called (sort_of n)) (sym is) ∙ fits))
-  called_as name procedures owner k q p meant there declares (PooledEvent common item is eventful filed) fits =
+  called_as name procedures owner k q p meant there declares (PooledEvent common item is eventful stands) fits =
+      absurd (no_call site.set.phrases q (type_of common item) (ap (λ n. fits_declared site.set.phrases q usage.Called (sort_of n)) (sym is) ∙ fits))
+  called_as name procedures owner k q p meant there declares (PooledConstant common item is eventless constant stands) fits =
       absurd (no_call site.set.phrases q (type_of common item) (ap (λ n. fits_declared site.set.phrases q usage.Called (sort_of n)) (sym is) ∙ fits))
 
   called_by_name : (name : Naming) (left : AreLeft site name.name) (procedures : AreProcedures u site name.name) (q : Phrase) (o : Option ℕ) → means site.set.phrases site.block name.name ≡ o → (is_some o || is_known_builtin name.name usage.Called) ≡ true
@@ -862,7 +929,7 @@ module _ (u : Uses) (site : Site) (named : IsSound rows site.set.phrases) (sound
       let is_declared = declared site.block name.name k meant in
       let first = is_declared.1 in
       let p : Phrase = first.declaring in
-      called_as name procedures is_declared.0 k q p meant first.there first.declares (shown_so site.set.phrases p p.node refl (left.untemplated k p meant first.there))
+      called_as name procedures is_declared.0 k q p meant first.there first.declares (shown_so site.set.phrases k p p.node refl (left.untemplated k p meant first.there) (λ common item is_item. left.pooled k p common item meant first.there is_item))
       (ap (λ o. fits_declared site.set.phrases q usage.Called (option_and_then (λ (x : Phrase). sort_of x.node) o)) (sym first.there) ∙ fits)
 
   -- CALL

@@ -1,5 +1,5 @@
 -- What a unit declares stands for itself.
-use Rattle.std.proofs.Common.{◌≡◌, ℕ, Bool, true, false, not, ◌&&◌, List, Option, Some, None, slice_get, refl, sym, ap, ◌∙◌}
+use Rattle.std.proofs.Common.{◌≡◌, ◌⊎◌, ℕ, Bool, true, false, not, ◌&&◌, List, Option, Some, None, slice_get, refl, sym, ap, ◌∙◌, inl, inr}
 use Rattle.std.specs.Option.{option_and_then}
 use Rattle.hal_grammar.specs.Leaves.{Naming}
 use Rattle.hal_grammar.specs.Declarations.{Attribute, Declared, Declaration}
@@ -13,7 +13,8 @@ use Rattle.hal_meaning.specs.Bodies.{is_called, is_called_head, is_unit, pooled_
 use Rattle.hal_meaning.specs.Places.{is_in_unit}
 use Rattle.hal_agreement.specs.Sites.{Site}
 use Rattle.hal_fit_rules.specs.Owned.{IsOwn}
-use Rattle.hal_fit_names.specs.Suited.{is_event, is_in_file, is_plain, is_templated, shows_parts}
+use Rattle.hal_fit_names.specs.Standing.{StandsForData, StandsForItself}
+use Rattle.hal_fit_names.specs.Suited.{is_plain, is_templated, shows_parts}
 
 unit_pools : (ps : List Phrase) (name : List ℕ) (n : Node) → is_unit n ≡ true → pooled_at ps name n ≡ None
 unit_pools ps name (OfUnit of head declarations) is = refl
@@ -41,30 +42,34 @@ own_number ps k p there plain =
 pub own_name : (site : Site) (name : List ℕ) (k : ℕ) (p : Phrase) → means site.set.phrases site.block name ≡ Some k → slice_get site.set.phrases k ≡ Some p → is_templated site.set.phrases p p.node ≡ false → IsOwn site name
 own_name site name k p meant there plain = record { number = k; meant = meant; phrase = p; there = there; own = own_number site.set.phrases k p there plain }
 
--- no template, or that of a unit that isn't called, or plain data
-pub data IsShown (ps : List Phrase) (p : Phrase) : Type 0 where
-  Plain : is_templated ps p p.node ≡ false → IsShown ps p
-  Written : (template : Naming) (head : Head) (declarations : List Declaration) → p.node ≡ OfTemplate template head declarations → is_called_head head ≡ false → IsShown ps p
-  Pooled : (common : List Attribute) (item : Declared) → p.node ≡ OfItem common item → is_plain common item ≡ true → IsShown ps p
-  PooledEvent : (common : List Attribute) (item : Declared) → p.node ≡ OfItem common item → is_event_type (type_of common item) ≡ true → is_in_file ps p.around.home ≡ true → IsShown ps p
+-- no template, or that of a unit that isn't called, or plain data, or an event or a constant that stands for a COMPOOL's
+pub data IsShown (ps : List Phrase) (k : ℕ) (p : Phrase) : Type 0 where
+  Plain : is_templated ps p p.node ≡ false → IsShown ps k p
+  Written : (template : Naming) (head : Head) (declarations : List Declaration) → p.node ≡ OfTemplate template head declarations → is_called_head head ≡ false → IsShown ps k p
+  Pooled : (common : List Attribute) (item : Declared) → p.node ≡ OfItem common item → is_plain common item ≡ true → IsShown ps k p
+  PooledEvent : (common : List Attribute) (item : Declared) → p.node ≡ OfItem common item → is_event_type (type_of common item) ≡ true → StandsForData ps k p common item → IsShown ps k p
+  PooledConstant : (common : List Attribute) (item : Declared) → p.node ≡ OfItem common item → is_event_type (type_of common item) ≡ false → is_value_item common item ≡ true → StandsForData ps k p common item
+      → IsShown ps k p
 
-pooled_shown : (ps : List Phrase) (p : Phrase) (common : List Attribute) (item : Declared) → p.node ≡ OfItem common item → (plain eventful valued filed : Bool) → is_plain common item ≡ plain → is_event_type (type_of common item) ≡ eventful
-    → is_in_file ps p.around.home ≡ filed → not plain && not ((eventful && not valued) && filed) ≡ false → IsShown ps p
-pooled_shown ps p common item is true eventful valued filed is_so event home none = Pooled common item is is_so
-pooled_shown ps p common item is false true false true is_so event home none = PooledEvent common item is event home
-pooled_shown ps p common item is false false valued filed is_so event home none = absurd (cc)
-pooled_shown ps p common item is false true true filed is_so event home none = absurd (cc)
-pooled_shown ps p common item is false true false false is_so event home none = absurd (cc)
+module _ (ps : List Phrase) (k : ℕ) (p : Phrase) where
+  pooled_shown : (common : List Attribute) (item : Declared) → p.node ≡ OfItem common item → (eventful valued : Bool) → is_event_type (type_of common item) ≡ eventful → is_value_item common item ≡ valued
+      → StandsForData ps k p common item → IsShown ps k p
+  pooled_shown common item is true valued event constant stands = PooledEvent common item is event stands
+  pooled_shown common item is false true event constant stands = PooledConstant common item is event constant stands
+  pooled_shown common item is false false event constant stands = Pooled common item is (ap (λ a. not a && not (is_value_item common item)) event ∙ ap not constant)
 
-item_shown : (ps : List Phrase) (p : Phrase) (common : List Attribute) (item : Declared) → p.node ≡ OfItem common item → (b : Bool) → is_in_unit ps p.around.home ≡ b
-    → not b && (not (is_plain common item) && not (is_event common item && is_in_file ps p.around.home)) ≡ false → IsShown ps p
-item_shown ps p common item is true home none = Plain (ap (is_templated ps p) is ∙ ap not home)
-item_shown ps p common item is false home none = pooled_shown ps p common item is (is_plain common item) (is_event_type (type_of common item)) (is_value_item common item) (is_in_file ps p.around.home) refl refl refl none
+  item_shown : (common : List Attribute) (item : Declared) → p.node ≡ OfItem common item → (b : Bool) → is_in_unit ps p.around.home ≡ b → StandsForData ps k p common item ⊎ StandsForItself ps k p common item → IsShown ps k p
+  item_shown common item is true home stands = Plain (ap (is_templated ps p) is ∙ ap not home)
+  item_shown common item is false home (inl stands) = pooled_shown common item is (is_event_type (type_of common item)) (is_value_item common item) refl refl stands
+  item_shown common item is false home (inr itself) = by itself.2 where
+    by : (is_in_unit ps p.around.home ≡ true) ⊎ (is_plain common item ≡ true) → IsShown ps k p
+    by (inl unit) = absurd (let other : true ≡ false = sym unit ∙ home in cc)
+    by (inr plain) = Pooled common item is plain
 
-pub shown_so : (ps : List Phrase) (p : Phrase) (n : Node) → p.node ≡ n → shows_parts ps p n ≡ false → IsShown ps p
-shown_so ps p (OfTemplate template head declarations) is none = Written template head declarations is none
-shown_so ps p (OfItem common item) is none = item_shown ps p common item is (is_in_unit ps p.around.home) refl none
-shown_so ps p other is none = Plain (ap (is_templated ps p) is)
+  pub shown_so : (n : Node) → p.node ≡ n → shows_parts n ≡ false → ((common : List Attribute) (item : Declared) → p.node ≡ OfItem common item → StandsForData ps k p common item ⊎ StandsForItself ps k p common item) → IsShown ps k p
+  shown_so (OfTemplate template head declarations) is none pools = Written template head declarations is none
+  shown_so (OfItem common item) is none pools = item_shown common item is (is_in_unit ps p.around.home) refl (pools common item is)
+  shown_so other is none pools = Plain (ap (is_templated ps p) is)
 
 -- what is called is no template
 pub called_plain : (ps : List Phrase) (p : Phrase) (n : Node) → is_called n ≡ true → is_templated ps p n ≡ false
@@ -72,18 +77,3 @@ called_plain ps p (OfUnit name head declarations) is = refl
 called_plain ps p (OfTemplate name head declarations) is = absurd (cc)
 called_plain ps p (OfItem common item) is = absurd (cc)
 called_plain ps p other is = absurd (cc)
-
--- and neither is a constant that is its value
-not_valued : (a c d e : Bool) → c ≡ true → not (a && not c) && not ((d && not c) && e) ≡ false → false ≡ true
-not_valued true true true e valued none = absurd (cc)
-not_valued true true false e valued none = absurd (cc)
-not_valued false true true e valued none = absurd (cc)
-not_valued false true false e valued none = absurd (cc)
-not_valued a false d e valued none = absurd (cc)
-
-pub item_plain : (ps : List Phrase) (p : Phrase) (common : List Attribute) (item : Declared) → p.node ≡ OfItem common item → is_value_item common item ≡ true → shows_parts ps p p.node ≡ false → is_templated ps p p.node ≡ false
-item_plain ps p common item is valued none = by (is_in_unit ps p.around.home) refl (ap (shows_parts ps p) (sym is) ∙ none) where
-  by : (b : Bool) → is_in_unit ps p.around.home ≡ b → not b && (not (is_plain common item) && not (is_event common item && is_in_file ps p.around.home)) ≡ false → is_templated ps p p.node ≡ false
-  by true home is_none = ap (is_templated ps p) is ∙ ap not home
-  by false home is_none =
-      absurd (let bad : false ≡ true = not_valued (not (is_event_type (type_of common item))) (is_value_item common item) (is_event_type (type_of common item)) (is_in_file ps p.around.home) valued is_none in cc)

@@ -13,8 +13,9 @@ use Rattle.hal_scope.specs.Rules.{IsAmong, IsSound, rows, ruled}
 use Rattle.hal_scope.specs.Sorts.{type_of}
 use Rattle.hal_kinds.specs.Attributes as attributes
 use Rattle.hal_kinds.specs.Attributes.{sizes_of}
-use Rattle.hal_kinds.specs.Data.{is_parameter, is_structure_type}
+use Rattle.hal_kinds.specs.Data.{is_event_type, is_parameter, is_structure_type}
 use Rattle.hal_attributes.specs.Storage.{is_automatic_outside, is_stored, is_stored_parameter, is_stored_event, misstored}
+use Rattle.hal_attributes.specs.Typed.{is_no_variable, misplaced_event}
 use Rattle.hal_types.specs.Rules.{attribute_rows, type_rows}
 use Rattle.hal_constants.specs.Naming.{is_value_item}
 use Rattle.hal_shapes.specs.Arguments.{parameter_of}
@@ -46,6 +47,12 @@ no_constant false true initial true is = absurd (cc)
 no_constant false false true true is = absurd (cc)
 no_constant false false false true is = absurd (cc)
 
+uneventful : (event sized parameter : Bool) → not (event && (sized || parameter)) ≡ true → parameter ≡ true → event ≡ false
+uneventful false sized parameter is named = refl
+uneventful true true parameter is named = absurd (cc)
+uneventful true false true is named = absurd (cc)
+uneventful true false false is named = absurd (cc)
+
 -- the owner of a key, and its name
 abbrev pub owner_of : Option Key → ℕ
 owner_of None = 0
@@ -54,6 +61,31 @@ owner_of (Some k) = k.owner
 abbrev name_of : Option Key → List ℕ
 name_of None = []
 name_of (Some k) = k.name
+
+module _ (ps : List Phrase) (sound : IsSound type_rows ps) (r : Phrase) (common : List Attribute) (item : Declared) (within : IsAmong r ps) (is : r.node ≡ OfItem common item)
+    (parameter : is_parameter ps r item.name.name ≡ true) where
+  -- rule 725: a parameter is no constant
+  pub parameter_stored : is_some (attributes.constant_of common item) ≡ false
+  unfolding attribute_rows misstored
+  parameter_stored =
+      no_constant _ _ (is_some (attributes.initial_of common item)) (is_some (attributes.constant_of common item))
+      (unstored (is_automatic_outside ps r common item) (is_stored common item) (is_parameter ps r item.name.name) (is_stored_event common item)
+      (unless_true (not (is_automatic_outside ps r common item || (is_stored_parameter ps r common item || is_stored_event common item))) item.name.place
+      (ap (misstored ps r) (sym is)
+      ∙ ruled_none 725 (misstored ps r r.node)
+      (unbroken type_rows ps sound r within (λ qs q. ruled 725 (misstored qs q q.node)) (of_attributes (λ qs q. ruled 725 (misstored qs q q.node)) (inr (inr (inr (inr (inr (inr (inr (inr (inl refl)))))))))))))
+      parameter)
+
+  -- rule 327: and no event
+  pub parameter_eventless : is_event_type (type_of common item) ≡ false
+  unfolding attribute_rows misplaced_event
+  parameter_eventless =
+      uneventful (is_event_type (type_of common item)) (is_some (sizes_of common item)) (is_parameter ps r item.name.name)
+      (unless_true (not (is_event_type (type_of common item) && is_no_variable ps r common item)) item.name.place
+      (ruled_none 327 (misplaced_event ps r (OfItem common item))
+      (ap (λ n. ruled 327 (misplaced_event ps r n)) (sym is)
+      ∙ unbroken type_rows ps sound r within (λ qs q. ruled 327 (misplaced_event qs q q.node)) (of_attributes (λ qs q. ruled 327 (misplaced_event qs q q.node)) (inr (inr (inr (inl refl))))))))
+      parameter
 
 module _ (ps : List Phrase) (named : IsSound rows ps) (sound : IsSound type_rows ps) (sizes : HaveSizes ps) (found : (q : Key) (n : ℕ) → own ps q ≡ Some n → IsFirst ps q n) (lacking : (q : Key) → own ps q ≡ None → IsUndeclared ps q)
     (k : ℕ) (name : Naming) (input : IsInput ps k name) where
@@ -75,23 +107,15 @@ module _ (ps : List Phrase) (named : IsSound rows ps) (sound : IsSound type_rows
       (ap (undeclared ps input.phrase) (sym input.is) ∙ ruled_none 606 (undeclared ps input.phrase input.phrase.node)
       (unbroken rows ps named input.phrase input.within (λ qs q. ruled 606 (undeclared qs q q.node)) (inr (inr (inr (inr (inr (inl refl))))))))
 
-  -- rule 725: these are no constant
+  -- these are no constant
   item_stored : (r : Phrase) (common : List Attribute) (item : Declared) → IsAmong r ps → r.node ≡ OfItem common item → declared_by r ≡ Some (key space.Declared k name.name) → is_value_item common item ≡ false
-  unfolding attribute_rows misstored declared_at
+  unfolding declared_at
   item_stored r common item within is declares =
       let same : Some (key space.Declared r.around.home item.name.name) ≡ Some (key space.Declared k name.name) = ap (declared_at r.number r.around) (sym is) ∙ declares in
       let parameter : is_parameter ps r item.name.name ≡ true =
       ap (λ home. is_some (own ps (key space.Parameter home item.name.name))) (ap owner_of same)
       ∙ (ap (λ one. is_some (own ps (key space.Parameter k one))) (ap name_of same) ∙ has_parameter (own ps (key space.Parameter k name.name)) refl) in
-      let said : is_stored common item ≡ false =
-      unstored (is_automatic_outside ps r common item) (is_stored common item) (is_parameter ps r item.name.name) (is_stored_event common item)
-      (unless_true (not (is_automatic_outside ps r common item || (is_stored_parameter ps r common item || is_stored_event common item))) item.name.place
-      (ap (misstored ps r) (sym is)
-      ∙ ruled_none 725 (misstored ps r r.node)
-      (unbroken type_rows ps sound r within (λ qs q. ruled 725 (misstored qs q q.node)) (of_attributes (λ qs q. ruled 725 (misstored qs q q.node)) (inr (inr (inr (inr (inr (inr (inr (inr (inl refl)))))))))))))
-      parameter in
-      ap (λ b. b && (not (is_some (sizes_of common item)) && not (is_structure_type (type_of common item))))
-      (no_constant _ _ (is_some (attributes.initial_of common item)) (is_some (attributes.constant_of common item)) said)
+      ap (λ b. b && (not (is_some (sizes_of common item)) && not (is_structure_type (type_of common item)))) (parameter_stored ps sound r common item within is parameter)
 
   item_parameter : (j : ℕ) (r : Phrase) → own ps (key space.Declared k name.name) ≡ Some j → slice_get ps j ≡ Some r → declared_by r ≡ Some (key space.Declared k name.name) → is_item r.node ≡ true → IsDeclaredParameter ps k name
   unfolding parameter_of

@@ -40,7 +40,7 @@ typed_same : (o : Option Kind) → true ≡ is_some o → (t : Kind) × (o ≡ S
 typed_same None is = absurd (cc)
 typed_same (Some t) is = (t, refl)
 
-structure_by_template : (o : Option Kind) → is_structure_type o ≡ is_some (template_of o)
+pub structure_by_template : (o : Option Kind) → is_structure_type o ≡ is_some (template_of o)
 unfolding is_structure_type template_of
 structure_by_template None = refl
 structure_by_template (Some (StructureKind place template copies)) = refl
@@ -58,14 +58,14 @@ counted_same ps vs p q NoExpressions (MoreExpressions y ys) same = absurd same
 counted_same ps vs p q (MoreExpressions x xs) NoExpressions same = absurd same
 counted_same ps vs p q (MoreExpressions x xs) (MoreExpressions y ys) same = ap (λ n. suc n) (counted_same ps vs p q xs ys same.1)
 
-sizes_same : (ps : List Phrase) (vs : Known) (p q : Phrase) (a b : Option Expressions) → BothOrNeither (λ xs ys. AgreeInSizes ps vs p xs q ys) a b → (is_some a ≡ is_some b) × (dimensions_of a ≡ dimensions_of b)
+pub sizes_same : (ps : List Phrase) (vs : Known) (p q : Phrase) (a b : Option Expressions) → BothOrNeither (λ xs ys. AgreeInSizes ps vs p xs q ys) a b → (is_some a ≡ is_some b) × (dimensions_of a ≡ dimensions_of b)
 unfolding dimensions_of
 sizes_same ps vs p q (Some xs) (Some ys) same = (refl, counted_same ps vs p q xs ys same)
 sizes_same ps vs p q None None same = (refl, refl)
 sizes_same ps vs p q (Some xs) None same = absurd same
 sizes_same ps vs p q None (Some ys) same = absurd same
 
-agree_some : {X : Type 0} (a b : Option X) (x y : X) → Agree a b → a ≡ Some x → b ≡ Some y → x ≡ y
+pub agree_some : {X : Type 0} (a b : Option X) (x y : X) → Agree a b → a ≡ Some x → b ≡ Some y → x ≡ y
 agree_some (Some v) (Some w) x y same is other = let first : x ≡ v = cc in let second : w ≡ y = cc in first ∙ (same ∙ second)
 agree_some None b x y same is other = absurd (cc)
 agree_some (Some v) None x y same is other = absurd (cc)

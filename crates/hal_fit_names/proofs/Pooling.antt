@@ -40,10 +40,12 @@ pub record IsPooled (ps : List Phrase) (home : ℕ) (prefaces : List Preface) (n
   pub is : phrase.node ≡ OfTemplate template head declarations
   pub here : phrase.around.home ≡ home
 
--- what holds data of this name: a unit, a template, or a file that is given such data
+-- what holds data of this name: a unit, a template that isn't a COMPOOL's and declares them, or a file that is given such data
 abbrev pub HoldsData : List Phrase → ℕ → Node → List ℕ → Type 0
 HoldsData ps home (OfFile prefaces unit) name = IsPooled ps home prefaces name
-HoldsData ps home other name = Unit {0}
+HoldsData ps home (OfUnit unit head declarations) name = Unit {0}
+HoldsData ps home (OfTemplate template head declarations) name = (is_compool_head head ≡ false) × (list_any (declares name) declarations ≡ true)
+HoldsData ps home other name = ⊥
 
 pub record AreHeld (ps : List Phrase) (home : ℕ) (name : List ℕ) : Type 0 where
   pub phrase : Phrase
@@ -240,11 +242,15 @@ module _ (ps : List Phrase) where
     elements_holding d a (BlockFirst b others) = more (block_holding d a b) (elements_holding (gathered_block d a b) a others)
 
   -- what a template declares is held by it, or by the file
-  template_holds : (d : List Phrase) (a : Around) (t : Template) (head : Head) → AreFirst (add d a (OfTemplate t.name t.head t.declarations)) ps → (is_compool_head head ≡ true → (name : List ℕ) → list_any (declares name) t.declarations ≡ true → AreHeld ps a.home name)
+  template_holds : (d : List Phrase) (a : Around) (t : Template) (head : Head) → t.head ≡ head → AreFirst (add d a (OfTemplate t.name t.head t.declarations)) ps → (is_compool_head head ≡ true → (name : List ℕ) → list_any (declares name) t.declarations ≡ true → AreHeld ps a.home name)
       → (name : List ℕ) → list_any (declares name) t.declarations ≡ true → AreHeld ps (around_template (length d) a head).home name
   unfolding around_template
-  template_holds d a t (Compool place) start held = held refl
-  template_holds d a t other start held = λ name is. record { phrase = phrase (length d) a (OfTemplate t.name t.head t.declarations); there = begun.there ps d a (OfTemplate t.name t.head t.declarations) start; holds = tt }
+  template_holds d a t (Compool place) same start held = held refl
+  template_holds d a t other same start held = λ name is. record {
+    phrase = phrase (length d) a (OfTemplate t.name t.head t.declarations);
+    there = begun.there ps d a (OfTemplate t.name t.head t.declarations) start;
+    holds = (ap is_compool_head same, is);
+  }
 
   template_holding : (d : List Phrase) (a : Around) (t : Template) → (is_compool_head t.head ≡ true → (name : List ℕ) → list_any (declares name) t.declarations ≡ true → AreHeld ps a.home name) → Holding d (gathered_template d a t)
   unfolding gathered_template
@@ -257,7 +263,7 @@ module _ (ps : List Phrase) where
       let d3 : List Phrase = gathered_each (gathered_declaration c) d2 t.declarations in
       more (one d a n tt)
       (where_begun d1 (gathered_any (gathered_close b) d3 t.close) (begun.then_ (head_first d1 b t.head) (begun.then_ (declarations_first c d2 t.declarations) (close_first b d3 t.close))) (λ start.
-      more (head_holding d1 b t.head) (more (declarations_holding c d2 t.declarations (template_holds d a t t.head start held)) (close_holding b d3 t.close))))
+      more (head_holding d1 b t.head) (more (declarations_holding c d2 t.declarations (template_holds d a t t.head refl start held)) (close_holding b d3 t.close))))
 
   either_some : (found : Bool) (name : List ℕ) (o : Option (List ℕ)) → is_some o ≡ true → is_some (if found then Some name else o) ≡ true
   either_some true name o is = refl

@@ -403,3 +403,32 @@ module _ (ps : List Phrase) (counted : IsCounted ps) where
     -- so a constant that has a value by what is known is known
     pub declared_known : (q : Phrase) → IsAmong q ps → Gets (declared_value ps (known ps) q q.node) (value_at (known ps) q.number)
     declared_known q within v is = known_stable q.number v (told ps [] refl (known ps) known_fits (λ k w has. has) known_grows q within v is)
+
+    -- what is known is what its phrase declares by that
+    told_back : (qs d : List Phrase) → ps ≡ d ++ qs → (vs : Known) → Fits vs → IsLess vs (known ps) → IsLess (round ps vs qs) (known ps) → (q : Phrase) → IsAmong q qs
+        → Gets (value_at (round ps vs qs) q.number) (declared_value ps (known ps) q q.node)
+    unfolding round
+    told_back [] d whole vs fits less final q within = absurd within
+    told_back (x ∷ qs) d whole vs fits less final q within = by within (λ later. told_back qs (d ++ (x ∷ [])) (next_whole d x qs whole) (noted ps vs x) (noted_fits vs x fits) noted_less final q later) where
+      written : value_at (round ps (noted ps vs x) qs) x.number ≡ declared_value ps vs x x.node
+      written =
+          let number = number_is d x qs whole in
+          let long = next_long d x qs whole in
+          unwritten qs (d ++ (x ∷ [])) (next_whole d x qs whole) (noted ps vs x) x.number (omega (arith, number, long)) ∙ set_here vs x.number (declared_value ps vs x x.node) (low_number d x qs whole vs fits)
+
+      noted_less : IsLess (noted ps vs x) (known ps)
+      noted_less k v is = at (which x.number k) where
+        at : (x.number ≡ k) ⊎ (x.number ≡ k → ⊥) → value_at (known ps) k ≡ Some v
+        at (inl same) =
+            ap (value_at (known ps)) (sym same)
+            ∙ final x.number v (written ∙ (sym (set_here vs x.number (declared_value ps vs x x.node) (low_number d x qs whole vs fits)) ∙ (ap (value_at (noted ps vs x)) same ∙ is)))
+        at (inr other) = less k v (sym (set_other vs x.number k (declared_value ps vs x x.node) other) ∙ is)
+
+      by : (q ≡ x) ⊎ IsAmong q qs → (IsAmong q qs → Gets (value_at (round ps (noted ps vs x) qs) q.number) (declared_value ps (known ps) q q.node)) → Gets (value_at (round ps (noted ps vs x) qs) q.number) (declared_value ps (known ps) q q.node)
+      by (inl same) rest =
+          subst (λ (y : Phrase). Gets (value_at (round ps (noted ps vs x) qs) y.number) (declared_value ps (known ps) y y.node)) (sym same)
+          (λ v is. declared_gets ps vs (known ps) x (λ j r common item there item_is valued before w has. (before, less r.number w has)) x.node v (sym written ∙ is))
+      by (inr later) rest = rest later
+
+    pub known_declared : (q : Phrase) → IsAmong q ps → Gets (value_at (known ps) q.number) (declared_value ps (known ps) q q.node)
+    known_declared q within v is = told_back ps [] refl (known ps) known_fits (λ k w has. has) known_stable q within v (known_grows q.number v is)

@@ -1,33 +1,41 @@
 -- Data of a written template of a COMPOOL stand for the COMPOOL's own.
-use Rattle.std.proofs.Common.{◌≡◌, ◌⊎◌, ℕ, Bool, true, false, ◌||◌, List, [], ◌∷◌, ◌++◌, map, flat_map, Option, Some, None, slice_get, bytes_eq, refl, sym, ap, ◌∙◌, subst, inl, inr, if◌then◌else◌}
+use Rattle.std.proofs.Common.{◌≡◌, ◌⊎◌, ℕ, Bool, true, false, not, cond, ◌&&◌, ◌||◌, filter, List, [], ◌∷◌, ◌++◌, map, flat_map, Option, Some, None, slice_get, bytes_eq, refl, sym, ap, ◌∙◌, subst, inl, inr, if◌then◌else◌}
 use Rattle.std.specs.List.{list_any}
 use Rattle.std.specs.Option.{option_and_then, is_some}
 use Rattle.std.proofs.lemmas.Slice.Eq.{bytes_eq-Decides}
 use Rattle.hal_grammar.specs.Leaves.{Naming}
 use Rattle.hal_grammar.specs.Declarations.{Attribute, Declaration, Declare, Declared, Structure}
 use Rattle.hal_grammar.specs.Units.{Compool, File, Head, Preface, Program, Task, Procedure, Function}
-use Rattle.hal_phrases.specs.Phrases.{Node, Phrase, OfFile, OfItem, OfTemplate}
+use Rattle.hal_phrases.specs.Phrases.{Node, Phrase, OfFile, OfItem, OfTemplate, OfUnit}
 use Rattle.hal_phrases.specs.GatheredUnits.{phrases_of}
 use Rattle.hal_names.specs.declared.key.Key.{Key}
 use Rattle.hal_names.specs.declared.key.Space.TheVariants as space
 use Rattle.hal_names.specs.Keys.{declared_at, declared_by, key, own}
+use Rattle.hal_names.specs.Laws.{IsCounted}
 use Rattle.hal_names.specs.Means.{prefaces_of, unit_named}
 use Rattle.hal_names.proofs.CountedFiles.{phrases_counted}
 use Rattle.hal_names.proofs.Places.{own_first}
 use Rattle.hal_scope.specs.Repeated.{given}
 use Rattle.hal_scope.specs.Rules.{IsAmong, IsSound, rows}
+use Rattle.hal_scope.specs.Sorts.{type_of}
+use Rattle.hal_kinds.specs.Attributes as attributes
+use Rattle.hal_kinds.specs.Attributes.{sizes_of}
+use Rattle.hal_kinds.specs.Data.{is_event_type, is_parameter, is_structure_type}
+use Rattle.hal_types.specs.Rules.{type_rows}
 use Rattle.hal_constants.specs.Known.{Known, known}
+use Rattle.hal_constants.specs.Naming.{is_value_item}
 use Rattle.hal_templates.specs.Agreeing.{IsSameData}
 use Rattle.hal_templates.specs.Entries.{entries, entries_of}
-use Rattle.hal_templates.specs.Giving.{AreSameNames, GivesItsUnit, IsData, IsOwn, IsSameName, IsStructure}
+use Rattle.hal_templates.specs.Giving.{AreSameNames, GivesItsUnit, HaveSameHead, IsData, IsOwn, IsSameName, IsStructure}
 use Rattle.hal_templates.specs.Heads.{is_compool}
-use Rattle.hal_templates.specs.Own.{own_entries}
+use Rattle.hal_templates.specs.Own.{is_parameter_of, is_shown, own_entries}
 use Rattle.hal_templates.specs.Templates.{home_of}
 use Rattle.hal_templates.proofs.Shown.{is_own}
 use Rattle.hal_meaning.specs.Bodies.{declares, is_compool_head, is_unit, meant_at, pooled, pooled_at, standing_for}
 use Rattle.hal_meaning.specs.Places.{is_in_unit}
-use Rattle.hal_fit_names.specs.Standing.{StandsForData}
-use Rattle.hal_fit_names.specs.Suited.{is_in_file}
+use Rattle.hal_fit_names.specs.Standing.{StandsForData, StandsForItself}
+use Rattle.hal_fit_names.specs.Suited.{is_in_file, is_plain}
+use Rattle.hal_fit_names.proofs.Parametered.{parameter_eventless, parameter_stored}
 use Rattle.hal_fit_names.proofs.Placing.{at_among}
 use Rattle.hal_fit_names.proofs.Pooling.{AreHeld, HoldsData, IsPooled, NodeHeld, data_are_held}
 
@@ -69,18 +77,20 @@ declared_entry name (Structure place structure parts ∷ ds) is =
     let rest = declared_entry name ds is in record { common = rest.common; item = rest.item; within = inr rest.within; named = rest.named }
 
 -- what an entry is the same as
-record HasPartner (ps : List Phrase) (vs : Known) (h u : ℕ) (x : Node) : Type 0 where
+record HasPartner (ps : List Phrase) (vs : Known) (h u : ℕ) (x : Node) (ys : List Node) : Type 0 where
   other : Node
+  within : IsAmong other ys
   same : IsSameName ps vs h u x other
 
-partner_of : (ps : List Phrase) (vs : Known) (h : ℕ) (xs : List Node) (u : ℕ) (ys : List Node) → AreSameNames ps vs h xs u ys → (x : Node) → IsAmong x xs → HasPartner ps vs h u x
+partner_of : (ps : List Phrase) (vs : Known) (h : ℕ) (xs : List Node) (u : ℕ) (ys : List Node) → AreSameNames ps vs h xs u ys → (x : Node) → IsAmong x xs → HasPartner ps vs h u x ys
 partner_of ps vs h [] u ys same x within = absurd within
 partner_of ps vs h (z ∷ xs) u [] same x within = absurd same
-partner_of ps vs h (z ∷ xs) u (y ∷ ys) same x (inl is) = record { other = y; same = subst (λ (n : Node). IsSameName ps vs h u n y) (sym is) same.0 }
-partner_of ps vs h (z ∷ xs) u (y ∷ ys) same x (inr later) = partner_of ps vs h xs u ys same.1 x later
+partner_of ps vs h (z ∷ xs) u (y ∷ ys) same x (inl is) = record { other = y; within = inl refl; same = subst (λ (n : Node). IsSameName ps vs h u n y) (sym is) same.0 }
+partner_of ps vs h (z ∷ xs) u (y ∷ ys) same x (inr later) =
+    let rest = partner_of ps vs h xs u ys same.1 x later in record { other = rest.other; within = inr rest.within; same = rest.same }
 
 -- data that are the same as some
-record IsSameItem (ps : List Phrase) (vs : Known) (h u : ℕ) (common : List Attribute) (item : Declared) : Type 0 where
+record IsSameItem (ps : List Phrase) (vs : Known) (h u : ℕ) (common : List Attribute) (item : Declared) (y : Node) : Type 0 where
   p : Phrase
   q : Phrase
   other_common : List Attribute
@@ -90,9 +100,10 @@ record IsSameItem (ps : List Phrase) (vs : Known) (h u : ℕ) (common : List Att
   node : p.node ≡ OfItem common item
   theirs : IsOwn ps u other.name.name q
   declares : q.node ≡ OfItem other_common other
+  listed : y ≡ OfItem other_common other
   same : IsSameData ps vs p common item.attributes q other_common other.attributes
 
-item_same : {ps : List Phrase} {vs : Known} {h u : ℕ} {x y : Node} → IsSameName ps vs h u x y → (common : List Attribute) (item : Declared) → x ≡ OfItem common item → IsSameItem ps vs h u common item
+item_same : {ps : List Phrase} {vs : Known} {h u : ℕ} {x y : Node} → IsSameName ps vs h u x y → (common : List Attribute) (item : Declared) → x ≡ OfItem common item → IsSameItem ps vs h u common item y
 item_same {ps = ps} {vs = vs} {h = h} {u = u} (IsData c other_common a b p q named mine this theirs that means) common item is =
     let of_common : c ≡ common = cc in
     let of_item : a ≡ item = cc in
@@ -106,6 +117,7 @@ item_same {ps = ps} {vs = vs} {h = h} {u = u} (IsData c other_common a b p q nam
       node = this ∙ is;
       theirs = theirs;
       declares = that;
+      listed = refl;
       same = subst (λ (d : Declared). IsSameData ps vs p common d.attributes q other_common b.attributes) of_item (subst (λ (xs : List Attribute). IsSameData ps vs p xs a.attributes q other_common b.attributes) of_common means);
     }
 item_same (IsStructure name other xs ys p q named mine this theirs that parts) common item is = absurd (cc)
@@ -117,6 +129,45 @@ compool_same (Program place) is = absurd (cc)
 compool_same (Task place) is = absurd (cc)
 compool_same (Procedure place inputs outputs mode) is = absurd (cc)
 compool_same (Function place inputs returns mode) is = absurd (cc)
+
+other_head : (head : Head) → is_compool_head head ≡ false → is_compool head ≡ false
+unfolding is_compool
+other_head (Compool place) is = absurd (cc)
+other_head (Program place) is = refl
+other_head (Task place) is = refl
+other_head (Procedure place inputs outputs mode) is = refl
+other_head (Function place inputs returns mode) is = refl
+
+-- the unit of a template that isn't a COMPOOL's is no COMPOOL
+not_compool : (ps : List Phrase) (vs : Known) (p q : Phrase) (head other : Head) → HaveSameHead ps vs p head q other → is_compool_head head ≡ false → is_compool_head other ≡ false
+not_compool ps vs p q head (Program there) same is = refl
+not_compool ps vs p q head (Task there) same is = refl
+not_compool ps vs p q head (Procedure there inputs outputs mode) same is = refl
+not_compool ps vs p q head (Function there inputs returns mode) same is = refl
+not_compool ps vs p q (Compool at) (Compool there) same is = absurd (cc)
+not_compool ps vs p q (Program at) (Compool there) same is = absurd same
+not_compool ps vs p q (Task at) (Compool there) same is = absurd same
+not_compool ps vs p q (Procedure at inputs outputs mode) (Compool there) same is = absurd same
+not_compool ps vs p q (Function at inputs returns mode) (Compool there) same is = absurd same
+
+-- what a list keeps passes
+kept_passes : (test : Node → Bool) (x : Node) (xs : List Node) → IsAmong x (filter test xs) → test x ≡ true
+kept_passes test x [] within = absurd within
+kept_passes test x (y ∷ ys) within = by (test y) refl within (kept_passes test x ys) where
+  by : (b : Bool) → test y ≡ b → IsAmong x (cond b (y ∷ filter test ys) (filter test ys)) → (IsAmong x (filter test ys) → test x ≡ true) → test x ≡ true
+  by true is (inl same) rest = ap test same ∙ is
+  by true is (inr later) rest = rest later
+  by false is later rest = rest later
+
+-- data in the own template of a unit that is no COMPOOL are a parameter
+entry_parameter : (ps : List Phrase) (u : ℕ) (head : Head) (declarations : List Declaration) → is_compool_head head ≡ false → (common : List Attribute) (item : Declared)
+    → IsAmong (OfItem common item) (own_entries ps u head declarations) → is_parameter_of ps u item.name.name ≡ true
+unfolding own_entries is_shown
+entry_parameter ps u (Program place) declarations none common item within = absurd within
+entry_parameter ps u (Task place) declarations none common item within = absurd within
+entry_parameter ps u (Compool place) declarations none common item within = absurd (cc)
+entry_parameter ps u (Procedure place inputs outputs mode) declarations none common item within = kept_passes (is_shown ps u (entries declarations)) (OfItem common item) (entries declarations) within
+entry_parameter ps u (Function place inputs returns mode) declarations none common item within = kept_passes (is_shown ps u (entries declarations)) (OfItem common item) (entries declarations) within
 
 some_same : {m n : ℕ} → Some m ≡ Some n → m ≡ n
 some_same is = cc
@@ -147,6 +198,20 @@ module _ (files : List File) (named : IsSound rows (phrases_of files))
       ap (declared_at q.number q.around) (sym declares_) ∙ (ap declared_by (sym one) ∙ first.declares) in
       ap (λ (o : Option Key). elim o [ None ↦ 0 | Some w ↦ w.owner ]) keyed
 
+  -- what is the same as an entry of the name is the same as it
+  partner_same : {y : Node} (u : ℕ) (c : List Attribute) (x : Declared) → x.name.name ≡ name → (one : IsSameItem ps (known ps) p.around.home u c x y)
+      → IsSameData ps (known ps) p common item.attributes one.q one.other_common one.other.attributes
+  partner_same u c x x_named one =
+      let found_here : own ps (key space.Declared p.around.home name) ≡ Some one.p.number = subst (λ (n : List ℕ). own ps (key space.Declared p.around.home n) ≡ Some one.p.number) x_named one.mine.found in
+      let number : one.p.number ≡ p.number = some_same (sym found_here ∙ own_item.found) in
+      let phrase_same : one.p ≡ p = same_there one.p p (sym one.mine.there ∙ (ap (slice_get ps) number ∙ own_item.there)) in
+      let node_same : OfItem c x ≡ OfItem common item = sym one.node ∙ (ap (λ (r : Phrase). r.node) phrase_same ∙ is) in
+      let of_common : c ≡ common = cc in
+      let of_item : x ≡ item = cc in
+      subst (λ (r : Phrase). IsSameData ps (known ps) r common item.attributes one.q one.other_common one.other.attributes) phrase_same
+      (subst (λ (d : Declared). IsSameData ps (known ps) one.p common d.attributes one.q one.other_common one.other.attributes) of_item
+      (subst (λ (xs : List Attribute). IsSameData ps (known ps) one.p xs x.attributes one.q one.other_common one.other.attributes) of_common one.same))
+
   pooled_stands : (f : Phrase) (prefaces : List Preface) (unit : Naming) → slice_get ps p.around.home ≡ Some f → f.node ≡ OfFile prefaces unit → IsPooled ps p.around.home prefaces name → StandsForData ps k p common item
   pooled_stands f prefaces unit home file pooled_ =
       let given_ = gives pooled_.phrase pooled_.template pooled_.head pooled_.declarations pooled_.within pooled_.is in
@@ -158,15 +223,9 @@ module _ (files : List File) (named : IsSound rows (phrases_of files))
       let entry = declared_entry name pooled_.declarations pooled_.says in
       let partner = partner_of ps (known ps) p.around.home (entries pooled_.declarations) u (own_entries ps u given_.unit_head given_.unit_declarations) meanings (OfItem entry.common entry.item) entry.within in
       finish f prefaces unit home file pooled_ u given_.unit entry.common entry.item entry.named (item_same partner.same entry.common entry.item refl) given_.is_unit.found given_.is_unit.there (ap is_unit given_.is_unit.is) where
-        finish : (f : Phrase) (prefaces : List Preface) (unit : Naming) → slice_get ps p.around.home ≡ Some f → f.node ≡ OfFile prefaces unit → (pooled_ : IsPooled ps p.around.home prefaces name) (u : ℕ) (own_unit : Phrase) (c : List Attribute) (x : Declared)
-            → x.name.name ≡ name → IsSameItem ps (known ps) p.around.home u c x → unit_named ps pooled_.template.name ≡ Some u → slice_get ps u ≡ Some own_unit → is_unit own_unit.node ≡ true → StandsForData ps k p common item
+        finish : {y : Node} (f : Phrase) (prefaces : List Preface) (unit : Naming) → slice_get ps p.around.home ≡ Some f → f.node ≡ OfFile prefaces unit → (pooled_ : IsPooled ps p.around.home prefaces name) (u : ℕ) (own_unit : Phrase) (c : List Attribute) (x : Declared)
+            → x.name.name ≡ name → IsSameItem ps (known ps) p.around.home u c x y → unit_named ps pooled_.template.name ≡ Some u → slice_get ps u ≡ Some own_unit → is_unit own_unit.node ≡ true → StandsForData ps k p common item
         finish f prefaces unit home file pooled_ u own_unit c x x_named one found at is_one =
-            let found_here : own ps (key space.Declared p.around.home name) ≡ Some one.p.number = subst (λ (n : List ℕ). own ps (key space.Declared p.around.home n) ≡ Some one.p.number) x_named one.mine.found in
-            let number : one.p.number ≡ p.number = some_same (sym found_here ∙ own_item.found) in
-            let phrase_same : one.p ≡ p = same_there one.p p (sym one.mine.there ∙ (ap (slice_get ps) number ∙ own_item.there)) in
-            let node_same : OfItem c x ≡ OfItem common item = sym one.node ∙ (ap (λ (r : Phrase). r.node) phrase_same ∙ is) in
-            let of_common : c ≡ common = cc in
-            let of_item : x ≡ item = cc in
             record {
               phrase = one.q;
               stands =
@@ -184,9 +243,7 @@ module _ (files : List File) (named : IsSound rows (phrases_of files))
               declares = one.declares;
               named = sym one.named ∙ x_named;
               within = ap (is_in_unit ps) (home_is one.q u one.other_common one.other one.declares one.theirs) ∙ (ap (λ (o : Option Phrase). elim o [ None ↦ false | Some h ↦ is_unit h.node ]) at ∙ is_one);
-              same = subst (λ (r : Phrase). IsSameData ps (known ps) r common item.attributes one.q one.other_common one.other.attributes) phrase_same
-                  (subst (λ (d : Declared). IsSameData ps (known ps) one.p common d.attributes one.q one.other_common one.other.attributes) of_item
-                  (subst (λ (xs : List Attribute). IsSameData ps (known ps) one.p xs x.attributes one.q one.other_common one.other.attributes) of_common one.same));
+              same = partner_same u c x x_named one;
             }
 
   pub data_stand : (f : Phrase) (prefaces : List Preface) (unit : Naming) → slice_get ps p.around.home ≡ Some f → f.node ≡ OfFile prefaces unit → StandsForData ps k p common item
@@ -196,22 +253,60 @@ module _ (files : List File) (named : IsSound rows (phrases_of files))
       let holds : HoldsData ps p.around.home (OfFile prefaces unit) name = subst (λ (n : Node). HoldsData ps p.around.home n name) (ap (λ (h : Phrase). h.node) same ∙ file) held.holds in
       pooled_stands f prefaces unit home file holds
 
-  -- other data stand for themselves
-  pub data_or_itself : StandsForData ps k p common item ⊎ ((standing_for ps k ≡ k) × (is_in_file ps p.around.home ≡ false))
-  unfolding prefaces_of
-  data_or_itself = by held.phrase.node refl where
-    held : AreHeld ps p.around.home name
-    held = subst (NodeHeld ps p) is (data_are_held files p (at_among ps k p there))
+  -- what a template declares for itself is a parameter of its unit: no event and no constant
+  module _ (sound : IsSound type_rows ps) (counted : IsCounted ps) where
+    parameter_plain : (u : ℕ) (other_common : List Attribute) (other : Declared) (q : Phrase) → IsOwn ps u other.name.name q → q.node ≡ OfItem other_common other → is_parameter_of ps u other.name.name ≡ true
+        → IsSameData ps (known ps) p common item.attributes q other_common other.attributes → is_plain common item ≡ true
+    parameter_plain u other_common other q owned declares_ parameter same =
+        let within = at_among ps q.number q owned.there in
+        let home = home_is q u other_common other declares_ owned in
+        let of_q : is_parameter ps q other.name.name ≡ true = ap (λ h. is_some (own ps (key space.Parameter h other.name.name))) home ∙ parameter in
+        let eventless : is_event_type (type_of common item) ≡ false = same.attributes.words.event ∙ parameter_eventless ps sound q other_common other within declares_ of_q in
+        let variable : is_some (attributes.constant_of common item) ≡ false = same.attributes.words.constant ∙ parameter_stored ps sound q other_common other within declares_ of_q in
+        ap (λ b. not b && not (is_value_item common item)) eventless ∙ ap (λ b. not (b && (not (is_some (sizes_of common item)) && not (is_structure_type (type_of common item))))) variable
 
-    none : (n : Node) → held.phrase.node ≡ n → pooled_at ps name n ≡ None → standing_for ps k ≡ k
-    none n node is_none =
-        ap (λ (o : Option ℕ). elim o [ None ↦ k | Some other ↦ other ])
-        (ap (option_and_then (λ (r : Phrase). meant_at ps r r.node)) there
-        ∙ (ap (meant_at ps p) is ∙ (ap (option_and_then (λ (h : Phrase). pooled_at ps name h.node)) held.there ∙ (ap (pooled_at ps name) node ∙ is_none))))
+    template_plain : (t : Phrase) (template : Naming) (head : Head) (declarations : List Declaration) → slice_get ps p.around.home ≡ Some t → t.node ≡ OfTemplate template head declarations → is_compool_head head ≡ false
+        → list_any (declares name) declarations ≡ true → is_plain common item ≡ true
+    template_plain t template head declarations there_ node called says =
+        let given_ = gives t template head declarations (at_among ps p.around.home t there_) node in
+        let u : ℕ = given_.unit.number in
+        let homes : home_of t head ≡ p.around.home = ap (λ b. if b then t.around.home else t.number) (other_head head called) ∙ counted p.around.home t there_ in
+        let meanings : AreSameNames ps (known ps) p.around.home (entries declarations) u (own_entries ps u given_.unit_head given_.unit_declarations) =
+        subst (λ h. AreSameNames ps (known ps) h (entries declarations) u (own_entries ps u given_.unit_head given_.unit_declarations)) homes given_.meanings in
+        let entry = declared_entry name declarations says in
+        let partner = partner_of ps (known ps) p.around.home (entries declarations) u (own_entries ps u given_.unit_head given_.unit_declarations) meanings (OfItem entry.common entry.item) entry.within in
+        let one = item_same partner.same entry.common entry.item refl in
+        parameter_plain u one.other_common one.other one.q one.theirs one.declares
+        (entry_parameter ps u given_.unit_head given_.unit_declarations (not_compool ps (known ps) t given_.unit head given_.unit_head given_.heads called) one.other_common one.other
+        (subst (λ (n : Node). IsAmong n (own_entries ps u given_.unit_head given_.unit_declarations)) one.listed partner.within))
+        (partner_same u entry.common entry.item entry.named one)
 
-    outside : (n : Node) → held.phrase.node ≡ n → is_some (prefaces_of n) ≡ false → is_in_file ps p.around.home ≡ false
-    outside n node is_none = ap (λ (o : Option Phrase). elim o [ None ↦ false | Some f ↦ is_some (prefaces_of f.node) ]) held.there ∙ (ap (λ m. is_some (prefaces_of m)) node ∙ is_none)
+    -- other data stand for themselves
+    pub data_or_itself : StandsForData ps k p common item ⊎ StandsForItself ps k p common item
+    unfolding prefaces_of
+    data_or_itself = by held.phrase.node refl held.holds where
+      held : AreHeld ps p.around.home name
+      held = subst (NodeHeld ps p) is (data_are_held files p (at_among ps k p there))
 
-    by : (n : Node) → held.phrase.node ≡ n → StandsForData ps k p common item ⊎ ((standing_for ps k ≡ k) × (is_in_file ps p.around.home ≡ false))
-    by (OfFile prefaces unit) node = inl (data_stand held.phrase prefaces unit held.there node)
-    by other node = inr (none other node refl, outside other node refl)
+      none : (n : Node) → held.phrase.node ≡ n → pooled_at ps name n ≡ None → standing_for ps k ≡ k
+      none n node is_none =
+          ap (λ (o : Option ℕ). elim o [ None ↦ k | Some other ↦ other ])
+          (ap (option_and_then (λ (r : Phrase). meant_at ps r r.node)) there
+          ∙ (ap (meant_at ps p) is ∙ (ap (option_and_then (λ (h : Phrase). pooled_at ps name h.node)) held.there ∙ (ap (pooled_at ps name) node ∙ is_none))))
+
+      outside : (n : Node) → held.phrase.node ≡ n → is_some (prefaces_of n) ≡ false → is_in_file ps p.around.home ≡ false
+      outside n node is_none = ap (λ (o : Option Phrase). elim o [ None ↦ false | Some f ↦ is_some (prefaces_of f.node) ]) held.there ∙ (ap (λ m. is_some (prefaces_of m)) node ∙ is_none)
+
+      unit_there : (unit : Naming) (head : Head) (declarations : List Declaration) → held.phrase.node ≡ OfUnit unit head declarations → is_in_unit ps p.around.home ≡ true
+      unit_there unit head declarations node = ap (λ (o : Option Phrase). elim o [ None ↦ false | Some h ↦ is_unit h.node ]) held.there ∙ ap is_unit node
+
+      by : (n : Node) → held.phrase.node ≡ n → HoldsData ps p.around.home n name → StandsForData ps k p common item ⊎ StandsForItself ps k p common item
+      by (OfFile prefaces unit) node holds = inl (data_stand held.phrase prefaces unit held.there node)
+      by (OfUnit unit head declarations) node holds = inr (none (OfUnit unit head declarations) node refl, outside (OfUnit unit head declarations) node refl, inl (unit_there unit head declarations node))
+      by (OfTemplate template head declarations) node holds =
+          inr (
+            none (OfTemplate template head declarations) node refl,
+            outside (OfTemplate template head declarations) node refl,
+            inr (template_plain held.phrase template head declarations held.there node holds.0 holds.1),
+          )
+      by other node holds = absurd holds

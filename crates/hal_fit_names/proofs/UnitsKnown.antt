@@ -27,6 +27,7 @@ use Rattle.hal_values.specs.declared.tables.Tables.{Tables}
 use Rattle.hal_constants.specs.declared.constant.Constant.TheVariants as constant
 use Rattle.hal_constants.specs.Constants.{constant_of}
 use Rattle.hal_constants.specs.Known.{Known}
+use Rattle.hal_constants.specs.Naming.{is_value_item, value_at}
 use Rattle.hal_meaning.specs.Bodies as bodies
 use Rattle.hal_meaning.specs.Bodies.{Body, callee_at, called_block, is_called, is_process_head, processes_of, standing_for}
 use Rattle.hal_meaning.specs.Calls.{inputs_of}
@@ -54,8 +55,8 @@ use Rattle.hal_fit_names.specs.Known.{is_left_node}
 use Rattle.hal_fit_names.specs.Named.{AreFunctions, AreLeft, AreProcedures, FunctionParameters}
 use Rattle.hal_fit_names.specs.Serving.{AsksNothing, MayAsk, ServesUnit}
 use Rattle.hal_fit_names.specs.Spelled.{AreSpelled}
-use Rattle.hal_fit_names.specs.Standing.{StandsForData}
-use Rattle.hal_fit_names.specs.Suited.{NodeIsFit, is_in_file, HasFitLiterals, AreDeclared}
+use Rattle.hal_fit_names.specs.Standing.{StandsForData, StandsForItself}
+use Rattle.hal_fit_names.specs.Suited.{NodeIsFit, HasFitLiterals, AreDeclared}
 use Rattle.hal_fit_names.specs.Used.{IsDeclaredParameter, AreDeclaredParameters, HaveValues, IsHome, NamesAreOwn}
 use Rattle.hal_fit_names.proofs.Asking.{unasked, unasked_otherwise}
 use Rattle.hal_fit_names.proofs.Callable.{function_known, procedure_known}
@@ -88,7 +89,9 @@ module _ (image : ImageParts) (g : Ground) (u : Bool → Uses) (site : Site) (ho
     (declared : AreDeclared site.set.phrases) (literals : HasFitLiterals site.set.phrases) (spelled : AreSpelled site.set.phrases) (has : HasConstants site) (serves : ServesUnit site.set image u home)
     (owned : NamesAreOwn site.set.phrases)
     (written : (k : ℕ) (p : Phrase) (template : Naming) (head : Head) (declarations : List Declaration) → slice_get site.set.phrases k ≡ Some p → p.node ≡ OfTemplate template head declarations → is_process_head head ≡ true → StandsForProcess site.set.phrases k)
-    (pools : (k : ℕ) (p : Phrase) (common : List Attribute) (item : Declared) → slice_get site.set.phrases k ≡ Some p → p.node ≡ OfItem common item → StandsForData site.set.phrases k p common item ⊎ ((standing_for site.set.phrases k ≡ k) × (is_in_file site.set.phrases p.around.home ≡ false))) (valued : HaveValues site.set) (stands : IsHome g site home) (placed : (p : Phrase) → IsAmong p site.set.phrases → NodePlaced site.set.phrases p p.node)
+    (pools : (k : ℕ) (p : Phrase) (common : List Attribute) (item : Declared) → slice_get site.set.phrases k ≡ Some p → p.node ≡ OfItem common item → StandsForData site.set.phrases k p common item ⊎ StandsForItself site.set.phrases k p common item) (valued : HaveValues site.set)
+    (same : (k : ℕ) (p : Phrase) (common : List Attribute) (item : Declared) → slice_get site.set.phrases k ≡ Some p → p.node ≡ OfItem common item → is_value_item common item ≡ true
+    → (stands : StandsForData site.set.phrases k p common item) → value_at site.set.constants stands.phrase.number ≡ value_at site.set.constants p.number) (stands : IsHome g site home) (placed : (p : Phrase) → IsAmong p site.set.phrases → NodePlaced site.set.phrases p p.node)
     (bodied : (k : ℕ) (p : Phrase) (name : Naming) (head : Head) (declarations : List Declaration) → slice_get site.set.phrases k ≡ Some p → p.node ≡ OfUnit name head declarations → HasBody site.set.bodies k head)
     (united : (k : ℕ) (b : Body) → body_at site.set k ≡ Some b → IsUnitOf site.set.phrases k b)
     (inputs_known : (k : ℕ) (p : Phrase) (name : Naming) (head : Head) (declarations : List Declaration) → slice_get site.set.phrases k ≡ Some p → p.node ≡ OfUnit name head declarations
@@ -138,6 +141,7 @@ module _ (image : ImageParts) (g : Ground) (u : Bool → Uses) (site : Site) (ho
         standing = λ k p template head declarations meant there is process. written k p template head declarations there is process;
         pooled = λ k p common item meant there is. pools k p common item there is;
         valued = λ k p common item meant there is value_item. valued p common item (at_among site.set.phrases k p there) is value_item;
+        same = λ k p common item meant there is value_item stands_. same k p common item there is value_item stands_;
       }
 
       -- a unit that it means may be called where the phrase calls what the name means
@@ -202,7 +206,7 @@ module _ (image : ImageParts) (g : Ground) (u : Bool → Uses) (site : Site) (ho
 
   -- a channel
   channel_known : (q : Phrase) (r : Role) (tree : Expression) → ChannelKnown (within_block q.around.block site) site.set.phrases q r tree
-  channel_known q role.Channel tree = λ d begun. channel_agrees site named sound counted declared literals has owned placed q constants tree d begun
+  channel_known q role.Channel tree = λ d begun. channel_agrees site named sound counted declared literals has pools same placed q constants tree d begun
   channel_known q other tree = tt
 
   -- a reference

@@ -77,7 +77,7 @@ use Rattle.hal_fit_names.proofs.Holding.{Holds, IsSane, is_string_of, minus_suit
 use Rattle.hal_fit_names.proofs.Keeping.{Keeps, Precedes, constant_keeps, named_keeps, signed_keeps}
 use Rattle.hal_fit_names.proofs.MeantNames.{of_attributes}
 use Rattle.hal_fit_names.proofs.Placing.{ArePlaced, IsPlaced, NodePlaced, longer, one_longer}
-use Rattle.hal_fit_names.proofs.Rounds.{declared_known}
+use Rattle.hal_fit_names.proofs.Rounds.{declared_known, known_declared}
 use Rattle.hal_fit_names.proofs.Sizing.{hidden_kind_known, placed_precedes}
 use Rattle.hal_fit_names.proofs.Suiting.{literal_suits, suits, unless_true, whole_holds}
 use Rattle.hal_fit_names.proofs.Valuing.{IsValueName, in_class, named_sane, named_value, single, value_data}
@@ -422,6 +422,9 @@ one_or_one n is = by (n == 1) refl is where
   by true same so = eqb-true n 1 same
   by false other so = absurd (cc)
 
+list_same : (a b : Initials) → Some a ≡ Some b → a ≡ b
+list_same a b is = cc
+
 -- data that are no array and no structure have one cell
 one_cell : (ps : List Phrase) (vs : Known) (p : Phrase) (t : declarations.Kind) → is_structure_type (Some t) ≡ false → cells_of_kind ps vs p t None ≡ Some 1
 unfolding cells_of_kind extent_of is_structure_type
@@ -474,6 +477,9 @@ module _ (ps : List Phrase) (named : IsSound rows ps) (sound : IsSound type_rows
       (first_none (counted ps (known ps) p common item list_there.0) (valued ps (known ps) p common item list_there.0) begun_none).0 in
       one_or_one (count_with 0 list_there.0)
       (unless_true ((count_with 0 list_there.0 == 1) || (count_with 0 list_there.0 == 1)) item.name.place (ap (miscounted item.name.place (count_with 0 list_there.0)) (sym cells) ∙ none))
+
+  pub one_given : (list : Initials) → attributes.constant_of common item ≡ Some list → count_with 0 list ≡ 1
+  one_given list there = subst (λ (l : Initials). count_with 0 l ≡ 1) (list_same list_there.0 list (sym list_there.1 ∙ there)) counts_one
 
   -- which cells of its kind take
   module _ (hidden : value_at (known ps) p.number ≡ None) where
@@ -537,3 +543,14 @@ constants_are_told (f ∷ fs) counted_ q within =
     let d : List Phrase = gathered_prefaces (add [] a n) a 0 f.prefaces in
     let first = then_ (prefaces_first (add [] a n) a 0 f.prefaces) (then_ (block_first d (behind (length f.prefaces) a) f.block) (files_first (gathered_file [] f) fs)) in
     declared_known (phrases_of (f ∷ fs)) counted_ (phrase 0 a n) first.later first.whole refl q within
+
+-- and what is known of one is what it is by that
+pub constants_are_declared : (files : List File) → IsCounted (phrases_of files) → (q : Phrase) → IsAmong q (phrases_of files) → Gets (value_at (known (phrases_of files)) q.number) (declared_value (phrases_of files) (known (phrases_of files)) q q.node)
+unfolding phrases_of gathered_file is_file
+constants_are_declared [] counted_ q within = absurd within
+constants_are_declared (f ∷ fs) counted_ q within =
+    let a : Around = in_file 0 in
+    let n : Node = OfFile f.prefaces (name_of_block f.block) in
+    let d : List Phrase = gathered_prefaces (add [] a n) a 0 f.prefaces in
+    let first = then_ (prefaces_first (add [] a n) a 0 f.prefaces) (then_ (block_first d (behind (length f.prefaces) a) f.block) (files_first (gathered_file [] f) fs)) in
+    known_declared (phrases_of (f ∷ fs)) counted_ (phrase 0 a n) first.later first.whole refl q within

@@ -8,25 +8,27 @@ use Rattle.hal_phrases.specs.Phrases.{Phrase, OfTemplate, OfUnit, OfItem}
 use Rattle.hal_names.specs.Means.{means}
 use Rattle.hal_values.specs.declared.value.Value.{Value}
 use Rattle.hal_constants.specs.Naming.{is_value_item, value_at}
-use Rattle.hal_meaning.specs.Bodies.{is_process_head, standing_for}
+use Rattle.hal_meaning.specs.Bodies.{is_process_head}
 use Rattle.hal_agreement.specs.Sites.{Site}
 use Rattle.hal_fit_expr.specs.Uses.{Uses}
 use Rattle.hal_fit_rules.specs.Happening.{StandsForProcess}
 use Rattle.hal_fit_rules.specs.Owned.{IsFunction}
 use Rattle.hal_fit_rules.specs.Passing.{AreParameters, IsProcedure}
-use Rattle.hal_fit_names.specs.Standing.{StandsForData}
-use Rattle.hal_fit_names.specs.Suited.{is_in_file, shows_parts}
+use Rattle.hal_fit_names.specs.Standing.{StandsForData, StandsForItself}
+use Rattle.hal_fit_names.specs.Suited.{shows_parts}
 
--- it means no written template of a unit that is called, no constant of one, and no event of one but a COMPOOL's; a template of a process stands for the process, and other data for those of a COMPOOL, or
--- for themselves; and it has a value where it means a constant that is its value
+-- it means no written template of a unit that is called; a template of a process stands for the process, and other data for those of a COMPOOL, or
+-- for themselves; and it has a value where it means a constant that is its value, which is that of the COMPOOL's constant
 pub record AreLeft (site : Site) (name : List ℕ) : Type 0 where
-  pub untemplated : (k : ℕ) (p : Phrase) → means site.set.phrases site.block name ≡ Some k → slice_get site.set.phrases k ≡ Some p → shows_parts site.set.phrases p p.node ≡ false
+  pub untemplated : (k : ℕ) (p : Phrase) → means site.set.phrases site.block name ≡ Some k → slice_get site.set.phrases k ≡ Some p → shows_parts p.node ≡ false
   pub standing : (k : ℕ) (p : Phrase) (template : Naming) (head : Head) (declarations : List Declaration) → means site.set.phrases site.block name ≡ Some k → slice_get site.set.phrases k ≡ Some p
       → p.node ≡ OfTemplate template head declarations → is_process_head head ≡ true → StandsForProcess site.set.phrases k
   pub pooled : (k : ℕ) (p : Phrase) (common : List Attribute) (item : Declared) → means site.set.phrases site.block name ≡ Some k → slice_get site.set.phrases k ≡ Some p → p.node ≡ OfItem common item
-      → StandsForData site.set.phrases k p common item ⊎ ((standing_for site.set.phrases k ≡ k) × (is_in_file site.set.phrases p.around.home ≡ false))
+      → StandsForData site.set.phrases k p common item ⊎ StandsForItself site.set.phrases k p common item
   pub valued : (k : ℕ) (p : Phrase) (common : List Attribute) (item : Declared) → means site.set.phrases site.block name ≡ Some k → slice_get site.set.phrases k ≡ Some p → p.node ≡ OfItem common item
       → is_value_item common item ≡ true → (v : Value) × (value_at site.set.constants p.number ≡ Some v)
+  pub same : (k : ℕ) (p : Phrase) (common : List Attribute) (item : Declared) → means site.set.phrases site.block name ≡ Some k → slice_get site.set.phrases k ≡ Some p → p.node ≡ OfItem common item
+      → is_value_item common item ≡ true → (stands : StandsForData site.set.phrases k p common item) → value_at site.set.constants stands.phrase.number ≡ value_at site.set.constants p.number
 
 -- a FUNCTION that it means may be called
 abbrev pub AreFunctions : Uses → Site → List ℕ → Type 0

@@ -63,16 +63,11 @@ is_templated ps p other = false
 abbrev pub is_plain : List Attribute → Declared → Bool
 is_plain common item = not (is_event_type (type_of common item)) && not (is_value_item common item)
 
--- whether they are an event
-abbrev pub is_event : List Attribute → Declared → Bool
-is_event common item = is_event_type (type_of common item) && not (is_value_item common item)
-
 -- whether names belong to a file
 abbrev pub is_in_file : List Phrase → ℕ → Bool
 is_in_file ps home = elim (slice_get ps home) [ None ↦ false | Some f ↦ is_some (prefaces_of f.node) ]
 
--- whether it is one by which a part of its unit is seen: the template of a unit that is called, or data that a template declares, that aren't plain and no event of a COMPOOL
-abbrev pub shows_parts : List Phrase → Phrase → Node → Bool
-shows_parts ps p (OfTemplate name head declarations) = is_called_head head
-shows_parts ps p (OfItem common item) = not (is_in_unit ps p.around.home) && (not (is_plain common item) && not (is_event common item && is_in_file ps p.around.home))
-shows_parts ps p other = false
+-- whether it is a template by which the parameters of its unit are seen: that of a unit that is called
+abbrev pub shows_parts : Node → Bool
+shows_parts (OfTemplate name head declarations) = is_called_head head
+shows_parts other = false

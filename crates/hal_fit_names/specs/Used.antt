@@ -37,9 +37,9 @@ abbrev pub AreDeclaredParameters : List Phrase → ℕ → List Naming → Type 
 AreDeclaredParameters ps unit [] = Unit {0}
 AreDeclaredParameters ps unit (name ∷ names) = IsDeclaredParameter ps unit name × AreDeclaredParameters ps unit names
 
--- no name means a written template of a unit that is called, a constant that a template declares, or an event of a template but a COMPOOL's
+-- no name means a written template of a unit that is called
 abbrev pub NamesAreOwn : List Phrase → Type 0
-NamesAreOwn ps = (block : ℕ) (name : List ℕ) (k : ℕ) (p : Phrase) → means ps block name ≡ Some k → slice_get ps k ≡ Some p → shows_parts ps p p.node ≡ false
+NamesAreOwn ps = (block : ℕ) (name : List ℕ) (k : ℕ) (p : Phrase) → means ps block name ≡ Some k → slice_get ps k ≡ Some p → shows_parts p.node ≡ false
 
 -- constants of a set that are their values have values
 abbrev pub HaveValues : Set → Type 0

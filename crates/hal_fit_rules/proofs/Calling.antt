@@ -28,7 +28,7 @@ use Rattle.hal_fit_rules.specs.Owned.{IsOwn, IsPlainData, IsTemporary, IsFunctio
 use Rattle.hal_fit_rules.specs.Happening.{IsEvent}
 use Rattle.hal_fit_rules.specs.Passed.{ProcedureAgrees}
 use Rattle.hal_fit_rules.specs.Passing.{AreParameters, IsProcedure}
-use Rattle.hal_fit_rules.specs.Parameters.{ParametersAgree}
+use Rattle.hal_fit_rules.specs.Parameters.{ParametersAgree, spelled}
 use Rattle.hal_fit_rules.proofs.Declaring.{lying, item_alike, item_meant_so, temporary_alike, meant_itself, meant_standing, function_gives}
 use Rattle.hal_fit_rules.proofs.Happening.{event_data, event_numbered, when_true}
 use Rattle.hal_fit_rules.proofs.Parameters.{parameters_agree}
@@ -61,7 +61,7 @@ module _ (u : Uses) (site : Site) where
   pub function_formed : (name : List ℕ) (own : IsOwn site name) → IsCounted site.set.phrases → (is : IsFunction u site own.phrase) → AreParameters site own.phrase.number is.inputs → FormAgrees u site site.set.phrases site.block name
   function_formed name own counted is are =
       formed_by name own (OfUnit is.name (Function is.place is.inputs is.returns is.mode) is.declarations) (MeantBlock own.phrase.number) is.declares refl (record {
-        taken = taken_by own.phrase.number is.body (Function is.place is.inputs is.returns is.mode) is.unit is.head;
+        taken = ap spelled (taken_by own.phrase.number is.body (Function is.place is.inputs is.returns is.mode) is.unit is.head);
         parameters = parameters_of own.number own.phrase.number is.inputs (counted own.number own.phrase own.there) are;
         gives = function_gives u site own.phrase is;
       })
@@ -119,7 +119,7 @@ module _ (u : Uses) (site : Site) where
         head = ap head_of is.declares;
         unit = own.phrase.number;
         meant = meant_itself u site name.name own ∙ ap (meant_by (here_at site) [] own.phrase) is.declares;
-        taken = taken_by own.phrase.number is.body head is.unit is.head;
+        taken = ap spelled (taken_by own.phrase.number is.body head is.unit is.head);
         calls = is.calls;
         parameters = parameters_of own.number own.phrase.number is.inputs (counted own.number own.phrase own.there) is.parameters;
       }

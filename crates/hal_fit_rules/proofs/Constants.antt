@@ -7,6 +7,7 @@ use Rattle.hal_grammar.specs.Declarations.{Kind, IntegerKind, BooleanKind, Event
 use Rattle.hal_grammar.specs.Expressions.{Expressions}
 use Rattle.hal_phrases.specs.Phrases.{Phrase, OfItem}
 use Rattle.hal_names.specs.Laws.{IsCounted}
+use Rattle.hal_names.specs.Means.{means}
 use Rattle.hal_scope.specs.Rules.{IsAmong}
 use Rattle.hal_scope.specs.Sorts.{type_of}
 use Rattle.hal_scope.specs.Uses.{is_nil}
@@ -28,7 +29,8 @@ use Rattle.hal_constants.specs.declared.constant.Constant.TheVariants as constan
 use Rattle.hal_constants.specs.Known.{Known, kind_of_item, kind_of_type, kept, fitted, only_in, declared_value, noted, round, rounds, starts_round, nothing_known, known}
 use Rattle.hal_constants.specs.Naming.{is_value_item, value_at}
 use Rattle.hal_constants.specs.Operands.{is_storable, is_string}
-use Rattle.hal_meaning.specs.Variables.{MeantConstant, meant_by}
+use Rattle.hal_meaning.specs.Bodies.{standing_for}
+use Rattle.hal_meaning.specs.Variables.{MeantConstant, meant_by, name_meant}
 use Rattle.hal_code.specs.Sorts.{Sort, I, B, T, sort_of}
 use Rattle.hal_agreement.specs.Sites.{Site, here_at}
 use Rattle.hal_fit_expr.specs.Uses.{Uses}
@@ -37,8 +39,8 @@ use Rattle.hal_fit_classes.specs.Kinded.{sort_of_class}
 use Rattle.hal_fit_rules.specs.Agreeing.{IsSingle, NameAgrees, FormAgrees}
 use Rattle.hal_fit_rules.specs.Owned.{IsOwn}
 use Rattle.hal_fit_rules.specs.Valued.{HasConstants, IsConstantItem}
-use Rattle.hal_fit_rules.proofs.Calling.{formed_by}
-use Rattle.hal_fit_rules.proofs.Declaring.{agrees_by, cells_of_type}
+use Rattle.hal_fit_rules.proofs.Calling.{formed_as}
+use Rattle.hal_fit_rules.proofs.Declaring.{agrees_as, cells_of_type, meant_standing}
 use Rattle.hal_fit_rules.proofs.Happening.{when_true}
 
 -- what a cell keeps of a value has the sort of the cell's kind
@@ -213,29 +215,42 @@ module _ (u : Uses) (site : Site) (counted : IsCounted site.set.phrases) (has : 
   unfolding data_at is_nil data_of dimensions_of
   constant_data p is unsized = ap (data_of (type_of is.common is.item)) unsized ∙ ap (λ o. data_of o None) is.typed
 
-  constant_single : (name : List ℕ) (own : IsOwn site name) (is : IsConstantItem site own.phrase) → IsSingle (data_at site.set.phrases own.phrase [] (OfItem is.common is.item)) (sort_of_meant u site [] (MeantConstant is.value))
-  constant_single name own is =
+  -- a constant is a single value for the checks
+  constant_single : (k : ℕ) (p : Phrase) → slice_get site.set.phrases k ≡ Some p → (is : IsConstantItem site p) → IsSingle (data_at site.set.phrases p [] (OfItem is.common is.item)) (sort_of_meant u site [] (MeantConstant is.value))
+  constant_single k p there is =
       let parts = and_parts (is_some (attributes.constant_of is.common is.item)) (not (is_some (sizes_of is.common is.item)) && not (is_structure_type (type_of is.common is.item))) is.valued in
       let rest = and_parts (not (is_some (sizes_of is.common is.item))) (not (is_structure_type (type_of is.common is.item))) parts.1 in
       let plain : is_structure_type (Some is.kind) ≡ false = ap is_structure_type (sym is.typed) ∙ not_true (is_structure_type (type_of is.common is.item)) rest.1 in
       let has_sort = type_sort is.kind plain in
       record {
         declared = data_with (class_of_type is.kind) zero (has_copies is.kind);
-        known = constant_data own.phrase is (no_sizes (sizes_of is.common is.item) (not_true (is_some (sizes_of is.common is.item)) rest.0));
+        known = constant_data p is (no_sizes (sizes_of is.common is.item) (not_true (is_some (sizes_of is.common is.item)) rest.0));
         single = refl;
         alone = has_sort.2;
         worth = has_sort.0;
         class = has_sort.1;
-        sorted = constant_sorted own.number own.phrase has_sort.0 own.there is has_sort.1;
+        sorted = constant_sorted k p has_sort.0 there is has_sort.1;
       }
 
-  constant_meant : (name : List ℕ) (own : IsOwn site name) (is : IsConstantItem site own.phrase) → meant_by (here_at site) [] own.phrase (OfItem is.common is.item) ≡ MeantConstant is.value
-  constant_meant name own is =
+  constant_meant : (q : Phrase) (is : IsConstantItem site q) → meant_by (here_at site) [] q (OfItem is.common is.item) ≡ MeantConstant is.value
+  constant_meant q is =
       when_false (is_event_type (type_of is.common is.item)) _ _ (ap is_event_type is.typed ∙ is.eventless)
       ∙ (when_true (is_value_item is.common is.item) _ _ is.valued ∙ ap (λ (o : Option Value). MeantConstant (unwrap_or o (value.Int (pos 0)))) is.worth)
 
+  -- one that stands for another one with the same value
+  module _ (name : List ℕ) (k : ℕ) (p : Phrase) (meant : means site.set.phrases site.block name ≡ Some k) (there : slice_get site.set.phrases k ≡ Some p) (is : IsConstantItem site p) (j : ℕ) (q : Phrase)
+      (stands : standing_for site.set.phrases k ≡ j) (at : slice_get site.set.phrases j ≡ Some q) (other : IsConstantItem site q) (same : other.value ≡ is.value) where
+    means_value : name_meant (here_at site) name [] ≡ MeantConstant is.value
+    means_value = meant_standing u site name k j q meant stands at ∙ (ap (meant_by (here_at site) [] q) other.declares ∙ (constant_meant q other ∙ ap (λ (v : Value). MeantConstant v) same))
+
+    pub constant_agrees_as : NameAgrees u site site.set.phrases site.block name []
+    constant_agrees_as = agrees_as u site [] name k p (OfItem is.common is.item) (MeantConstant is.value) meant there is.declares means_value (constant_single k p there is)
+
+    pub constant_formed_as : FormAgrees u site site.set.phrases site.block name
+    constant_formed_as = formed_as u site name k p (OfItem is.common is.item) (MeantConstant is.value) meant there is.declares means_value (constant_single k p there is)
+
   pub constant_agrees : (name : List ℕ) (own : IsOwn site name) → IsConstantItem site own.phrase → NameAgrees u site site.set.phrases site.block name []
-  constant_agrees name own is = agrees_by u site name own (OfItem is.common is.item) (MeantConstant is.value) is.declares (constant_meant name own is) (constant_single name own is)
+  constant_agrees name own is = constant_agrees_as name own.number own.phrase own.meant own.there is own.number own.phrase own.own own.there is refl
 
   pub constant_formed : (name : List ℕ) (own : IsOwn site name) → IsConstantItem site own.phrase → FormAgrees u site site.set.phrases site.block name
-  constant_formed name own is = formed_by u site name own (OfItem is.common is.item) (MeantConstant is.value) is.declares (constant_meant name own is) (constant_single name own is)
+  constant_formed name own is = constant_formed_as name own.number own.phrase own.meant own.there is own.number own.phrase own.own own.there is refl

@@ -52,7 +52,7 @@ use Rattle.hal_fit_rules.proofs.BegunExpressions.{expressions_first}
 use Rattle.hal_fit_rules.proofs.Unbroken.{no_rule, ruled_none, unbroken, of_uses, of_sizes}
 use Rattle.hal_fit_rules.proofs.Cells.{same_sort}
 use Rattle.hal_fit_rules.proofs.Choosing.{one_chosen}
-use Rattle.hal_fit_rules.proofs.Passing.{AreAreas, argument_known, arguments_right}
+use Rattle.hal_fit_rules.proofs.Passing.{arguments_spelled, AreAreas, argument_known, arguments_right}
 
 text_sort : (c : Class) → misfit want.Text c ≡ None → sort_of_class c ≡ Some T
 unfolding misfit misfit_of_value misfit_of_condition misfit_of_whole
@@ -242,7 +242,7 @@ module _ (u : Uses) (site : Site) where
       head_formed k (Function at_ inputs returns mode) (MeantBlock unit) agree none fits =
           let counts = counted_right (length inputs == count_of ts) (705, place) (condition_fault ps a.block ts) none in
           let right : arguments_fit u site unit (inputs_at site.set unit) ts ≡ true =
-          ap (λ names. arguments_fit u site unit names ts) agree.taken
+          arguments_spelled u site unit (inputs_at site.set unit) inputs ts agree.taken
           ∙ arguments_right u site ps sound p d a role.Argument k unit inputs ts same refl begun agree.parameters leaves areas counts.1 counts.0 fits in
           record { found = agree.gives.found; known = agree.gives.known; sorted = λ one s of_one worth. ap (λ b. if b then sort_of_call u site unit else None) right ∙ agree.gives.sorted one s of_one worth }
       head_formed k (Function at_ inputs returns mode) (MeantData at shape) agree none fits = absurd agree

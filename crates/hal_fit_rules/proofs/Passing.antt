@@ -39,7 +39,7 @@ use Rattle.hal_fit_rules.specs.Begun.{AreFirst}
 use Rattle.hal_fit_rules.specs.Leaves.{is_value_role, HasKnownLeaves, HaveKnownLeaves}
 use Rattle.hal_fit_rules.proofs.Beginning.{then_}
 use Rattle.hal_fit_rules.proofs.BegunExpressions.{expressions_first}
-use Rattle.hal_fit_rules.specs.Parameters.{ParametersAgree}
+use Rattle.hal_fit_rules.specs.Parameters.{ParametersAgree, spelled}
 use Rattle.hal_fit_rules.proofs.Unbroken.{value_eventless}
 use Rattle.hal_fit_rules.proofs.Kinding.{kinded, wanted_of}
 use Rattle.hal_fit_rules.proofs.Cells.{goes, kind_takes}
@@ -274,3 +274,17 @@ module _ (u : Uses) (site : Site) (ps : List Phrase) (sound : IsSound type_rows 
         and_from _ (arguments_fit u site unit names others)
         (argument_right a.block par.phrase par.common par.item par.kind first unit name has.0 (is_whole (parameter_named site.set unit name).shape) same has.1 has.2 split.0 (sym par.whole) typed par.sorted areas.0)
         (arguments_right (gathered d a r first) a r k unit names others same value begun agree.1 leaves.1 areas.1 split.1 (one_less (length names) (count_of others) counted) fits.1)
+
+-- arguments fit parameters by their names, wherever these stand
+pub arguments_spelled : (u : Uses) (site : Site) (unit : ℕ) (names others : List Naming) (ts : Expressions) → spelled names ≡ spelled others → arguments_fit u site unit names ts ≡ arguments_fit u site unit others ts
+arguments_spelled u site unit [] [] ts same = refl
+arguments_spelled u site unit [] (m ∷ ms) ts same = absurd (cc)
+arguments_spelled u site unit (n ∷ ns) [] ts same = absurd (cc)
+arguments_spelled u site unit (n ∷ ns) (m ∷ ms) NoExpressions same = refl
+arguments_spelled u site unit (n ∷ ns) (m ∷ ms) (MoreExpressions first more) same =
+    let one : n.name ≡ m.name = cc in
+    let rest : spelled ns ≡ spelled ms = cc in
+    ap (λ (a : List ℕ). passed_fits (is_whole (parameter_named site.set unit (record { place = n.place; name = a })).shape) (whole_fits u site first)
+    (is_taken (kind_of_first (parameter_named site.set unit (record { place = n.place; name = a })).shape.components) (sort_of_expression u site first)) && arguments_fit u site unit ns more) one
+    ∙ ap (λ b. passed_fits (is_whole (parameter_named site.set unit m).shape) (whole_fits u site first) (is_taken (kind_of_first (parameter_named site.set unit m).shape.components) (sort_of_expression u site first)) && b)
+    (arguments_spelled u site unit ns ms more rest)

@@ -36,7 +36,7 @@ use Rattle.hal_fit_rules.proofs.BegunStatements.{receivers_first}
 use Rattle.hal_fit_rules.proofs.Unbroken.{ruled_none, unbroken, of_uses, of_sizes}
 use Rattle.hal_fit_rules.proofs.Choosing.{SubscriptRight, places_right}
 use Rattle.hal_fit_rules.proofs.Agreeing.{all_known, areas_known, subscript_known}
-use Rattle.hal_fit_rules.proofs.Passing.{arguments_right}
+use Rattle.hal_fit_rules.proofs.Passing.{arguments_spelled, arguments_right}
 use Rattle.hal_fit_rules.proofs.Signalling.{kept_unless}
 
 module _ (u : Uses) (site : Site) (ps : List Phrase) (sound : IsSound type_rows ps) where
@@ -109,5 +109,5 @@ module _ (u : Uses) (site : Site) (ps : List Phrase) (sound : IsSound type_rows 
   call_agrees d a name ts receivers begun agree =
       let f : List Phrase = gathered_all (add d a (OfCall name ts receivers)) (below d a) role.Input ts in
       let fits : arguments_fit u site agree.procedure.unit (inputs_at site.set agree.procedure.unit) ts ≡ true =
-      ap (λ names. arguments_fit u site agree.procedure.unit names ts) agree.procedure.taken ∙ call_right d a name ts receivers (then_ (receivers_first (below d a) role.Output f receivers) begun) agree in
+      arguments_spelled u site agree.procedure.unit (inputs_at site.set agree.procedure.unit) agree.procedure.inputs ts agree.procedure.taken ∙ call_right d a name ts receivers (then_ (receivers_first (below d a) role.Output f receivers) begun) agree in
       subst (λ (m : Meant). CallFits u site ts receivers m) (sym agree.procedure.meant) (agree.procedure.calls, fits, areas_right f (below d a) role.Output receivers begun agree.areas)

@@ -22,7 +22,7 @@ use Rattle.hal_fit_expr.specs.Uses.{Uses}
 use Rattle.hal_fit_expr.specs.Sorted.{sort_of_call, sort_of_meant}
 use Rattle.hal_fit_classes.specs.Kinded.{sort_of_class, IsFitLiteral}
 use Rattle.hal_fit_rules.specs.Leaves.{IsKnown}
-use Rattle.hal_fit_rules.specs.Parameters.{ParametersAgree}
+use Rattle.hal_fit_rules.specs.Parameters.{ParametersAgree, spelled}
 
 -- data that the checks know at the end of a path are what the meaning has there: of the same sort, and an array where that has one
 pub record AreAlike (found : Option Data) (path : List Naming) (shape : Shape) : Type 0 where
@@ -70,7 +70,7 @@ NameAgrees u site ps block name path = DeclarationAgrees u site ps name path (me
 
 -- the call form of a FUNCTION that a phrase declares with this number, of which the unit takes the same arguments and gives a value; of another head a rule is broken
 pub record FunctionAgrees (u : Uses) (site : Site) (ps : List Phrase) (declared : ℕ) (inputs : List Naming) (returns : Returns) (unit : ℕ) : Type 0 where
-  pub taken : inputs_at site.set unit ≡ inputs
+  pub taken : spelled (inputs_at site.set unit) ≡ spelled inputs
   pub parameters : ParametersAgree site ps declared unit inputs
   pub gives : IsKnown (class_of_returns returns) (sort_of_call u site unit)
 

@@ -1,5 +1,5 @@
 -- Parameters that are for the meaning what they are for the checks.
-use Rattle.std.specs.Prelude.{◌≡◌, ℕ, List, [], ◌∷◌, Some}
+use Rattle.std.specs.Prelude.{◌≡◌, ℕ, List, [], ◌∷◌, map, Some}
 use Rattle.hal_grammar.specs.Leaves.{Naming}
 use Rattle.hal_grammar.specs.Declarations.{Kind, Attribute, Declared}
 use Rattle.hal_phrases.specs.Phrases.{Phrase, OfItem}
@@ -12,6 +12,10 @@ use Rattle.hal_meaning.specs.Variables.{kind_of_first, is_whole}
 use Rattle.hal_code.specs.Sorts.{Sort, sort_of}
 use Rattle.hal_agreement.specs.Sites.{Site}
 use Rattle.hal_fit_classes.specs.Kinded.{sort_of_class}
+
+-- names in order, wherever they stand
+abbrev pub spelled : List Naming → List (List ℕ)
+spelled names = map (λ (n : Naming). n.name) names
 
 -- an input parameter of this name that the block with the first number declares, and the unit with the second one has: it is an array or a structure for both, or a
 -- single value of the same sort

@@ -13,7 +13,7 @@ use Rattle.hal_agreement.specs.Sites.{Site, here_at}
 use Rattle.hal_fit_expr.specs.Uses.{Uses}
 use Rattle.hal_fit_rules.specs.Agreeing.{AllAgree}
 use Rattle.hal_fit_rules.specs.Received.{ReceiverAgrees}
-use Rattle.hal_fit_rules.specs.Parameters.{ParametersAgree}
+use Rattle.hal_fit_rules.specs.Parameters.{ParametersAgree, spelled}
 
 -- ASSIGN arguments
 abbrev pub AreasAgree : Uses → Site → List Phrase → ℕ → List Reference → Type 0
@@ -33,7 +33,7 @@ pub record ProcedureAgrees (u : Uses) (site : Site) (ps : List Phrase) (block : 
   pub head : head_of phrase.node ≡ Some (Procedure place inputs outputs mode)
   pub unit : ℕ
   pub meant : name_meant (here_at site) name.name [] ≡ MeantBlock unit
-  pub taken : inputs_at site.set unit ≡ inputs
+  pub taken : spelled (inputs_at site.set unit) ≡ spelled inputs
   pub calls : u.calls unit ≡ true
   pub parameters : ParametersAgree site ps declared unit inputs
 
