@@ -31,6 +31,9 @@ mod Worth
 mod Processes
 mod Channelled
 mod Standing
+mod Twins
+mod CalledParameters
+mod CalledTemplates
 mod Pooled
 mod FirstValues
 mod SameValues

@@ -90,7 +90,7 @@ module _ (ps : List Phrase) (sound : IsSound type_rows ps) (r : Phrase) (common 
 module _ (ps : List Phrase) (named : IsSound rows ps) (sound : IsSound type_rows ps) (sizes : HaveSizes ps) (found : (q : Key) (n : ℕ) → own ps q ≡ Some n → IsFirst ps q n) (lacking : (q : Key) → own ps q ≡ None → IsUndeclared ps q)
     (k : ℕ) (name : Naming) (input : IsInput ps k name) where
   -- the unit has a parameter of the name
-  has_parameter : (o : Option ℕ) → own ps (key space.Parameter k name.name) ≡ o → is_some o ≡ true
+  pub has_parameter : (o : Option ℕ) → own ps (key space.Parameter k name.name) ≡ o → is_some o ≡ true
   unfolding declared_at
   has_parameter (Some j) is = refl
   has_parameter None is =

@@ -36,7 +36,7 @@ use Rattle.hal_fit_names.specs.Suited.{AreDeclared, HasFitLiterals}
 use Rattle.hal_fit_names.proofs.Declaring.{cells_known}
 use Rattle.hal_fit_names.proofs.Placing.{NodePlaced, at_among}
 
-typed_same : (o : Option Kind) → true ≡ is_some o → (t : Kind) × (o ≡ Some t)
+pub typed_same : (o : Option Kind) → true ≡ is_some o → (t : Kind) × (o ≡ Some t)
 typed_same None is = absurd (cc)
 typed_same (Some t) is = (t, refl)
 

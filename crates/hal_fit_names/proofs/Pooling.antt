@@ -40,10 +40,10 @@ pub record IsPooled (ps : List Phrase) (home : ℕ) (prefaces : List Preface) (n
   pub is : phrase.node ≡ OfTemplate template head declarations
   pub here : phrase.around.home ≡ home
 
--- what holds data of this name: a unit, a template that isn't a COMPOOL's and declares them, or a file that is given such data
+-- what holds data of this name: a unit or a template that isn't a COMPOOL's, which declares them, or a file that is given such data
 abbrev pub HoldsData : List Phrase → ℕ → Node → List ℕ → Type 0
 HoldsData ps home (OfFile prefaces unit) name = IsPooled ps home prefaces name
-HoldsData ps home (OfUnit unit head declarations) name = Unit {0}
+HoldsData ps home (OfUnit unit head declarations) name = list_any (declares name) declarations ≡ true
 HoldsData ps home (OfTemplate template head declarations) name = (is_compool_head head ≡ false) × (list_any (declares name) declarations ≡ true)
 HoldsData ps home other name = ⊥
 
@@ -233,7 +233,7 @@ module _ (ps : List Phrase) where
         more (one d a n tt)
         (where_begun d1 (gathered_any (gathered_close b) d4 close)
         (begun.then_ (head_first d1 b head) (begun.then_ (declarations_first b d2 declarations) (begun.then_ (elements_first d3 b body) (close_first b d4 close)))) (λ start.
-        more (head_holding d1 b head) (more (declarations_holding b d2 declarations (λ name_ is. record { phrase = phrase (length d) a n; there = begun.there ps d a n start; holds = tt }))
+        more (head_holding d1 b head) (more (declarations_holding b d2 declarations (λ name_ is. record { phrase = phrase (length d) a n; there = begun.there ps d a n start; holds = is }))
         (more (elements_holding d3 b body) (close_holding b d4 close)))))
 
     elements_holding : (d : List Phrase) (a : Around) (x : Elements) → Holding d (gathered_elements d a x)

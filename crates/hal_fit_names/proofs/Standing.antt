@@ -40,11 +40,11 @@ use Rattle.hal_fit_names.proofs.Placing.{at_among}
 use Rattle.hal_fit_names.proofs.Pooling.{AreHeld, HoldsData, IsPooled, NodeHeld, data_are_held}
 
 -- data of a name among what declarations declare
-record IsEntry (name : List ℕ) (nodes : List Node) : Type 0 where
-  common : List Attribute
-  item : Declared
-  within : IsAmong (OfItem common item) nodes
-  named : item.name.name ≡ name
+pub record IsEntry (name : List ℕ) (nodes : List Node) : Type 0 where
+  pub common : List Attribute
+  pub item : Declared
+  pub within : IsAmong (OfItem common item) nodes
+  pub named : item.name.name ≡ name
 
 later_entry : (name : List ℕ) (xs ys : List Node) → IsEntry name ys → IsEntry name (xs ++ ys)
 later_entry name [] ys is = is
@@ -65,7 +65,7 @@ item_entry name common (x ∷ xs) is = by (bytes_eq x.name.name name) refl is (i
   by true same is rest = record { common = common; item = x; within = inl refl; named = (bytes_eq-Decides x.name.name name).0 same }
   by false differs is rest = let one = rest is in record { common = one.common; item = one.item; within = inr one.within; named = one.named }
 
-declared_entry : (name : List ℕ) (declarations : List Declaration) → list_any (declares name) declarations ≡ true → IsEntry name (entries declarations)
+pub declared_entry : (name : List ℕ) (declarations : List Declaration) → list_any (declares name) declarations ≡ true → IsEntry name (entries declarations)
 unfolding entries entries_of
 declared_entry name [] is = absurd (cc)
 declared_entry name (Declare place common items ∷ ds) is = by (list_any (λ (item : Declared). bytes_eq item.name.name name) items) refl is (declared_entry name ds) where
@@ -130,7 +130,7 @@ compool_same (Task place) is = absurd (cc)
 compool_same (Procedure place inputs outputs mode) is = absurd (cc)
 compool_same (Function place inputs returns mode) is = absurd (cc)
 
-other_head : (head : Head) → is_compool_head head ≡ false → is_compool head ≡ false
+pub other_head : (head : Head) → is_compool_head head ≡ false → is_compool head ≡ false
 unfolding is_compool
 other_head (Compool place) is = absurd (cc)
 other_head (Program place) is = refl

@@ -4,5 +4,6 @@ pub mod Named
 pub mod Serving
 pub mod Bodied
 pub mod Known
+pub mod Called
 pub mod Used
 pub mod Spelled

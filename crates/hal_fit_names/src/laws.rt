@@ -12,7 +12,7 @@ ghost use Rattle.hal_phrases.specs.declared.role.Role.{Role};
 ghost use Rattle.hal_phrases.specs.declared.role.Role.TheVariants as role;
 ghost use Rattle.hal_phrases.specs.GatheredExpressions.{gathered};
 ghost use Rattle.hal_phrases.specs.GatheredUnits.{phrases_of};
-ghost use Rattle.hal_phrases.specs.Phrases.{OfCall, OfCallForm, OfEvent, OfFile, OfItem, OfReference, OfSubscriptName, OfTemporaryGroup, OfUnit, OfVariable, Phrase};
+ghost use Rattle.hal_phrases.specs.Phrases.{OfCall, OfCallForm, OfEvent, OfFile, OfItem, OfReference, OfSubscriptName, OfTemplate, OfTemporaryGroup, OfUnit, OfVariable, Phrase};
 ghost use Rattle.hal_names.specs.Means.{means};
 ghost use Rattle.hal_scope.specs.Rules.{IsAmong, IsSound, rows};
 ghost use Rattle.hal_scope.specs.declared.usage.Usage.TheVariants as usage;
@@ -28,7 +28,7 @@ ghost use Rattle.hal_constants.specs.Constants.{constant_of};
 ghost use Rattle.hal_constants.specs.Known.{kind_of_type, known};
 ghost use Rattle.hal_constants.specs.Naming.{is_value_item};
 ghost use Rattle.hal_shapes.specs.Arguments.{parameter_of};
-ghost use Rattle.hal_meaning.specs.Bodies.{bodies_of, Body};
+ghost use Rattle.hal_meaning.specs.Bodies.{bodies_of, is_called_head, Body};
 ghost use Rattle.hal_meaning.specs.Calls.{inputs_of};
 ghost use Rattle.hal_meaning.specs.Sets.{body_at, Set};
 ghost use Rattle.hal_meaning.specs.Variables.{name_meant};
@@ -46,6 +46,7 @@ ghost use Rattle.hal_fit_rules.specs.Received.{CellsAgree};
 ghost use Rattle.hal_fit_rules.specs.Signalled.{EventAgrees, HasEvents};
 ghost use Rattle.hal_fit_rules.specs.Used.{PhraseKnown, UnitKnown};
 ghost use Rattle.hal_fit_rules.specs.Valued.{HasConstants};
+ghost use Rattle.hal_fit_names.specs.Called.{StandsForCalled};
 ghost use Rattle.hal_fit_names.specs.Bodied.{HasBody, IsUnitOf};
 ghost use Rattle.hal_fit_names.specs.Known.{is_left_node};
 ghost use Rattle.hal_fit_names.specs.Named.{AreFunctions, AreLeft, AreProcedures, FunctionParameters};
@@ -239,6 +240,20 @@ pub fn data_of_written_templates_stand_for_those_of_units()
         → IsSound rows (phrases_of files) → slice_get (phrases_of files) k ≡ Some p → p.node ≡ OfItem common item → slice_get (phrases_of files) p.around.home ≡ Some f
         → f.node ≡ OfFile prefaces unit → StandsForData (phrases_of files) k p common item }
 {
+    a_written_template_gives_what_its_unit_shows();
+}
+
+/// A written template of a PROCEDURE or FUNCTION stands for the unit of its name, which has the same names of input parameters; and each that the template declares is for
+/// the unit what it is for the checks: an array or a structure for both, or a single value of one sort (language document, Templates and Calls).
+pub fn templates_of_called_units_stand_for_them()
+    ensures { (files : List File) (site : Site) (k : ℕ) (p : Phrase) (template : Naming) (head : Head) (declarations : List Declaration) → site.set.phrases ≡ phrases_of files → HasConstants site
+        → IsSound template_rows (phrases_of files) → IsSound rows (phrases_of files) → IsSound type_rows (phrases_of files) → HasFitLiterals (phrases_of files) → HaveSizes (phrases_of files)
+        → slice_get (phrases_of files) k ≡ Some p → p.node ≡ OfTemplate template head declarations → is_called_head head ≡ true → StandsForCalled site k head }
+{
+    phrases_are_counted();
+    what_is_meant_declares_the_name();
+    a_key_is_found_at_its_first_declaration();
+    input_parameters_are_declared();
     a_written_template_gives_what_its_unit_shows();
 }
 

@@ -31,7 +31,7 @@ mod Ruling
 mod Using
 mod UsingStatements
 pub mod UsingUnits
-mod Parameters
+pub mod Parameters
 pub mod Calling
 pub mod Constants
 pub mod Structuring

@@ -1,0 +1,23 @@
+-- What a written template of a unit that is called stands for.
+use Rattle.std.specs.Prelude.{◌≡◌, ℕ, true, List, Some, slice_get}
+use Rattle.hal_grammar.specs.Leaves.{Naming}
+use Rattle.hal_grammar.specs.Declarations.{Declaration}
+use Rattle.hal_grammar.specs.Units.{Head}
+use Rattle.hal_phrases.specs.Phrases.{Phrase, OfUnit}
+use Rattle.hal_meaning.specs.Bodies.{is_called_head, standing_for}
+use Rattle.hal_meaning.specs.Calls.{inputs_of}
+use Rattle.hal_agreement.specs.Sites.{Site}
+use Rattle.hal_fit_rules.specs.Parameters.{ParametersAgree, spelled}
+
+-- the template with this number and head stands for a unit that is called, with the same names of input parameters, and each that the template declares is for the unit what it is for the checks
+pub record StandsForCalled (site : Site) (number : ℕ) (head : Head) : Type 0 where
+  pub unit : Phrase
+  pub stands : standing_for site.set.phrases number ≡ unit.number
+  pub there : slice_get site.set.phrases unit.number ≡ Some unit
+  pub name : Naming
+  pub unit_head : Head
+  pub declarations : List Declaration
+  pub declares : unit.node ≡ OfUnit name unit_head declarations
+  pub called : is_called_head unit_head ≡ true
+  pub named : spelled (inputs_of unit_head) ≡ spelled (inputs_of head)
+  pub parameters : ParametersAgree site site.set.phrases number unit.number (inputs_of head)
