@@ -23,7 +23,7 @@ LeftIsKnown s image number row b =
     → PhraseKnown image (ground_of image number row) u (unit_site s (places_of_process s row.process) b) q
 
 pub record AreLeft (s : Set) (image : ImageParts) : Type 0 where
-  -- no name means a written template of a unit that is called
+  -- no name means the written template of a FUNCTION
   pub owned : NamesAreOwn s.phrases
   -- references with a path are known
   pub known : (number unit : ℕ) (row : Block) (b : Body) → slice_get image.blocks number ≡ Some row → body_at s unit ≡ Some b → LeftIsKnown s image number row b

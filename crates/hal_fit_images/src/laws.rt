@@ -37,7 +37,7 @@ pub fn an_image_of_blocks_that_fit_is_right()
 }
 
 /// An image of a set of files that right words spell and that breaks no rule of templates, names, types, locks, calls or limits meets V1 to V8 where all holds of it that is
-/// left to be known: that names mean no written templates of units that are called, what references with a path name, and that views lie in memory (image
+/// left to be known: that names mean no written templates of FUNCTIONs, what references with a path name, and that views lie in memory (image
 /// document, When an image is right).
 pub fn an_image_is_right_where_what_is_left_holds()
     ensures { (turns : ℕ) (files : List File) (image : ImageParts) → image_of (set_of turns files) (views_of (set_of turns files)) ≡ Ok image → IsAccepted files image → turns ≤ turn_limit

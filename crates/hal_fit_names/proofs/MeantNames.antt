@@ -7,7 +7,7 @@ use Rattle.hal_grammar.specs.Expressions.{Expressions, NoExpressions, MoreExpres
 use Rattle.hal_grammar.specs.Leaves.{Naming}
 use Rattle.hal_phrases.specs.declared.role.Role.{Role}
 use Rattle.hal_phrases.specs.declared.role.Role.TheVariants as role
-use Rattle.hal_grammar.specs.Declarations.{Kind, IntegerKind, BooleanKind, EventKind, BitKind, CharacterKind, StructureKind, Attribute, Declared, Initials}
+use Rattle.hal_grammar.specs.Declarations.{Kind, IntegerKind, BooleanKind, EventKind, BitKind, CharacterKind, StructureKind, Attribute, Declaration, Declared, Initials}
 use Rattle.hal_grammar.specs.Statements.{Eventful}
 use Rattle.hal_grammar.specs.Units.{Head, Program, Compool, Task, Procedure, Function}
 use Rattle.hal_phrases.specs.Phrases.{Node, Phrase, OfFile, OfTemplate, OfUnit, OfParameter, OfItem, OfStructure, OfPart, OfLabel, OfTemporaryGroup, OfReference, OfSubscriptName, OfVariable, OfEvent, OfCallForm, OfCall}
@@ -44,7 +44,9 @@ use Rattle.hal_meaning.specs.Bodies.{is_called_head, is_process_head, standing_f
 use Rattle.hal_meaning.specs.Places.{is_in_unit}
 use Rattle.hal_code.specs.declared.image.ImageParts.{ImageParts}
 use Rattle.hal_meaning.specs.Elements.{shape_of}
-use Rattle.hal_meaning.specs.Variables.{name_meant}
+use Rattle.hal_meaning.specs.Calls.{is_function}
+use Rattle.hal_meaning.specs.Variables.{MeantBlock, head_meant, meant_by, name_meant}
+use Rattle.hal_shapes.specs.Arguments.{head_of}
 use Rattle.hal_agreement.specs.Sites.{Site, here_at}
 use Rattle.hal_fit_expr.specs.Uses.{Uses}
 use Rattle.hal_fit_rules.specs.Agreeing.{NameAgrees, FormAgrees}
@@ -57,7 +59,7 @@ use Rattle.hal_fit_rules.specs.Signalled.{EventAgrees, HasEvents}
 use Rattle.hal_fit_rules.specs.Valued.{HasConstants, IsConstantItem}
 use Rattle.hal_fit_rules.proofs.Constants.{constant_agrees, constant_agrees_as, constant_formed, constant_formed_as}
 use Rattle.hal_fit_rules.proofs.Calling.{formed_by, procedure_agrees, data_formed, temporary_formed, event_formed, event_formed_as, function_formed, builtin_formed}
-use Rattle.hal_fit_rules.proofs.Declaring.{item_meant_so, lying, plain_data_agree, plain_cells_agree, temporary_agrees, temporary_cells_agree, builtin_agrees, function_agrees}
+use Rattle.hal_fit_rules.proofs.Declaring.{item_meant_so, lying, meant_standing, plain_data_agree, plain_cells_agree, temporary_agrees, temporary_cells_agree, builtin_agrees, function_agrees}
 use Rattle.hal_fit_rules.proofs.Eventful.{event_known, event_known_as}
 use Rattle.hal_fit_rules.proofs.Happening.{event_agrees, event_agrees_as, process_agrees, written_process_agrees}
 use Rattle.hal_fit_rules.proofs.Structuring.{structure_agrees, structure_alike, structure_cells}
@@ -229,7 +231,7 @@ declared_same ps q None calm = refl
 declared_same ps q (Some s) calm = ap (λ b. is_operand s || b) calm ∙ or_none (is_operand s)
 
 -- of templates of units that aren't called that of a process alone is used as a value
-value_process : (ps : List Phrase) (q : Phrase) (h : Head) → is_called_head h ≡ false → fits_declared ps q usage.Value (Some (sort_of_head h)) ≡ true → (is_process_head h ≡ true) × (is_eventful (Some (sort_of_head h)) ≡ true)
+value_process : (ps : List Phrase) (q : Phrase) (h : Head) → is_function h ≡ false → fits_declared ps q usage.Value (Some (sort_of_head h)) ≡ true → (is_process_head h ≡ true) × (is_eventful (Some (sort_of_head h)) ≡ true)
 unfolding sort_of_head is_eventful
 value_process ps q (Program place) none fits = (refl, refl)
 value_process ps q (Task place) none fits = (refl, refl)
@@ -237,8 +239,16 @@ value_process ps q (Compool place) none fits = absurd (cc)
 value_process ps q (Procedure place inputs outputs mode) none fits = absurd (cc)
 value_process ps q (Function place inputs returns mode) none fits = absurd (cc)
 
+-- a unit that is called is a block
+called_meant : (site : Site) (n : ℕ) (h : Head) → is_called_head h ≡ true → head_meant (here_at site) n h ≡ MeantBlock n
+called_meant site n (Procedure place inputs outputs mode) is = refl
+called_meant site n (Function place inputs returns mode) is = refl
+called_meant site n (Program place) is = absurd (cc)
+called_meant site n (Task place) is = absurd (cc)
+called_meant site n (Compool place) is = absurd (cc)
+
 -- none is changed as an event
-unchanged : {X : Type 0} (ps : List Phrase) (q : Phrase) (h : Head) → is_called_head h ≡ false → fits_declared ps q usage.Event (Some (sort_of_head h)) ≡ true → X
+unchanged : {X : Type 0} (ps : List Phrase) (q : Phrase) (h : Head) → is_function h ≡ false → fits_declared ps q usage.Event (Some (sort_of_head h)) ≡ true → X
 unfolding sort_of_head
 unchanged ps q (Program place) none fits = absurd (cc)
 unchanged ps q (Task place) none fits = absurd (cc)
@@ -247,7 +257,7 @@ unchanged ps q (Procedure place inputs outputs mode) none fits = absurd (cc)
 unchanged ps q (Function place inputs returns mode) none fits = absurd (cc)
 
 -- none has a call form
-unformed : {X : Type 0} (ps : List Phrase) (block : ℕ) (place : Place) (h : Head) (ts : Expressions) → is_called_head h ≡ false → head_fault ps block place h ts ≡ None → X
+unformed : {X : Type 0} (ps : List Phrase) (block : ℕ) (place : Place) (h : Head) (ts : Expressions) → is_function h ≡ false → head_fault ps block place h ts ≡ None → X
 unfolding head_fault
 unformed ps block place (Function at_ inputs returns mode) ts is none = absurd (let other : true ≡ false = is in cc)
 unformed ps block place (Program at_) ts is none = absurd (cc)
@@ -896,7 +906,7 @@ module _ (u : Uses) (site : Site) (named : IsSound rows site.set.phrases) (sound
   node_called name procedures own owner q (OfUnit unit (Program place) declarations) is declares plain fits = absurd (cc)
   node_called name procedures own owner q (OfUnit unit (Task place) declarations) is declares plain fits = absurd (cc)
   node_called name procedures own owner q (OfUnit unit (Compool place) declarations) is declares plain fits = absurd (cc)
-  node_called name procedures own owner q (OfUnit unit (Procedure place inputs outputs mode) declarations) is declares plain fits = procedures own.number own.phrase unit place inputs outputs mode declarations own.meant own.there is
+  node_called name procedures own owner q (OfUnit unit (Procedure place inputs outputs mode) declarations) is declares plain fits = procedures.itself own.number own.phrase unit place inputs outputs mode declarations own.meant own.there is
   node_called name procedures own owner q (OfUnit unit (Function place inputs returns mode) declarations) is declares plain fits = absurd (cc)
   node_called name procedures own owner q (OfItem common item) is declares plain fits = absurd (no_call site.set.phrases q (type_of common item) fits)
   node_called name procedures own owner q (OfTemporaryGroup labels variable) is declares plain fits = absurd (cc)
@@ -907,6 +917,34 @@ module _ (u : Uses) (site : Site) (named : IsSound rows site.set.phrases) (sound
   node_called name procedures own owner q (OfPart bottom part) is declares plain fits = let other : Some space.Part ≡ Some space.Declared = ap space_of declares in absurd (cc)
   node_called name procedures own owner q other is declares plain fits = absurd (cc)
 
+  -- the written template of a PROCEDURE
+  written_called : (name : Naming) (procedures : AreProcedures u site name.name) (k : ℕ) (q p : Phrase) (head : Head) (template : Naming) (declarations : List Declaration) → means site.set.phrases site.block name.name ≡ Some k
+      → slice_get site.set.phrases k ≡ Some p → p.node ≡ OfTemplate template head declarations → is_function head ≡ false → fits_declared site.set.phrases q usage.Called (Some (sort_of_head head)) ≡ true
+      → ProcedureAgrees u site site.set.phrases site.block name
+  unfolding head_of
+  written_called name procedures k q p (Procedure place inputs outputs mode) template declarations meant there is none fits =
+      let stands = procedures.written k p template place inputs outputs mode declarations meant there is in
+      record {
+        declared = k;
+        means_it = meant;
+        phrase = p;
+        there = there;
+        place = place;
+        inputs = inputs;
+        outputs = outputs;
+        mode = mode;
+        head = ap head_of is;
+        unit = stands.unit.number;
+        meant = meant_standing u site name.name k stands.unit.number stands.unit meant stands.stands stands.there ∙ (ap (meant_by (here_at site) [] stands.unit) stands.declares ∙ called_meant site stands.unit.number stands.head stands.called);
+        taken = stands.taken;
+        calls = stands.calls;
+        parameters = stands.parameters;
+      }
+  written_called name procedures k q p (Program place) template declarations meant there is none fits = uncalled site.set.phrases q (Program place) refl fits
+  written_called name procedures k q p (Task place) template declarations meant there is none fits = uncalled site.set.phrases q (Task place) refl fits
+  written_called name procedures k q p (Compool place) template declarations meant there is none fits = uncalled site.set.phrases q (Compool place) refl fits
+  written_called name procedures k q p (Function place inputs returns mode) template declarations meant there is none fits = absurd (cc)
+
   called_as : (name : Naming) (procedures : AreProcedures u site name.name) (owner k : ℕ) (q p : Phrase) → means site.set.phrases site.block name.name ≡ Some k → slice_get site.set.phrases k ≡ Some p
       → declared_at p.number p.around p.node ≡ Some (key space.Declared owner name.name) → IsShown site.set.phrases k p → fits_declared site.set.phrases q usage.Called (sort_of p.node) ≡ true → ProcedureAgrees u site site.set.phrases site.block name
   unfolding sort_of sort_of_type
@@ -914,7 +952,7 @@ module _ (u : Uses) (site : Site) (named : IsSound rows site.set.phrases) (sound
       let own : IsOwn site name.name = record { number = k; meant = meant; phrase = p; there = there; own = own_number site.set.phrases k p there plain } in
       procedure_agrees u site name own counted (node_called name.name procedures own owner q p.node refl declares plain fits)
   called_as name procedures owner k q p meant there declares (Written template head declarations is none) fits =
-      uncalled site.set.phrases q head none (ap (λ n. fits_declared site.set.phrases q usage.Called (sort_of n)) (sym is) ∙ fits)
+      written_called name procedures k q p head template declarations meant there is none (ap (λ n. fits_declared site.set.phrases q usage.Called (sort_of n)) (sym is) ∙ fits)
   called_as name procedures owner k q p meant there declares (Pooled common item is plain) fits =
       absurd (no_call site.set.phrases q (type_of common item) (ap (λ n. fits_declared site.set.phrases q usage.Called (sort_of n)) (sym is) ∙ fits))
   called_as name procedures owner k q p meant there declares (PooledEvent common item is eventful stands) fits =

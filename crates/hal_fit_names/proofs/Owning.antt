@@ -10,6 +10,7 @@ use Rattle.hal_scope.specs.Sorts.{type_of}
 use Rattle.hal_kinds.specs.Data.{is_event_type}
 use Rattle.hal_constants.specs.Naming.{is_value_item}
 use Rattle.hal_meaning.specs.Bodies.{is_called, is_called_head, is_unit, pooled_at, meant_at, standing_for}
+use Rattle.hal_meaning.specs.Calls.{is_function}
 use Rattle.hal_meaning.specs.Places.{is_in_unit}
 use Rattle.hal_agreement.specs.Sites.{Site}
 use Rattle.hal_fit_rules.specs.Owned.{IsOwn}
@@ -42,10 +43,10 @@ own_number ps k p there plain =
 pub own_name : (site : Site) (name : List ℕ) (k : ℕ) (p : Phrase) → means site.set.phrases site.block name ≡ Some k → slice_get site.set.phrases k ≡ Some p → is_templated site.set.phrases p p.node ≡ false → IsOwn site name
 own_name site name k p meant there plain = record { number = k; meant = meant; phrase = p; there = there; own = own_number site.set.phrases k p there plain }
 
--- no template, or that of a unit that isn't called, or plain data, or an event or a constant that stands for a COMPOOL's
+-- no template, or that of a unit that is no FUNCTION, or plain data, or an event or a constant that stands for a COMPOOL's
 pub data IsShown (ps : List Phrase) (k : ℕ) (p : Phrase) : Type 0 where
   Plain : is_templated ps p p.node ≡ false → IsShown ps k p
-  Written : (template : Naming) (head : Head) (declarations : List Declaration) → p.node ≡ OfTemplate template head declarations → is_called_head head ≡ false → IsShown ps k p
+  Written : (template : Naming) (head : Head) (declarations : List Declaration) → p.node ≡ OfTemplate template head declarations → is_function head ≡ false → IsShown ps k p
   Pooled : (common : List Attribute) (item : Declared) → p.node ≡ OfItem common item → is_plain common item ≡ true → IsShown ps k p
   PooledEvent : (common : List Attribute) (item : Declared) → p.node ≡ OfItem common item → is_event_type (type_of common item) ≡ true → StandsForData ps k p common item → IsShown ps k p
   PooledConstant : (common : List Attribute) (item : Declared) → p.node ≡ OfItem common item → is_event_type (type_of common item) ≡ false → is_value_item common item ≡ true → StandsForData ps k p common item

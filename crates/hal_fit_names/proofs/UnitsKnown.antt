@@ -6,7 +6,7 @@ use Rattle.hal_base.specs.declared.refusal.Place.{Place}
 use Rattle.hal_grammar.specs.Leaves.{Naming}
 use Rattle.hal_grammar.specs.Declarations.{Attribute, Kind, Declaration, Declared}
 use Rattle.hal_grammar.specs.Expressions.{Expression, Literal, Decimal, Refers, Subscript}
-use Rattle.hal_grammar.specs.Units.{Head, Procedure, Function}
+use Rattle.hal_grammar.specs.Units.{Head, Mode, Procedure, Function}
 use Rattle.hal_phrases.specs.declared.role.Role.{Role}
 use Rattle.hal_phrases.specs.declared.role.Role.TheVariants as role
 use Rattle.hal_phrases.specs.Phrases.{Node, Phrase, OfExpression, OfReference, OfSubscriptName, OfCallForm, OfCall, OfEvent, OfVariable, OfTemporaryGroup, OfAssignment, OfItem, OfReturn, OfTemplate, OfUnit}
@@ -29,7 +29,7 @@ use Rattle.hal_constants.specs.Constants.{constant_of}
 use Rattle.hal_constants.specs.Known.{Known}
 use Rattle.hal_constants.specs.Naming.{is_value_item, value_at}
 use Rattle.hal_meaning.specs.Bodies as bodies
-use Rattle.hal_meaning.specs.Bodies.{Body, callee_at, called_block, is_called, is_process_head, processes_of, standing_for}
+use Rattle.hal_meaning.specs.Bodies.{Body, callee_at, called_block, is_called, is_called_head, is_process_head, processes_of, standing_for}
 use Rattle.hal_meaning.specs.Calls.{inputs_of}
 use Rattle.hal_meaning.specs.Events as starts
 use Rattle.hal_meaning.specs.Events.{declared_events}
@@ -45,12 +45,14 @@ use Rattle.hal_fitting.specs.Fitting.{Ground}
 use Rattle.hal_fit_expr.specs.Uses.{Uses}
 use Rattle.hal_fit_constants.specs.Names.{NamesAgree}
 use Rattle.hal_fit_rules.specs.Happening.{StandsForProcess}
+use Rattle.hal_fit_rules.specs.Parameters as parameters
 use Rattle.hal_fit_rules.specs.Passing.{IsParameter, AreParameters}
 use Rattle.hal_fit_rules.specs.Signalled.{HasEvents}
 use Rattle.hal_fit_rules.specs.Used.{LeafKnown, ChannelKnown, ReturnKnown, NodeKnown, ReferenceKnown, PhraseKnown, UnitKnown}
 use Rattle.hal_fit_rules.specs.Valued.{HasConstants}
 use Rattle.hal_fit_rules.proofs.Constants.{among_found}
 use Rattle.hal_fit_names.specs.Bodied.{HasBody, IsUnitOf}
+use Rattle.hal_fit_names.specs.Called.{StandsForCalled, StandsForUsed}
 use Rattle.hal_fit_names.specs.Known.{is_left_node}
 use Rattle.hal_fit_names.specs.Named.{AreFunctions, AreLeft, AreProcedures, FunctionParameters}
 use Rattle.hal_fit_names.specs.Serving.{AsksNothing, MayAsk, ServesUnit}
@@ -78,11 +80,11 @@ unfolding parameter_of
 parameter_among ps unit name r is = found_in ps r (own ps (key space.Declared unit name.name)) is
 
 -- a phrase that calls what a name means calls a unit that it means
-unit_called : (ps : List Phrase) (k : ℕ) (p : Phrase) (o : Option ℕ) → o ≡ Some k → slice_get ps k ≡ Some p → standing_for ps k ≡ k → is_called p.node ≡ true
-    → called_block ps (elim o [ None ↦ None | Some j ↦ Some (standing_for ps j) ]) ≡ Some p.number
-unit_called ps k p o is there own called =
-    ap (λ (x : Option ℕ). called_block ps (elim x [ None ↦ None | Some j ↦ Some (standing_for ps j) ])) is
-    ∙ (ap (λ n. called_block ps (Some n)) own
+unit_called : (ps : List Phrase) (k j : ℕ) (p : Phrase) (o : Option ℕ) → o ≡ Some k → slice_get ps j ≡ Some p → standing_for ps k ≡ j → is_called p.node ≡ true
+    → called_block ps (elim o [ None ↦ None | Some i ↦ Some (standing_for ps i) ]) ≡ Some p.number
+unit_called ps k j p o is there stands called =
+    ap (λ (x : Option ℕ). called_block ps (elim x [ None ↦ None | Some i ↦ Some (standing_for ps i) ])) is
+    ∙ (ap (λ n. called_block ps (Some n)) stands
     ∙ (ap (λ (x : Option Phrase). option_and_then (λ (q : Phrase). if is_called q.node then Some q.number else None) x) there ∙ ap (λ b. if b then Some p.number else None) called))
 
 module _ (image : ImageParts) (g : Ground) (u : Bool → Uses) (site : Site) (home : ℕ) (named : IsSound rows site.set.phrases) (sound : IsSound type_rows site.set.phrases) (counted : IsCounted site.set.phrases)
@@ -91,7 +93,8 @@ module _ (image : ImageParts) (g : Ground) (u : Bool → Uses) (site : Site) (ho
     (written : (k : ℕ) (p : Phrase) (template : Naming) (head : Head) (declarations : List Declaration) → slice_get site.set.phrases k ≡ Some p → p.node ≡ OfTemplate template head declarations → is_process_head head ≡ true → StandsForProcess site.set.phrases k)
     (pools : (k : ℕ) (p : Phrase) (common : List Attribute) (item : Declared) → slice_get site.set.phrases k ≡ Some p → p.node ≡ OfItem common item → StandsForData site.set.phrases k p common item ⊎ StandsForItself site.set.phrases k p common item) (valued : HaveValues site.set)
     (same : (k : ℕ) (p : Phrase) (common : List Attribute) (item : Declared) → slice_get site.set.phrases k ≡ Some p → p.node ≡ OfItem common item → is_value_item common item ≡ true
-    → (stands : StandsForData site.set.phrases k p common item) → value_at site.set.constants stands.phrase.number ≡ value_at site.set.constants p.number) (stands : IsHome g site home) (placed : (p : Phrase) → IsAmong p site.set.phrases → NodePlaced site.set.phrases p p.node)
+    → (stands : StandsForData site.set.phrases k p common item) → value_at site.set.constants stands.phrase.number ≡ value_at site.set.constants p.number) (called_stand : (block k : ℕ) (p : Phrase) (template : Naming) (head : Head) (declarations : List Declaration) → slice_get site.set.phrases k ≡ Some p → p.node ≡ OfTemplate template head declarations → is_called_head head ≡ true
+    → StandsForCalled (within_block block site) k head) (stands : IsHome g site home) (placed : (p : Phrase) → IsAmong p site.set.phrases → NodePlaced site.set.phrases p p.node)
     (bodied : (k : ℕ) (p : Phrase) (name : Naming) (head : Head) (declarations : List Declaration) → slice_get site.set.phrases k ≡ Some p → p.node ≡ OfUnit name head declarations → HasBody site.set.bodies k head)
     (united : (k : ℕ) (b : Body) → body_at site.set k ≡ Some b → IsUnitOf site.set.phrases k b)
     (inputs_known : (k : ℕ) (p : Phrase) (name : Naming) (head : Head) (declarations : List Declaration) → slice_get site.set.phrases k ≡ Some p → p.node ≡ OfUnit name head declarations
@@ -150,17 +153,42 @@ module _ (image : ImageParts) (g : Ground) (u : Bool → Uses) (site : Site) (ho
         may_call k p is there called =
             serves.calls q p.number within here
             (calling
-            ∙ unit_called site.set.phrases k p (means site.set.phrases q.around.block v.name) is there (own_number site.set.phrases k p there (called_plain site.set.phrases p p.node called)) called)
+            ∙ unit_called site.set.phrases k k p (means site.set.phrases q.around.block v.name) is there (own_number site.set.phrases k p there (called_plain site.set.phrases p p.node called)) called)
 
         functions : AreFunctions (u (is_some q.around.update)) (within_block q.around.block site) v.name
         functions k p unit place inputs returns mode declarations is there declares =
             function_known (u (is_some q.around.update)) (within_block q.around.block site) sound counted k p there unit place inputs returns mode declarations declares (bodied k p unit (Function place inputs returns mode) declarations there declares)
             (may_call k p is there (ap is_called declares))
 
+        -- what the template of a PROCEDURE stands for may be called too
+        used_template : (k : ℕ) (place : Place) (inputs outputs : List Naming) (mode : Option Mode) → means site.set.phrases q.around.block v.name ≡ Some k
+            → StandsForCalled (within_block q.around.block site) k (Procedure place inputs outputs mode) → StandsForUsed (u (is_some q.around.update)) (within_block q.around.block site) k inputs
+        used_template k place inputs outputs mode is stands_ =
+            let has_body = bodied stands_.unit.number stands_.unit stands_.name stands_.unit_head stands_.declarations stands_.there stands_.declares in
+            record {
+              unit = stands_.unit;
+              stands = stands_.stands;
+              there = stands_.there;
+              name = stands_.name;
+              head = stands_.unit_head;
+              declarations = stands_.declarations;
+              declares = stands_.declares;
+              called = stands_.called;
+              taken = ap parameters.spelled (ap (λ (o : Option Body). elim o [ None ↦ [] | Some b ↦ inputs_of b.head ]) has_body.found ∙ ap inputs_of has_body.same) ∙ stands_.named;
+              calls = serves.calls q stands_.unit.number within here
+                  (calling
+                  ∙ unit_called site.set.phrases k stands_.unit.number stands_.unit (means site.set.phrases q.around.block v.name) is stands_.there stands_.stands (ap is_called stands_.declares ∙ stands_.called));
+              parameters = stands_.parameters;
+            }
+
         procedures : AreProcedures (u (is_some q.around.update)) (within_block q.around.block site) v.name
-        procedures k p unit place inputs outputs mode declarations is there declares =
-            procedure_known (u (is_some q.around.update)) (within_block q.around.block site) sound counted k p there unit place inputs outputs mode declarations declares (bodied k p unit (Procedure place inputs outputs mode) declarations there declares)
-            (may_call k p is there (ap is_called declares)) (declared_parameters q.around.block p.number inputs (numbered_inputs k p unit (Procedure place inputs outputs mode) declarations there declares))
+        procedures = record {
+          itself = λ k p unit place inputs outputs mode declarations is there declares.
+              procedure_known (u (is_some q.around.update)) (within_block q.around.block site) sound counted k p there unit place inputs outputs mode declarations declares (bodied k p unit (Procedure place inputs outputs mode) declarations there declares)
+              (may_call k p is there (ap is_called declares)) (declared_parameters q.around.block p.number inputs (numbered_inputs k p unit (Procedure place inputs outputs mode) declarations there declares));
+          written = λ k p template place inputs outputs mode declarations is there declares.
+              used_template k place inputs outputs mode is (called_stand q.around.block k p template (Procedure place inputs outputs mode) declarations there declares refl);
+        }
 
     function_parameters : (name : List ℕ) → FunctionParameters (u (is_some q.around.update)) (within_block q.around.block site) name
     function_parameters name k p meant there is =

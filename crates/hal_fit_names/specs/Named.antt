@@ -14,10 +14,11 @@ use Rattle.hal_fit_expr.specs.Uses.{Uses}
 use Rattle.hal_fit_rules.specs.Happening.{StandsForProcess}
 use Rattle.hal_fit_rules.specs.Owned.{IsFunction}
 use Rattle.hal_fit_rules.specs.Passing.{AreParameters, IsProcedure}
+use Rattle.hal_fit_names.specs.Called.{StandsForUsed}
 use Rattle.hal_fit_names.specs.Standing.{StandsForData, StandsForItself}
 use Rattle.hal_fit_names.specs.Suited.{shows_parts}
 
--- it means no written template of a unit that is called; a template of a process stands for the process, and other data for those of a COMPOOL, or
+-- it means no written template of a FUNCTION; a template of a process stands for the process, and other data for those of a COMPOOL, or
 -- for themselves; and it has a value where it means a constant that is its value, which is that of the COMPOOL's constant
 pub record AreLeft (site : Site) (name : List ℕ) : Type 0 where
   pub untemplated : (k : ℕ) (p : Phrase) → means site.set.phrases site.block name ≡ Some k → slice_get site.set.phrases k ≡ Some p → shows_parts p.node ≡ false
@@ -41,8 +42,9 @@ abbrev pub FunctionParameters : Uses → Site → List ℕ → Type 0
 FunctionParameters u site name =
     (k : ℕ) (p : Phrase) → means site.set.phrases site.block name ≡ Some k → slice_get site.set.phrases k ≡ Some p → (is : IsFunction u site p) → AreParameters site p.number is.inputs
 
--- and a PROCEDURE that it means may be called and has such parameters
-abbrev pub AreProcedures : Uses → Site → List ℕ → Type 0
-AreProcedures u site name =
-    (k : ℕ) (p : Phrase) (unit : Naming) (place : Place) (inputs outputs : List Naming) (mode : Option Mode) (declarations : List Declaration) → means site.set.phrases site.block name ≡ Some k
-    → slice_get site.set.phrases k ≡ Some p → p.node ≡ OfUnit unit (Procedure place inputs outputs mode) declarations → IsProcedure u site p
+-- and a PROCEDURE that it means may be called and has such parameters, or its written template stands for one
+pub record AreProcedures (u : Uses) (site : Site) (name : List ℕ) : Type 0 where
+  pub itself : (k : ℕ) (p : Phrase) (unit : Naming) (place : Place) (inputs outputs : List Naming) (mode : Option Mode) (declarations : List Declaration) → means site.set.phrases site.block name ≡ Some k
+      → slice_get site.set.phrases k ≡ Some p → p.node ≡ OfUnit unit (Procedure place inputs outputs mode) declarations → IsProcedure u site p
+  pub written : (k : ℕ) (p : Phrase) (template : Naming) (place : Place) (inputs outputs : List Naming) (mode : Option Mode) (declarations : List Declaration) → means site.set.phrases site.block name ≡ Some k
+      → slice_get site.set.phrases k ≡ Some p → p.node ≡ OfTemplate template (Procedure place inputs outputs mode) declarations → StandsForUsed u site k inputs

@@ -37,7 +37,7 @@ abbrev pub AreDeclaredParameters : List Phrase → ℕ → List Naming → Type 
 AreDeclaredParameters ps unit [] = Unit {0}
 AreDeclaredParameters ps unit (name ∷ names) = IsDeclaredParameter ps unit name × AreDeclaredParameters ps unit names
 
--- no name means a written template of a unit that is called
+-- no name means the written template of a FUNCTION
 abbrev pub NamesAreOwn : List Phrase → Type 0
 NamesAreOwn ps = (block : ℕ) (name : List ℕ) (k : ℕ) (p : Phrase) → means ps block name ≡ Some k → slice_get ps k ≡ Some p → shows_parts p.node ≡ false
 

@@ -118,7 +118,7 @@ pub fn names_of_no_template_are_own()
 
 /// A name without a path agrees that is used as a value in a set of files that breaks no rule of names or types, also behind `$`: it means data, an event, a process, a
 /// structure, a constant, a FUNCTION or a built-in function, each of which is for the meaning what it is for the checks. What is left is that it means no
-/// written template of a unit that is called, what other templates stand for, that a constant has a value, which is that of the constant it stands for, that a
+/// written template of a FUNCTION, what other templates stand for, that a constant has a value, which is that of the constant it stands for, that a
 /// FUNCTION may be called, and an event, a process or RUNTIME asked for (language document, Names and Templates).
 pub fn names_of_values_agree()
     ensures reference { (u : Uses) (files : List File) (site : Site) (q : Phrase) (role : Role) (place : Place) (name : List ℕ) (subscript : Subscript) → site.set.phrases ≡ phrases_of files → HasConstants site
@@ -258,7 +258,7 @@ pub fn templates_of_called_units_stand_for_them()
 }
 
 /// So a unit is known, as the law of statements asks, by all that serves it, where this is known of the phrases that are left: references with a path, but for operands of
-/// event expressions. What is left of names is that they mean no written templates of units that are called; one of a process stands for the process, data of one of a
+/// event expressions. What is left of names is that they mean no written templates of FUNCTIONs; one of a process stands for the process, data of one of a
 /// COMPOOL for those of the COMPOOL, with the same values of constants, and what others declare are plain parameters, as no rule of templates or types is broken.
 pub fn units_are_known_where_what_is_left_is()
     ensures { (image : ImageParts) (g : Ground) (u : Bool → Uses) (files : List File) (site : Site) (home : ℕ) → site.set.phrases ≡ phrases_of files → site.set.bodies ≡ bodies_of files site.set.phrases
@@ -273,4 +273,5 @@ pub fn units_are_known_where_what_is_left_is()
     what_the_checks_know_is_constant();
     constants_have_values();
     a_written_template_gives_what_its_unit_shows();
+    templates_of_called_units_stand_for_them();
 }

@@ -12,6 +12,7 @@ use Rattle.hal_constants.specs.Known.{Known, known}
 use Rattle.hal_constants.specs.Naming.{is_value_item, value_at}
 use Rattle.hal_meaning.specs.Bodies.{is_process_head}
 use Rattle.hal_meaning.specs.Calls.{inputs_of}
+use Rattle.hal_agreement.specs.Sites.{within_block}
 use Rattle.hal_fit_rules.specs.Happening.{StandsForProcess}
 use Rattle.hal_fit_names.specs.Used.{AreDeclaredParameters}
 use Rattle.hal_fit_names.specs.Spelled.{AreSpelled}
@@ -40,7 +41,9 @@ returns c image g u files site home whole bodies has serves owned stands events 
     (subst (λ (ps : List Phrase). (k : ℕ) (p : Phrase) (common : List Attribute) (item : Declared) → slice_get ps k ≡ Some p → p.node ≡ OfItem common item → is_value_item common item ≡ true → (stands_ : StandsForData ps k p common item)
     → value_at site.set.constants stands_.phrase.number ≡ value_at site.set.constants p.number) (sym whole)
     (λ k p common item there is constant stands_. ap (λ (vs : Known). value_at vs stands_.phrase.number) (has ∙ ap known whole)
-    ∙ (pooled_value files named sound counted (c.what_is_meant_declares_the_name.ensures files) literals spelled k p common item there is constant stands_ ∙ sym (ap (λ (vs : Known). value_at vs p.number) (has ∙ ap known whole))))) stands (subst (λ (ps : List Phrase). (p : Phrase) → IsAmong p ps → NodePlaced ps p p.node) (sym whole) (items_are_placed files counted))
+    ∙ (pooled_value files named sound counted (c.what_is_meant_declares_the_name.ensures files) literals spelled k p common item there is constant stands_ ∙ sym (ap (λ (vs : Known). value_at vs p.number) (has ∙ ap known whole)))))
+    (λ block k p template head declarations there is called. c.templates_of_called_units_stand_for_them.ensures files (within_block block site) k p template head declarations whole has given named sound literals spelled.sizes
+    (subst (λ (ps : List Phrase). slice_get ps k ≡ Some p) whole there) is called) stands (subst (λ (ps : List Phrase). (p : Phrase) → IsAmong p ps → NodePlaced ps p p.node) (sym whole) (items_are_placed files counted))
     (λ k p name head declarations found is. unit_has_body files site.set k p name head declarations each_counted whole bodies found is)
     (λ k b found. body_has_phrase files site.set k b each_counted whole bodies found)
     (subst (λ (ps : List Phrase). (k : ℕ) (p : Phrase) (name : Naming) (head : Head) (declarations : List Declaration) → slice_get ps k ≡ Some p → p.node ≡ OfUnit name head declarations → AreDeclaredParameters ps k (inputs_of head))
