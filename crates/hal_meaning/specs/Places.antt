@@ -3,11 +3,12 @@ use Rattle.std.specs.Prelude.{ℕ, ◌+◌, ◌*◌, sum_by, ◌==◌, Bool, tru
 use Rattle.std.specs.Option.{option_and_then, option_or}
 use Rattle.std.specs.List.{list_any}
 use Rattle.hal_grammar.specs.Declarations.{Automatic, Attribute, LockGroup, Declared}
-use Rattle.hal_grammar.specs.Units.{Head, Program, Compool, Task}
+use Rattle.hal_grammar.specs.Units.{Head, Program, Compool}
 use Rattle.hal_phrases.specs.declared.role.Role.TheVariants as role
 use Rattle.hal_phrases.specs.Phrases.{Node, Phrase, OfUnit, OfParameter, OfItem, OfExpression, OfVariable, OfGroup, OfTemporaryGroup}
 use Rattle.hal_names.specs.declared.key.Space.TheVariants as space
 use Rattle.hal_names.specs.Keys.{key, own}
+use Rattle.hal_names.specs.Tasks.{is_task_in}
 use Rattle.hal_scope.specs.Sorts.{type_of}
 use Rattle.hal_kinds.specs.Attributes.{has_mark}
 use Rattle.hal_kinds.specs.Data.{is_event_type}
@@ -40,14 +41,6 @@ parameter_at other = None
 
 abbrev pub parameter : List Phrase → ℕ → List ℕ → Option Bool
 parameter ps home name = option_and_then (λ (p : Phrase). parameter_at p.node) (option_and_then (slice_get ps) (own ps (key space.Parameter home name)))
-
--- whether a phrase is a TASK, and whether it stands directly in the unit with this number
-abbrev pub is_task : Node → Bool
-is_task (OfUnit name (Task place) declarations) = true
-is_task other = false
-
-abbrev pub is_task_in : ℕ → Phrase → Bool
-is_task_in unit p = is_task p.node && (p.around.home == unit)
 
 -- whether STATIC data directly in a unit with this number and head are shared
 abbrev pub shares : List Phrase → ℕ → Head → Bool

@@ -7,3 +7,4 @@ pub mod CountedStatements
 pub mod CountedFiles
 pub mod Places
 pub mod Search
+mod Homes

@@ -3,3 +3,4 @@ pub mod Means
 pub mod Index
 pub mod SeenNames
 pub mod Laws
+pub mod Tasks

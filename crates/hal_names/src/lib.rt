@@ -8,6 +8,7 @@ mod laws;
 mod lookups;
 mod means;
 mod names;
+mod tasks;
 
 pub use declaring::declared_by;
 pub use key::{Key, Space};

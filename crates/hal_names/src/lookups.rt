@@ -1,17 +1,20 @@
 //! How names are looked up.
 
 ghost use Rattle.std.specs.Prelude.{◌≡◌, map, IfOk, slice_get};
+ghost use Rattle.std.specs.List.{list_any};
 ghost use Rattle.std.specs.Option.{option_map};
 ghost use Rattle.hal_phrases.specs.SeenPhrases.{seen_phrase};
 ghost use Rattle.hal_names.specs.Keys.{own};
 ghost use Rattle.hal_names.specs.Means.{included_before, means, unit_named};
 ghost use Rattle.hal_tree.specs.SeenUnits.{seen_preface};
 ghost use Rattle.hal_names.specs.SeenNames.{seen_names};
+ghost use Rattle.hal_names.specs.Tasks.{is_task_in};
 
 use crate::index::{index_of, number_of};
 use crate::key::Key;
 use crate::means::{included_before, nearest, unit_named};
 use crate::names::Names;
+use crate::tasks::homes_of;
 use hal_phrases::Phrase;
 use hal_tree::Preface;
 use hal_words::Name;
@@ -23,7 +26,12 @@ impl<'a> Names<'a> {
         ensures { IfOk result (λ names. seen_names names ≡ map seen_phrase phrases.entry.items) }
     {
         let index = index_of(alloc, phrases.as_slice())?;
-        Ok(Names { phrases, index })
+        let tasks = homes_of(alloc, phrases.as_slice())?;
+        Ok(Names {
+            phrases,
+            index,
+            tasks,
+        })
     }
 
     /// The phrases.
@@ -52,6 +60,14 @@ impl<'a> Names<'a> {
         ensures { result ≡ means (seen_names self.now) block name.now }
     {
         nearest(self, self.phrases.len(), block, name)
+    }
+
+    /// Whether a TASK stands directly in the unit with this number (language document, Units).
+    #[tactic(auto, using(crate::proofs::Homes::tasks_found))]
+    pub fn has_task(&self, unit: usize) -> bool
+        ensures { result ≡ list_any (is_task_in unit) (seen_names self.now) }
+    {
+        self.tasks.contains(&unit)
     }
 
     /// The number of the unit of this name in the set.

@@ -1,8 +1,9 @@
 //! The names of a set of files.
 
-ghost use Rattle.std.specs.Prelude.{map};
+ghost use Rattle.std.specs.Prelude.{◌≡◌, [], map};
 ghost use Rattle.hal_phrases.specs.SeenPhrases.{seen_phrase};
 ghost use Rattle.hal_names.specs.Index.{IsIndex};
+ghost use Rattle.hal_names.specs.Tasks.{with_homes};
 
 use crate::key::Key;
 use hal_phrases::Phrase;
@@ -13,5 +14,8 @@ use indexmap::IndexMap;
 pub struct Names<'a> {
     pub(crate) phrases: Vec<Phrase<'a>>,
     pub(crate) index: IndexMap<Key, usize>,
+    /// The units in which TASKs stand directly, one for each TASK.
+    pub(crate) tasks: Vec<usize>,
     ghost indexed: { IsIndex index.entries (map seen_phrase phrases.items) },
+    ghost tasked: { tasks.items ≡ with_homes [] (map seen_phrase phrases.items) },
 }

@@ -27,4 +27,4 @@ pub use part::Part;
 pub use parts::{mend_patch, mend_pick, patch, pick, place_count};
 pub use stores::{fit, mend_fit};
 pub use strings::{BitString, fit_string};
-pub use texts::append;
+pub use texts::index;

@@ -22,9 +22,9 @@ fn blanks(n: u8) -> Text
     front(n, &[b' '; 255])
 }
 
-/// Joins bytes to a text, of which the first 255 are kept then. See docs/LANGUAGE.md, "Operations".
+/// Joins bytes to a text, of which the first 255 are kept then.
 #[tactic(auto, using(crate::proofs::TextLists::joined_text_is))]
-pub fn append(text: &mut Text, bytes: &[u8])
+pub(crate) fn append(text: &mut Text, bytes: &[u8])
     ensures { text.new ≡ joined_text text.old bytes.now }
 {
     let room = 255 - text.bytes().len();
@@ -49,8 +49,8 @@ pub(crate) fn is_before(x: &[u8], y: &[u8]) -> bool
     x < y
 }
 
-/// The first place, from 1, at which the bytes stand in the text; 0 where they don't, or are none.
-pub(crate) fn index(text: &[u8], bytes: &[u8]) -> i32
+/// The first place, from 1, at which the bytes stand in the text; 0 where they don't, or are none. See docs/LANGUAGE.md, "Operations".
+pub fn index(text: &[u8], bytes: &[u8]) -> i32
     requires { length text.now ≤ 255 }
     ensures { result ≡ pos (index text.now bytes.now) }
 {

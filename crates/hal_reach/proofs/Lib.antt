@@ -1,5 +1,5 @@
-pub mod Rounds
 pub mod Within
 pub mod Callees
 pub mod Reaching
 pub mod Recursion
+mod Swept

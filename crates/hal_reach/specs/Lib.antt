@@ -1,4 +1,5 @@
 pub mod Marks
+pub mod Sweeps
 pub mod Places
 pub mod Calls
 pub mod SeenUnits

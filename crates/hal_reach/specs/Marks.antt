@@ -1,5 +1,5 @@
 -- Marks of units: which of them reach a block by so many calls.
-use Rattle.std.specs.Prelude.{ℕ, zero, suc, Bool, true, false, ◌&&◌, ◌||◌, List, [], ◌∷◌, length, map, slice_get, unwrap_or, if◌then◌else◌}
+use Rattle.std.specs.Prelude.{ℕ, zero, suc, Bool, true, false, ◌||◌, List, [], ◌∷◌, length, map, slice_get, unwrap_or, if◌then◌else◌}
 use Rattle.std.specs.List.{list_any}
 use Rattle.hal_reach.specs.Places.{is_among}
 
@@ -34,17 +34,6 @@ rounds (suc n) units blocks marked = rounds n units blocks (callers units blocks
 -- as many times as there are units
 abbrev pub reaching : List Unit → List ℕ → List Bool
 reaching units blocks = rounds (length units) units blocks (themselves units blocks)
-
-abbrev pub same_mark : Bool → Bool → Bool
-same_mark true one = one
-same_mark false true = false
-same_mark false false = true
-
-abbrev pub are_same : List Bool → List Bool → Bool
-are_same [] [] = true
-are_same (m ∷ ms) [] = false
-are_same [] (m ∷ ms) = false
-are_same (m ∷ ms) (n ∷ ns) = same_mark m n && are_same ms ns
 
 -- the units that are marked
 unfoldable pub numbers_marked : List Unit → List Bool → List ℕ

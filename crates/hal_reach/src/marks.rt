@@ -1,9 +1,10 @@
 //! Marks of units, one beside the other: which of them reach one of some blocks by so many calls.
 
-ghost use Rattle.std.specs.Prelude.{◌≡◌, IfOk, map};
+ghost use Rattle.std.specs.Prelude.{◌≡◌, ◌≤◌, ◌<◌, ℕ, suc, true, List, Some, IfOk, IsFalse, IsTrue, length, map, slice_get};
 ghost use Rattle.std.specs.List.{list_any};
 ghost use Rattle.hal_reach.specs.Marks as marks;
 ghost use Rattle.hal_reach.specs.SeenUnits.{seen_unit};
+ghost use Rattle.hal_reach.specs.Sweeps.{AreClosed, AreFound, count};
 
 use crate::places::is_among;
 use crate::unit::Unit;
@@ -42,43 +43,65 @@ fn themselves(alloc: Global, units: &[Unit], blocks: &[usize]) -> Result<Vec<boo
     Ok(marked)
 }
 
-/// The same, and the units that call one of those that are marked.
-fn callers(
-    alloc: Global,
-    units: &[Unit],
-    blocks: &[usize],
-    marked: &[bool],
-) -> Result<Vec<bool>, AllocError>
-    ensures { IfOk result (λ more. more.items ≡ marks.callers (map seen_unit units.now) blocks.now marked.now) }
+/// Marks the unit at this place, where it isn't marked and calls one that is. It tells whether it does.
+#[tactic(auto, using(crate::proofs::Swept::one_found, crate::proofs::Swept::one_more))]
+fn mark(units: &[Unit], place: usize, marked: &mut Vec<bool>) -> bool
+    requires { length marked.old.items ≡ length units.now }
+    ensures many { length marked.new.items ≡ length units.now }
+    ensures found { (blocks : List ℕ) → AreFound (map seen_unit units.now) blocks marked.old.items → AreFound (map seen_unit units.now) blocks marked.new.items }
+    ensures more { IsTrue result → count marked.new.items ≡ suc (count marked.old.items) }
+    ensures same { IsFalse result → marked.new.items ≡ marked.old.items }
+    ensures closed { IsFalse result → (u : marks.Unit) → slice_get (map seen_unit units.now) place ≡ Some u → list_any (marks.is_marked marked.old.items) u.callees ≡ true → marks.is_marked marked.old.items place ≡ true }
 {
-    let mut more = Vec::new(alloc);
-    for unit in units {
-        more.push(is_among(blocks, unit.number) || is_any_marked(marked, &unit.callees))?;
+    let (Some(unit), Some(mark)) = (units.get(place), marked.get(place)) else {
+        return false;
+    };
+    if *mark || !is_any_marked(marked, &unit.callees) {
+        return false;
     }
-    Ok(more)
+    marked[place] = true;
+    true
 }
 
-/// Whether marks are the same.
-fn are_same(one: &[bool], other: &[bool]) -> bool
-    ensures { result ≡ marks.are_same one.now other.now }
+/// Marks units that call marked ones, from the first one on. It tells whether one was marked.
+fn sweep(units: &[Unit], marked: &mut Vec<bool>) -> bool
+    requires { length marked.old.items ≡ length units.now }
+    ensures many { length marked.new.items ≡ length units.now }
+    ensures found { (blocks : List ℕ) → AreFound (map seen_unit units.now) blocks marked.old.items → AreFound (map seen_unit units.now) blocks marked.new.items }
+    ensures more { IsTrue result → count marked.old.items < count marked.new.items }
+    ensures same { IsFalse result → marked.new.items ≡ marked.old.items }
+    ensures closed { IsFalse result → AreClosed (map seen_unit units.now) marked.old.items (length units.now) }
 {
-    let mut rest = one;
-    let mut others = other;
-    while let Some((first, more)) = rest.split_first() {
-        let Some((second, further)) = others.split_first() else {
-            return false;
-        };
-        if *first != *second {
-            return false;
+    let mut some = false;
+    for place in 0..units.len() {
+        if mark(units, place, marked) {
+            some = true;
         }
-        rest = more;
-        others = further;
     }
-    others.is_empty()
+    some
 }
 
-/// The units that reach one of these blocks by as many calls as there are units.
-#[tactic(auto, using(crate::proofs::Rounds::stays_from), unfolding(crate::specs::Marks::rounds))]
+/// The same, from the last one on.
+fn sweep_back(units: &[Unit], marked: &mut Vec<bool>) -> bool
+    requires { length marked.old.items ≡ length units.now }
+    ensures many { length marked.new.items ≡ length units.now }
+    ensures found { (blocks : List ℕ) → AreFound (map seen_unit units.now) blocks marked.old.items → AreFound (map seen_unit units.now) blocks marked.new.items }
+    ensures more { count marked.old.items ≤ count marked.new.items }
+    ensures same { IsFalse result → marked.new.items ≡ marked.old.items }
+{
+    let mut some = false;
+    let mut left = units.len();
+    while let Some(place) = left.checked_sub(1) {
+        if mark(units, place, marked) {
+            some = true;
+        }
+        left = place;
+    }
+    some
+}
+
+/// The units that reach one of these blocks by calls, or are one. A unit is marked as soon as one that it calls is, so where units stand behind those that they call, or before
+/// them, all are found at once.
 pub(crate) fn reaching(
     alloc: Global,
     units: &[Unit],
@@ -87,14 +110,8 @@ pub(crate) fn reaching(
     ensures { IfOk result (λ marked. marked.items ≡ marks.reaching (map seen_unit units.now) blocks.now) }
 {
     let mut marked = themselves(alloc, units, blocks)?;
-    let mut left = units.len();
-    while let Some(fewer) = left.checked_sub(1) {
-        let more = callers(alloc, units, blocks, &marked)?;
-        if are_same(&marked, &more) {
-            return Ok(marked);
-        }
-        marked = more;
-        left = fewer;
+    'sweep: while sweep(units, &mut marked) {
+        let _more = sweep_back(units, &mut marked);
     }
     Ok(marked)
 }

@@ -1,54 +1,15 @@
 //! Whether STATIC data directly in a unit are shared.
 
 ghost use Rattle.std.specs.Prelude.{◌≡◌};
-ghost use Rattle.std.specs.List.{list_any};
 ghost use Rattle.std.specs.Option.{option_map};
 ghost use Rattle.hal_tree.specs.SeenUnits.{seen_head, seen_mode};
-ghost use Rattle.hal_phrases.specs.SeenPhrases.{seen_node, seen_phrase};
 ghost use Rattle.hal_names.specs.SeenNames.{seen_names};
 ghost use Rattle.hal_meaning.specs.Bodies as bodies;
 ghost use Rattle.hal_meaning.specs.Places as places;
 
 use hal_names::Names;
-use hal_phrases::{Node, Phrase};
+use hal_phrases::Node;
 use hal_tree::{Head, Mode};
-
-/// Whether a head is that of a TASK.
-#[tactic(auto, using(hal_tree::proofs::MadeUnits::made_program, hal_tree::proofs::MadeUnits::made_compool, hal_tree::proofs::MadeUnits::made_task, hal_tree::proofs::MadeUnits::made_procedure, hal_tree::proofs::MadeUnits::made_function))]
-fn is_task(node: Node<'_>) -> bool
-    ensures { result ≡ places.is_task (seen_node node.entry) }
-{
-    match node {
-        Node::Unit { head, .. } => match head {
-            Head::Task { place: _ } => true,
-            Head::Program { place: _ } => false,
-            Head::Compool { place: _ } => false,
-            Head::Procedure { .. } => false,
-            Head::Function { .. } => false,
-        },
-        _ => false,
-    }
-}
-
-/// Whether a phrase is a TASK that stands directly in the unit with this number.
-fn is_task_in(unit: usize, phrase: &Phrase<'_>) -> bool
-    ensures { result ≡ places.is_task_in unit (seen_phrase phrase.now) }
-{
-    is_task(phrase.node) && phrase.around.home == unit
-}
-
-/// Whether one of the phrases is.
-fn has_task(names: &Names<'_>, unit: usize) -> bool
-    ensures { result ≡ list_any (places.is_task_in unit) (seen_names names.now) }
-{
-    let phrases = names.phrases();
-    for phrase in phrases {
-        if is_task_in(unit, phrase) {
-            return true;
-        }
-    }
-    false
-}
 
 /// Whether a head says REENTRANT.
 fn says_reentrant(mode: &Option<Mode>) -> bool
@@ -68,7 +29,7 @@ fn shares(names: &Names<'_>, unit: usize, head: &Head) -> bool
 {
     match head {
         Head::Compool { place: _ } => true,
-        Head::Program { place: _ } => has_task(names, unit),
+        Head::Program { place: _ } => names.has_task(unit),
         Head::Task { place: _ } => false,
         Head::Procedure { mode, .. } => says_reentrant(mode),
         Head::Function { mode, .. } => says_reentrant(mode),

@@ -1,10 +1,10 @@
-use Rattle.std.proofs.Common.{◌≡◌, map}
-use Rattle.hal_reach.specs.Marks.{rounds, reaching}
+use Rattle.std.proofs.Common.{◌≡◌, ◌-◌, length, map}
 use Rattle.hal_reach.specs.SeenUnits.{seen_unit}
+use Rattle.hal_reach.specs.Sweeps.{AreFound, count}
 use Rattle.hal_reach.proofs.marks.reaching.Given as goal
 
-abbrev pub invariant-loop-fewer : goal.invariant-loop-fewer
-invariant-loop-fewer l = rounds l.left (map seen_unit l.units) l.blocks l.marked.items ≡ reaching (map seen_unit l.units) l.blocks
+abbrev pub invariant-sweep : goal.invariant-sweep
+invariant-sweep l = (length l.marked.items ≡ length l.units) × AreFound (map seen_unit l.units) l.blocks l.marked.items
 
-abbrev pub decreases-loop-fewer : goal.decreases-loop-fewer
-decreases-loop-fewer l = l.left
+abbrev pub decreases-sweep : goal.decreases-sweep
+decreases-sweep l = length l.units - count l.marked.items
