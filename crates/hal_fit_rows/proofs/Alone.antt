@@ -28,13 +28,13 @@ abbrev AreApart : Shapes → Type 0
 AreApart [] = Unit {0}
 AreApart (x ∷ xs) = Each (λ y. same_runs x y ≡ false) xs × AreApart xs
 
-abbrev HasRun : List (Run Kind) → Type 0
+abbrev pub HasRun : List (Run Kind) → Type 0
 HasRun runs = is_nil runs ≡ false
 
 -- shapes of joined runs, each there once
 pub record AreKept (shapes : Shapes) : Type 0 where
-  joined : Each AreJoined shapes
-  some : Each HasRun shapes
+  pub joined : Each AreJoined shapes
+  pub some : Each HasRun shapes
   apart : AreApart shapes
 
 or_none : (a b : Bool) → (a || b) ≡ false → (a ≡ false) × (b ≡ false)

@@ -20,6 +20,7 @@ mod Strict
 pub mod Numbered
 mod Adding
 pub mod Alone
+mod Celled
 pub mod Referred
 pub mod Purposed
 pub mod Formed

@@ -29,6 +29,7 @@ ghost use Rattle.hal_code.specs.declared.row.View.{View};
 ghost use Rattle.hal_code.specs.Images.{expanded};
 ghost use Rattle.hal_code.specs.Memory.{lies_from, own_memory, shared_memory};
 ghost use Rattle.hal_code.specs.Right.{form_right, names_right, shapes_right};
+ghost use Rattle.hal_right_values.specs.Finding.{HaveCells};
 ghost use Rattle.hal_verify.specs.Limits.{spread_kept};
 ghost use Rattle.hal_link.specs.CalledViews.{views_of};
 ghost use Rattle.hal_gen_expr.specs.declared.elements.Element.{Element};
@@ -97,6 +98,13 @@ pub fn each_view_of_a_set_has_a_purpose()
 pub fn views_of_an_image_are_formed()
     ensures { (turns : ℕ) (files : List File) (image : ImageParts) → image_of (set_of turns files) (views_of (set_of turns files)) ≡ Ok image → list_all (form_right image) image.views ≡ true }
 {}
+
+/// And each of them gives a cell (image document, When an image is right).
+pub fn each_view_of_an_image_has_a_cell()
+    ensures { (turns : ℕ) (files : List File) (image : ImageParts) → image_of (set_of turns files) (views_of (set_of turns files)) ≡ Ok image → HaveCells image }
+{
+    views_of_an_image_are_formed();
+}
 
 /// The names of the report of a linked image of a set within its limits are right: the elements that they show are there, among the shared cells, the own places of the
 /// process that shows them, or the events, and they give no more lines than the set has cells and events (image document, When an image is right).

@@ -1,14 +1,11 @@
 //! Units, with those that reach them by calls.
 
 ghost use Rattle.std.specs.Prelude.{◌≡◌, IfOk, map};
-ghost use Rattle.hal_names.specs.SeenNames.{seen_names};
 ghost use Rattle.hal_reach.specs.SeenUnits.{seen_reached};
 ghost use Rattle.hal_link.specs.SeenOutlines as seen;
 
-use hal_names::Names;
-use hal_reach::{Reached, reaching_any};
+use hal_reach::Reached;
 use std::alloc::{AllocError, Global};
-use std::slice::from_ref;
 
 /// A unit, the processes that reach it, and how many units do.
 #[derive(Clone, Copy)]
@@ -18,33 +15,29 @@ pub(crate) struct Rank<'a> {
     pub(crate) callers: usize,
 }
 
-/// A unit that these processes reach.
-fn rank_of<'a>(
-    alloc: Global,
-    names: &Names<'_>,
-    reached: &'a Reached,
-) -> Result<Rank<'a>, AllocError>
-    ensures { IfOk result (λ rank. seen.seen_rank rank ≡ seen.rank_of (seen_names names.now) (seen_reached reached.now)) }
-{
-    let callers = reaching_any(alloc, names, from_ref(&reached.unit))?;
-    Ok(Rank {
-        unit: reached.unit,
-        processes: &reached.processes,
-        callers: callers.len(),
-    })
-}
-
-/// The units that processes reach so.
+/// The units that processes reach so, and that so many units reach, one number a unit.
+#[tactic(auto, unfolding(crate::specs::SeenOutlines::ranks_with))]
 pub(crate) fn ranks_of<'a>(
     alloc: Global,
-    names: &Names<'_>,
     reached: &'a [Reached],
+    callers: &[usize],
 ) -> Result<Vec<Rank<'a>>, AllocError>
-    ensures { IfOk result (λ ranks. map seen.seen_rank ranks.items ≡ map (seen.rank_of (seen_names names.now)) (map seen_reached reached.now)) }
+    ensures { IfOk result (λ ranks. map seen.seen_rank ranks.items ≡ seen.ranks_with (map seen_reached reached.now) callers.now) }
 {
     let mut ranks = Vec::new(alloc);
-    for one in reached {
-        ranks.push(rank_of(alloc, names, one)?)?;
+    let mut rest = reached;
+    let mut counts = callers;
+    while let Some((one, others)) = rest.split_first() {
+        let Some((count, more)) = counts.split_first() else {
+            return Ok(ranks);
+        };
+        ranks.push(Rank {
+            unit: one.unit,
+            processes: &one.processes,
+            callers: *count,
+        })?;
+        rest = others;
+        counts = more;
     }
     Ok(ranks)
 }

@@ -8,9 +8,9 @@ use Rattle.hal_meaning.specs.Bodies.{is_unit, is_process, callee, processes_of, 
 use Rattle.hal_meaning.specs.Places.{unit_numbers}
 use Rattle.hal_reach.specs.declared.call.Call.{Call}
 use Rattle.hal_reach.specs.Marks as marks
-use Rattle.hal_reach.specs.Marks.{numbers_marked, processes_marked, rows}
+use Rattle.hal_reach.specs.Marks.{counts, numbers_marked, processes_marked, rows}
 use Rattle.hal_reach.specs.Places.{place_among, places, places_called}
-use Rattle.hal_reach.specs.Calls.{call_of, call_from, calls_of, unit_with, units_among, units_of, reaches_any, reaching, reached, reached_of}
+use Rattle.hal_reach.specs.Calls.{call_of, call_from, calls_of, unit_with, units_among, units_of, reaches_any, reaching, caller_count, callers_of, reached, reached_of}
 use Rattle.hal_reach.proofs.Within.{AreRight, numbers, row, reaching_within}
 use Rattle.hal_reach.proofs.Callees.{IsOther, sort_of, has_callees}
 
@@ -134,3 +134,11 @@ some_rows ps (u ∷ us) =
 pub all_rows : (ps : List Phrase) → rows (units_of ps) ≡ reached_of ps
 unfolding units_of rows reached_of
 all_rows ps = some_rows ps (units_of ps) ∙ ap (map (reached ps)) (numbered (unit_numbers ps) (calls_of ps) ps)
+
+some_counts : (ps : List Phrase) (us : List marks.Unit) → map (marks.count_of (units_of ps)) us ≡ map (caller_count ps) (numbers us)
+some_counts ps [] = refl
+some_counts ps (u ∷ us) = ap₂ (λ (n : ℕ) (ns : List ℕ). n ∷ ns) (ap (λ (ks : List ℕ). length ks) (all_reaching ps (u.number ∷ []))) (some_counts ps us)
+
+pub all_counts : (ps : List Phrase) → marks.counts (units_of ps) ≡ callers_of ps
+unfolding units_of counts callers_of
+all_counts ps = some_counts ps (units_of ps) ∙ ap (map (caller_count ps)) (numbered (unit_numbers ps) (calls_of ps) ps)

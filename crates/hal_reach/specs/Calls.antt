@@ -1,5 +1,5 @@
 -- The calls of a set of files, its units, and the processes that reach each of them.
-use Rattle.std.specs.Prelude.{ℕ, Bool, ◌&&◌, List, map, Option, Some, None, slice_get, bytes_eq, filter, filter_map, if◌then◌else◌}
+use Rattle.std.specs.Prelude.{ℕ, Bool, ◌&&◌, List, [], ◌∷◌, length, map, Option, Some, None, slice_get, bytes_eq, filter, filter_map, if◌then◌else◌}
 use Rattle.std.specs.Option.{option_and_then, option_map}
 use Rattle.std.specs.List.{list_any}
 use Rattle.hal_grammar.specs.Expressions.{Reference, Refers}
@@ -65,6 +65,14 @@ reaches_any ps blocks from = list_any (reaches ps from) blocks
 -- the units that do
 unfoldable pub reaching : List Phrase → List ℕ → List ℕ
 reaching ps blocks = filter (reaches_any ps blocks) (unit_numbers ps)
+
+-- how many units reach a block
+abbrev pub caller_count : List Phrase → ℕ → ℕ
+caller_count ps q = length (reaching ps (q ∷ []))
+
+-- how many reach each unit of a set
+unfoldable pub callers_of : List Phrase → List ℕ
+callers_of ps = map (caller_count ps) (unit_numbers ps)
 
 -- a unit of a set and the processes that reach it
 abbrev pub reached : List Phrase → ℕ → marks.Reached

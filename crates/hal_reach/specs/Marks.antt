@@ -54,6 +54,13 @@ row units u = record { unit = u.number; processes = processes_marked units (reac
 unfoldable pub rows : List Unit → List Reached
 rows units = map (row units) units
 
+-- how many units reach a unit
+abbrev pub count_of : List Unit → Unit → ℕ
+count_of units u = length (numbers_marked units (reaching units (u.number ∷ [])))
+
+unfoldable pub counts : List Unit → List ℕ
+counts units = map (count_of units) units
+
 -- whether a unit calls one that reaches it
 unfoldable pub calls_itself : List Unit → Unit → Bool
 calls_itself units u = list_any (is_marked (reaching units (u.number ∷ []))) u.callees

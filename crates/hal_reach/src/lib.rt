@@ -2,6 +2,7 @@
 #![tactic(auto)]
 
 mod call;
+mod callers;
 mod calls;
 mod marked;
 mod marks;
@@ -16,6 +17,7 @@ mod sorts;
 mod unit;
 mod units;
 
+pub use callers::callers_of;
 pub use calls::callee;
 pub use marked::reaching_any;
 pub use meanings::meant;

@@ -14,7 +14,11 @@ use std::alloc::{AllocError, Global};
 
 /// The units that are marked.
 #[tactic(auto, unfolding(crate::specs::Marks::numbers_marked))]
-fn numbers_marked(alloc: Global, units: &[Unit], marked: &[bool]) -> Result<Vec<usize>, AllocError>
+pub(crate) fn numbers_marked(
+    alloc: Global,
+    units: &[Unit],
+    marked: &[bool],
+) -> Result<Vec<usize>, AllocError>
     ensures { IfOk result (λ found. found.items ≡ marks.numbers_marked (map seen_unit units.now) marked.now) }
 {
     let mut found = Vec::new(alloc);
