@@ -9,3 +9,4 @@ mod TakenTops
 mod Texts
 mod Spreads
 mod Twice
+mod Made

@@ -205,9 +205,11 @@ impl Machine {
         ensures does { core_seen self.new ≡ cores.core block.now.first [] [] [] (calling (zero_of block.now.result) (core_seen self.old) ∷ (core_seen self.old).frames) (core_seen self.old).kept (core_seen self.old).mode }
         ensures room { self.new.blocks.room ≡ self.old.blocks.room }
     {
+        self.spare.clear();
+        let fresh = std::mem::replace(&mut self.spare, Operands::new(setting.alloc));
         let back = Return {
             at: self.at + 1,
-            operands: std::mem::replace(&mut self.operands, Operands::new(setting.alloc)),
+            operands: std::mem::replace(&mut self.operands, fresh),
             line: std::mem::replace(&mut self.line, Vec::new(setting.alloc)),
             result: block.result,
         };
@@ -253,7 +255,7 @@ impl Machine {
         ensures room { self.new.blocks.room ≡ self.old.blocks.room }
     {
         self.at = back.at;
-        self.operands = back.operands;
+        self.spare = std::mem::replace(&mut self.operands, back.operands);
         self.line = back.line;
     }
 

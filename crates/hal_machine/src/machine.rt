@@ -22,6 +22,8 @@ pub struct Machine {
     /// The number of the instruction that is next.
     pub at: usize,
     pub operands: Operands,
+    /// Room for the operands of the next block that is called: what is in it says nothing.
+    pub spare: Operands,
     pub line: Vec<u8>,
     pub blocks: Blocks,
     pub places: Vec<Held>,

@@ -1,6 +1,6 @@
 //! Instructions that put values on the stack or take them off, and jumps.
 
-ghost use Rattle.std.specs.Prelude.{◌≡◌, ◌<◌, ◌^◌, ◌-◌, pos};
+ghost use Rattle.std.specs.Prelude.{◌≡◌, ◌≤◌, ◌<◌, ◌^◌, ◌-◌, length, pos};
 ghost use Rattle.hal_values.specs.declared.value.Value.TheVariants as value;
 ghost use Rattle.hal_code.specs.Addressing.{pushed};
 ghost use Rattle.hal_code.specs.Computing.{act_drop};
@@ -35,15 +35,25 @@ impl Machine {
         Ok(Stepped::Moves)
     }
 
+    /// TEXT of these bytes.
+    pub fn text_of(&mut self, setting: &Setting<'_>, text: &[u8]) -> Result<Stepped, AllocError>
+        requires at { self.old.at < 2 ^ 64 - 1 }
+        requires fits { length text.now ≤ 255 }
+        ensures does { Does setting.now.image.now result self.new (pushed (value.Text text.now) (stack_seen self.old.operands) (core_seen self.old)) }
+        ensures room { self.new.blocks.room ≡ self.old.blocks.room }
+    {
+        self.operands.push_text(text)?;
+        self.at += 1;
+        Ok(Stepped::Moves)
+    }
+
     /// TEXT.
     pub fn text(&mut self, setting: &Setting<'_>, text: &Text) -> Result<Stepped, AllocError>
         requires { self.old.at < 2 ^ 64 - 1 }
         ensures does { Does setting.now.image.now result self.new (pushed (value.Text text.now) (stack_seen self.old.operands) (core_seen self.old)) }
         ensures room { self.new.blocks.room ≡ self.old.blocks.room }
     {
-        self.operands.push_text(text.bytes())?;
-        self.at += 1;
-        Ok(Stepped::Moves)
+        self.text_of(setting, text.bytes())
     }
 
     /// ERRGRP.

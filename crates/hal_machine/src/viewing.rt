@@ -27,19 +27,19 @@ const OUTSIDE: ErrNo = ErrNo {
 /// How many cells lie before the one that subscripts choose, and whether they lie in their dimensions.
 #[derive(Clone, Copy)]
 pub(crate) struct Spread {
-    before: u64,
-    inside: bool,
+    pub(crate) before: u64,
+    pub(crate) inside: bool,
 }
 
 /// Whether a subscript lies in a dimension.
-fn is_inside(size: u32, subscript: i32) -> bool
+pub(crate) fn is_inside(size: u32, subscript: i32) -> bool
     ensures { result ≡ is_inside size subscript }
 {
     !(subscript < 1) && !(i64::from(size) < i64::from(subscript))
 }
 
 /// How many places lie before the nearest one of a dimension.
-fn before_nearest(size: u32, subscript: i32) -> u64
+pub(crate) fn before_nearest(size: u32, subscript: i32) -> u64
     ensures { result ≡ before_nearest size subscript }
 {
     let nearest = 1_i64.max(i64::from(subscript).min(i64::from(size)));
@@ -93,7 +93,7 @@ impl Operands {
     }
 
     /// Which cell the subscripts of a view choose. Most views have one dimension.
-    fn spread_of(&self, view: &View) -> Option<Spread>
+    pub(crate) fn spread_of(&self, view: &View) -> Option<Spread>
         ensures { spread_seen (drop (length view.now.dimensions) (stack_seen self.now)) result ≡ saturated (spread view.now.dimensions (stack_seen self.now)) }
     {
         match view.dimensions.as_slice() {
@@ -129,7 +129,7 @@ impl Machine {
     }
 
     /// The place so many cells behind the first one of a view.
-    fn place_of(&self, base: Base, before: u64) -> Place
+    pub(crate) fn place_of(&self, base: Base, before: u64) -> Place
         requires { HasRoom (further before (spot_of base (core_seen self.now).kept.places)) }
         ensures { spot_seen result ≡ further before (spot_of base (core_seen self.now).kept.places) }
     {

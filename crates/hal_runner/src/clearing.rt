@@ -6,6 +6,7 @@ ghost use Rattle.hal_machine.specs.Seen.{held_seen, core_seen, setting_seen, ste
 ghost use Rattle.hal_right_values.specs.Finding.{ClearFits};
 
 use hal_machine::{Held, Machine, Setting, Stepped};
+use hal_values::Value;
 
 /// What an own place holds, once more.
 pub(crate) fn copy_of(one: &Held) -> Held
@@ -17,6 +18,20 @@ pub(crate) fn copy_of(one: &Held) -> Held
     }
 }
 
+/// A place holds the same as this one; an integer goes in the place of one.
+fn put_first(held: &mut Held, first: &Held)
+    ensures { held_seen held.new ≡ held_seen first.now }
+{
+    let Held::Value(Value::Int(number)) = first else {
+        *held = copy_of(first);
+        return;
+    };
+    match held {
+        Held::Value(Value::Int(before)) => *before = *number,
+        _ => *held = Held::Value(Value::Int(*number)),
+    }
+}
+
 /// So many places from this one on hold what these do.
 #[tactic(auto, using(crate::proofs::Mapping::map_set, crate::proofs::Mapping::map_get, crate::proofs::Cleared::none_cleared))]
 fn clear_from(places: &mut Vec<Held>, firsts: &[Held], place: usize, count: usize)
@@ -25,7 +40,7 @@ fn clear_from(places: &mut Vec<Held>, firsts: &[Held], place: usize, count: usiz
     ensures { map held_seen places.new.items ≡ cleared (map held_seen firsts.now) place count (map held_seen places.old.items) }
 {
     for number in place..place + count {
-        places[number] = copy_of(&firsts[number]);
+        put_first(&mut places[number], &firsts[number]);
     }
 }
 

@@ -48,6 +48,7 @@ impl Runner {
         let machine = Machine {
             at: setting.plain.begin + 1,
             operands: Operands::new(setting.plain.alloc),
+            spare: Operands::new(setting.plain.alloc),
             line: Vec::new(setting.plain.alloc),
             blocks: blocks_for(setting.plain.alloc, setting.plain.image)?,
             places,
