@@ -14,12 +14,15 @@ use Rattle.hal_attributes.specs.Typed.{is_untyped, untyped_head, untyped, is_no_
 use Rattle.hal_types.specs.Rules.{attribute_rows, type_rows}
 use Rattle.hal_meaning.specs.Sets.{body_at}
 use Rattle.hal_agreement.specs.Sites.{Site}
+use Rattle.hal_fit_expr.specs.Sorted.{sort_of_call}
 use Rattle.hal_fit_expr.specs.Uses.{Uses}
+use Rattle.hal_fit_rules.specs.Leaves.{IsKnown}
 use Rattle.hal_fit_rules.specs.Owned.{IsFunction}
 use Rattle.hal_fit_rules.specs.Passing.{AreParameters, IsProcedure}
+use Rattle.hal_fit_rules.proofs.Declaring as declaring
 use Rattle.hal_fit_rules.proofs.Unbroken.{unbroken, ruled_none}
 use Rattle.hal_fit_names.specs.Bodied.{HasBody}
-use Rattle.hal_fit_names.proofs.MeantNames.{of_attributes}
+use Rattle.hal_fit_names.proofs.MeantItems.{of_attributes}
 use Rattle.hal_fit_names.proofs.Placing.{at_among}
 use Rattle.hal_fit_names.proofs.Suiting.{unless_true}
 
@@ -69,6 +72,12 @@ module _ (u : Uses) (site : Site) (sound : IsSound type_rows site.set.phrases) (
         head = has.same;
         calls = calls;
       }
+
+  -- what it gives is of the class of its result
+  pub function_result : (name : Naming) (place : Place) (inputs : List Naming) (returns : Returns) (mode : Option Mode) (declarations : List Declaration) → p.node ≡ OfUnit name (Function place inputs returns mode) declarations
+      → HasBody site.set.bodies k (Function place inputs returns mode) → u.calls p.number ≡ true → IsKnown (class_of_returns returns) (sort_of_call u site p.number)
+  unfolding function_known
+  function_result name place inputs returns mode declarations is has calls = declaring.function_gives u site p (function_known name place inputs returns mode declarations is has calls)
 
   pub procedure_known : (name : Naming) (place : Place) (inputs outputs : List Naming) (mode : Option Mode) (declarations : List Declaration) → p.node ≡ OfUnit name (Procedure place inputs outputs mode) declarations
       → HasBody site.set.bodies k (Procedure place inputs outputs mode) → u.calls p.number ≡ true → AreParameters site p.number inputs → IsProcedure u site p

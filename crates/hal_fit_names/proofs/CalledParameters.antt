@@ -1,21 +1,19 @@
 -- The parameters of a written template of a unit that is called are for the unit what they are for the checks.
-use Rattle.std.proofs.Common.{◌≡◌, ℕ, Bool, true, false, ◌||◌, List, [], ◌∷◌, Option, Some, slice_get, refl, sym, ap, ◌∙◌, inl, inr}
+use Rattle.std.proofs.Common.{◌≡◌, ℕ, false, ◌||◌, List, [], ◌∷◌, Option, Some, slice_get, refl, sym, ap, ◌∙◌, inl, inr}
 use Rattle.std.specs.Option.{option_and_then, is_some}
 use Rattle.hal_grammar.specs.Leaves.{Naming}
 use Rattle.hal_grammar.specs.Declarations.{Kind, IntegerKind, BooleanKind, EventKind, BitKind, CharacterKind, StructureKind, Double, Attribute, Declared}
-use Rattle.hal_phrases.specs.Phrases.{Node, Phrase, OfItem}
+use Rattle.hal_phrases.specs.Phrases.{Phrase, OfItem}
 use Rattle.hal_names.specs.Laws.{IsCounted}
 use Rattle.hal_scope.specs.Rules.{IsAmong, IsSound, rows}
 use Rattle.hal_scope.specs.Sorts.{type_of}
 use Rattle.hal_kinds.specs.Attributes.{sizes_of}
 use Rattle.hal_kinds.specs.Data.{class_of_type, is_structure_type}
 use Rattle.hal_types.specs.Rules.{type_rows}
-use Rattle.hal_shapes.specs.Arguments as arguments
 use Rattle.hal_shapes.specs.Arguments.{parameter_of}
 use Rattle.hal_constants.specs.Known.{Known, kind_of_type, known}
 use Rattle.hal_constants.specs.Naming.{is_value_item}
 use Rattle.hal_templates.specs.Giving.{IsOwn}
-use Rattle.hal_templates.specs.Own.{template_of}
 use Rattle.hal_templates.specs.Traits.{is_given}
 use Rattle.hal_meaning.specs.Calls.{parameter_named}
 use Rattle.hal_meaning.specs.Variables.{is_whole, kind_of_first}

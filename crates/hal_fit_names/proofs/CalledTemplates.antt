@@ -1,58 +1,41 @@
 -- A written template of a unit that is called stands for the unit.
-use Rattle.std.proofs.Common.{◌≡◌, ℕ, Bool, true, false, List, [], ◌∷◌, Option, Some, None, slice_get, refl, sym, ap, ◌∙◌, subst, inl, inr}
+use Rattle.std.proofs.Common.{◌≡◌, ℕ, true, List, [], ◌∷◌, Option, Some, None, slice_get, refl, sym, ap, ◌∙◌, subst, inl, inr}
 use Rattle.std.specs.Option.{option_and_then, is_some}
 use Rattle.hal_grammar.specs.Leaves.{Naming}
-use Rattle.hal_grammar.specs.Declarations.{Attribute, Declaration, Declared, Kind}
-use Rattle.hal_grammar.specs.Units.{Compool, File, Function, Head, Procedure, Program, Task}
-use Rattle.hal_phrases.specs.Phrases.{Phrase, OfItem, OfTemplate, OfUnit}
+use Rattle.hal_grammar.specs.Declarations.{Declaration, Kind}
+use Rattle.hal_grammar.specs.Units.{File, Head}
+use Rattle.hal_phrases.specs.Phrases.{Phrase, OfTemplate, OfUnit}
 use Rattle.hal_phrases.specs.GatheredUnits.{phrases_of}
 use Rattle.hal_names.specs.declared.key.Key.{Key}
 use Rattle.hal_names.specs.declared.key.Space.TheVariants as space
 use Rattle.hal_names.specs.Keys.{key, own}
 use Rattle.hal_names.specs.Laws.{IsCounted, IsFirst, IsUndeclared}
-use Rattle.hal_scope.specs.Rules.{IsAmong, IsSound, rows, ruled}
+use Rattle.hal_scope.specs.Rules.{IsAmong, IsSound, rows}
 use Rattle.hal_scope.specs.Sorts.{type_of}
-use Rattle.hal_attributes.specs.Typed.{untyped}
-use Rattle.hal_types.specs.Rules.{attribute_rows, type_rows}
-use Rattle.hal_shapes.specs.Arguments.{parameter_of}
-use Rattle.hal_constants.specs.Known.{Known, known}
-use Rattle.hal_templates.specs.Giving.{GivesItsUnit, HaveSameHead}
+use Rattle.hal_types.specs.Rules.{type_rows}
+use Rattle.hal_constants.specs.Known.{known}
+use Rattle.hal_templates.specs.Giving.{GivesItsUnit}
 use Rattle.hal_meaning.specs.Bodies.{is_called_head, meant_at, standing_for}
 use Rattle.hal_meaning.specs.Calls.{inputs_of}
 use Rattle.hal_agreement.specs.Sites.{Site}
-use Rattle.hal_fit_rules.specs.Parameters.{ParametersAgree, spelled}
-use Rattle.hal_fit_rules.specs.Passing.{AreParameters, IsParameter}
+use Rattle.hal_fit_rules.specs.Passing.{AreParameters}
 use Rattle.hal_fit_rules.specs.Valued.{HasConstants}
 use Rattle.hal_fit_rules.proofs.Parameters.{parameters_agree}
-use Rattle.hal_fit_rules.proofs.Unbroken.{ruled_none, unbroken}
 use Rattle.hal_fit_names.specs.Called.{StandsForCalled}
 use Rattle.hal_fit_names.specs.Suited.{AreDeclared, HasFitLiterals}
 use Rattle.hal_fit_names.specs.Used.{AreDeclaredParameters, HaveSizes, IsDeclaredParameter}
 use Rattle.hal_fit_names.proofs.Bodied.{AreInputs, IsInput, unit_has_inputs}
 use Rattle.hal_fit_names.proofs.CalledParameters.{parameters_agree_too}
 use Rattle.hal_fit_names.proofs.Declaring.{parameter_known}
-use Rattle.hal_fit_names.proofs.MeantNames.{of_attributes}
+use Rattle.hal_fit_names.proofs.Heads.{AreCalled, are_called, called_too, function_too, named_too}
+use Rattle.hal_fit_names.proofs.MeantItems.{item_typed}
 use Rattle.hal_fit_names.proofs.Parametered.{has_parameter}
-use Rattle.hal_fit_names.proofs.Placing.{NodePlaced, at_among}
-use Rattle.hal_fit_names.proofs.Suiting.{unless_true}
+use Rattle.hal_fit_names.proofs.Placing.{HeadPlaced, NodePlaced, at_among}
+use Rattle.hal_fit_names.proofs.Results.{same_class}
+use Rattle.hal_fit_names.proofs.Sizing.{is_valued}
 use Rattle.hal_fit_names.proofs.Twins.{IsTwin, parameter_own, parameter_twin}
 
--- a unit with the same head is called too, and takes the same names
-same_called : (ps : List Phrase) (vs : Known) (p q : Phrase) (head other : Head) → HaveSameHead ps vs p head q other → is_called_head head ≡ true → (is_called_head other ≡ true) × (spelled (inputs_of other) ≡ spelled (inputs_of head))
-same_called ps vs p q (Procedure at inputs outputs mode) (Procedure there other_inputs other_outputs other_mode) same called = (refl, sym same.0)
-same_called ps vs p q (Procedure at inputs outputs mode) (Function there other_inputs returns other_mode) same called = absurd same
-same_called ps vs p q (Procedure at inputs outputs mode) (Program there) same called = absurd same
-same_called ps vs p q (Procedure at inputs outputs mode) (Compool there) same called = absurd same
-same_called ps vs p q (Procedure at inputs outputs mode) (Task there) same called = absurd same
-same_called ps vs p q (Function at inputs returns mode) (Function there other_inputs other_returns other_mode) same called = (refl, sym same.0)
-same_called ps vs p q (Function at inputs returns mode) (Procedure there other_inputs outputs other_mode) same called = absurd same
-same_called ps vs p q (Function at inputs returns mode) (Program there) same called = absurd same
-same_called ps vs p q (Function at inputs returns mode) (Compool there) same called = absurd same
-same_called ps vs p q (Function at inputs returns mode) (Task there) same called = absurd same
-same_called ps vs p q (Program at) other same called = absurd (cc)
-same_called ps vs p q (Compool at) other same called = absurd (cc)
-same_called ps vs p q (Task at) other same called = absurd (cc)
-
+-- an input is one of inputs
 input_of : (ps : List Phrase) (u : ℕ) (m : Naming) (ms : List Naming) → AreInputs ps u ms → IsAmong m ms → IsInput ps u m
 input_of ps u m [] are within = absurd within
 input_of ps u m (x ∷ xs) are (inl same) = subst (λ (n : Naming). IsInput ps u n) (sym same) are.0
@@ -64,20 +47,13 @@ some_type None is = absurd (cc)
 
 module _ (site : Site) (named : IsSound rows site.set.phrases) (sound : IsSound type_rows site.set.phrases) (counted : IsCounted site.set.phrases) (declared : AreDeclared site.set.phrases) (literals : HasFitLiterals site.set.phrases)
     (has : HasConstants site) (placed : (p : Phrase) → IsAmong p site.set.phrases → NodePlaced site.set.phrases p p.node) where
-  type_there : (p : Phrase) (common : List Attribute) (item : Declared) → IsAmong p site.set.phrases → p.node ≡ OfItem common item → (t : Kind) × (type_of common item ≡ Some t)
-  unfolding attribute_rows untyped
-  type_there p common item within is = some_type (type_of common item)
-      (unless_true (is_some (type_of common item)) item.name.place
-      (ruled_none 323 (untyped (OfItem common item))
-      (ap (λ n. ruled 323 (untyped n)) (sym is) ∙ unbroken type_rows site.set.phrases sound p within (λ qs q. ruled 323 (untyped q.node)) (of_attributes (λ qs q. ruled 323 (untyped q.node)) (inl refl)))))
-
   parameters_known : (u : ℕ) (names : List Naming) → AreDeclaredParameters site.set.phrases u names → AreParameters site u names
   parameters_known u [] are = tt
   parameters_known u (name ∷ names) are =
       let is = are.0 in
       let owned = parameter_own site.set.phrases counted u name is.phrase is.found in
       let within = at_among site.set.phrases is.phrase.number is.phrase owned.there in
-      let type_ = type_there is.phrase is.common is.item within is.declares in (
+      let type_ = some_type (type_of is.common is.item) (item_typed site sound is.phrase is.common is.item within is.declares) in (
         parameter_known site.set.phrases named sound counted declared literals site refl has is.phrase (placed is.phrase within) is.common is.item type_.0 is.declares type_.1 is.stored u name is.found is.dimensioned,
         parameters_known u names are.1,
       )
@@ -93,25 +69,33 @@ module _ (site : Site) (named : IsSound rows site.set.phrases) (sound : IsSound 
     called_stands =
         let u : ℕ = gives.unit.number in
         let unit = gives.is_unit in
-        let same = same_called (phrases_of files) (known (phrases_of files)) p gives.unit head gives.unit_head gives.heads called in
+        let heads = are_called (phrases_of files) (known (phrases_of files)) p gives.unit head gives.unit_head gives.heads called in
         let are = inputs_known u gives.unit unit.naming gives.unit_head gives.unit_declarations unit.there unit.is in
         let are_here : AreDeclaredParameters site.set.phrases u (inputs_of gives.unit_head) = subst (λ (ps : List Phrase). AreDeclaredParameters ps u (inputs_of gives.unit_head)) (sym whole) are in
+        let unit_there : slice_get site.set.phrases u ≡ Some gives.unit = ap (λ (ps : List Phrase). slice_get ps u) whole ∙ unit.there in
+        let mine : HeadPlaced site.set.phrases p head =
+        subst (λ n. NodePlaced site.set.phrases p n) is (placed p (at_among site.set.phrases k p (ap (λ (ps : List Phrase). slice_get ps k) whole ∙ there))) in
+        let theirs : HeadPlaced site.set.phrases gives.unit gives.unit_head =
+        subst (λ n. NodePlaced site.set.phrases gives.unit n) unit.is (placed gives.unit (at_among site.set.phrases u gives.unit unit_there)) in
         let inputs = unit_has_inputs files u gives.unit unit.naming gives.unit_head gives.unit_declarations all_counted unit.there unit.is in
         record {
           unit = gives.unit;
           stands = subst (λ (ps : List Phrase). standing_for ps k ≡ u) (sym whole)
               (ap (λ (o : Option ℕ). elim o [ None ↦ k | Some other ↦ other ])
               (ap (option_and_then (λ (q : Phrase). meant_at (phrases_of files) q q.node)) there ∙ (ap (meant_at (phrases_of files) p) is ∙ unit.found)));
-          there = ap (λ (ps : List Phrase). slice_get ps u) whole ∙ unit.there;
+          there = unit_there;
           name = unit.naming;
           unit_head = gives.unit_head;
           declarations = gives.unit_declarations;
           declares = unit.is;
-          called = same.0;
-          named = same.1;
-          parameters = parameters_agree_too site named sound counted declared literals has placed k u (inputs_of head) (inputs_of gives.unit_head) (sym same.1)
+          called = called_too heads;
+          function = function_too heads;
+          gives = same_class site.set.phrases named sound counted declared literals p gives.unit (ap is_valued is) (ap is_valued unit.is)
+              (subst (λ (ps : List Phrase). AreCalled ps (known ps) p gives.unit head gives.unit_head) (sym whole) heads) mine theirs;
+          named = named_too heads;
+          parameters = parameters_agree_too site named sound counted declared literals has placed k u (inputs_of head) (inputs_of gives.unit_head) (sym (named_too heads))
               (λ m declares_it within. subst (λ (ps : List Phrase). IsTwin ps k u m.name) (sym whole)
-              (parameter_twin files all_counted first p gives.unit template unit.naming head gives.unit_head declarations gives.unit_declarations k there called same.0 unit.there unit.is gives.meanings m
+              (parameter_twin files all_counted first p gives.unit template unit.naming head gives.unit_head declarations gives.unit_declarations k there called (called_too heads) unit.there unit.is gives.meanings m
               (subst (λ (ps : List Phrase). IsDeclaredParameter ps u m) whole declares_it)
               (has_parameter (phrases_of files) all_named all_sound sizes first lacking u m (input_of (phrases_of files) u m (inputs_of gives.unit_head) inputs within) (own (phrases_of files) (key space.Parameter u m.name)) refl)))
               are_here (parameters_agree site u (inputs_of gives.unit_head) (parameters_known u (inputs_of gives.unit_head) are_here));

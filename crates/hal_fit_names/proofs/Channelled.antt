@@ -140,7 +140,7 @@ module _ (site : Site) (named : IsSound rows site.set.phrases) (sound : IsSound 
     by None there worth = absurd (cc)
     by (Some r) there worth = of_node r there r.node refl worth
 
-  names_agree : NamesAgree (within_block q.around.block site) (known site.set.phrases) q
+  pub names_agree : NamesAgree (within_block q.around.block site) (known site.set.phrases) q
   names_agree = record { here = refl; constants = λ name v is. referred_same site.set.phrases site.set.constants q.around.block name ∙ refers name v (means site.set.phrases q.around.block name) refl is }
 
   -- a channel

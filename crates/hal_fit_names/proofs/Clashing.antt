@@ -14,7 +14,7 @@ use Rattle.hal_attributes.specs.Clashes.{attributes_clash, clash_among, clash_at
 use Rattle.hal_attributes.specs.Features.{excludes, feature_of, feature_of_kind, place_of_attribute, sort_of}
 use Rattle.hal_types.specs.Rules.{attribute_rows, type_rows}
 use Rattle.hal_fit_rules.proofs.Unbroken.{ruled_none, unbroken}
-use Rattle.hal_fit_names.proofs.MeantNames.{of_attributes}
+use Rattle.hal_fit_names.proofs.MeantItems.{of_attributes}
 
 first_none : {X : Type 0} (o p : Option X) → option_or o p ≡ None → (o ≡ None) × (p ≡ None)
 first_none None p is = (refl, is)

@@ -1,41 +1,50 @@
 mod Loose
 mod RightKnown
-mod Holding
+pub mod Holding
 mod Valuing
-mod Folding
-mod Suiting
-mod Keeping
-mod Plain
-mod PlainExpressions
-mod PlainStatements
-mod PlainDeclarations
-mod Placing
+pub mod Folding
+pub mod Suiting
+pub mod Keeping
+pub mod Plain
+pub mod PlainExpressions
+pub mod PlainStatements
+pub mod PlainDeclarations
+pub mod Placing
 mod Growing
 mod Rounds
-mod Sizing
+pub mod Sizing
+mod Heads
+mod Results
 mod Declaring
-mod Owning
+pub mod Owning
 mod Asking
-mod MeantNames
+mod Usages
+mod CalledBlocks
+pub mod MeantItems
+mod MeantValues
+mod MeantCells
+mod MeantEvents
+mod MeantForms
+mod MeantCalls
 mod Clashing
 mod Counts
 mod Bodied
 mod UnitPhrases
 mod Callable
-mod KindsMeant
-mod Parametered
-mod Homing
-mod Pooling
+pub mod KindsMeant
+pub mod Parametered
+pub mod Homing
+pub mod Pooling
 mod Temporary
 mod Worth
 mod Processes
-mod Channelled
-mod Standing
-mod Twins
+pub mod Channelled
+pub mod Standing
+pub mod Twins
 mod CalledParameters
-mod CalledTemplates
-mod Pooled
+pub mod CalledTemplates
+pub mod Pooled
 mod FirstValues
-mod SameValues
-mod PooledValues
+pub mod SameValues
+pub mod PooledValues
 mod UnitsKnown

@@ -9,13 +9,12 @@ use Rattle.hal_names.specs.Means.{means}
 use Rattle.hal_scope.specs.Sorts.{type_of}
 use Rattle.hal_kinds.specs.Data.{is_event_type}
 use Rattle.hal_constants.specs.Naming.{is_value_item}
-use Rattle.hal_meaning.specs.Bodies.{is_called, is_called_head, is_unit, pooled_at, meant_at, standing_for}
-use Rattle.hal_meaning.specs.Calls.{is_function}
+use Rattle.hal_meaning.specs.Bodies.{is_called, is_unit, pooled_at, meant_at, standing_for}
 use Rattle.hal_meaning.specs.Places.{is_in_unit}
 use Rattle.hal_agreement.specs.Sites.{Site}
 use Rattle.hal_fit_rules.specs.Owned.{IsOwn}
 use Rattle.hal_fit_names.specs.Standing.{StandsForData, StandsForItself}
-use Rattle.hal_fit_names.specs.Suited.{is_plain, is_templated, shows_parts}
+use Rattle.hal_fit_names.specs.Suited.{is_plain, is_templated}
 
 unit_pools : (ps : List Phrase) (name : List ℕ) (n : Node) → is_unit n ≡ true → pooled_at ps name n ≡ None
 unit_pools ps name (OfUnit of head declarations) is = refl
@@ -43,10 +42,10 @@ own_number ps k p there plain =
 pub own_name : (site : Site) (name : List ℕ) (k : ℕ) (p : Phrase) → means site.set.phrases site.block name ≡ Some k → slice_get site.set.phrases k ≡ Some p → is_templated site.set.phrases p p.node ≡ false → IsOwn site name
 own_name site name k p meant there plain = record { number = k; meant = meant; phrase = p; there = there; own = own_number site.set.phrases k p there plain }
 
--- no template, or that of a unit that is no FUNCTION, or plain data, or an event or a constant that stands for a COMPOOL's
+-- no template, or that of a unit, or plain data, or an event or a constant that stands for a COMPOOL's
 pub data IsShown (ps : List Phrase) (k : ℕ) (p : Phrase) : Type 0 where
   Plain : is_templated ps p p.node ≡ false → IsShown ps k p
-  Written : (template : Naming) (head : Head) (declarations : List Declaration) → p.node ≡ OfTemplate template head declarations → is_function head ≡ false → IsShown ps k p
+  Written : (template : Naming) (head : Head) (declarations : List Declaration) → p.node ≡ OfTemplate template head declarations → IsShown ps k p
   Pooled : (common : List Attribute) (item : Declared) → p.node ≡ OfItem common item → is_plain common item ≡ true → IsShown ps k p
   PooledEvent : (common : List Attribute) (item : Declared) → p.node ≡ OfItem common item → is_event_type (type_of common item) ≡ true → StandsForData ps k p common item → IsShown ps k p
   PooledConstant : (common : List Attribute) (item : Declared) → p.node ≡ OfItem common item → is_event_type (type_of common item) ≡ false → is_value_item common item ≡ true → StandsForData ps k p common item
@@ -67,10 +66,10 @@ module _ (ps : List Phrase) (k : ℕ) (p : Phrase) where
     by (inl unit) = absurd (let other : true ≡ false = sym unit ∙ home in cc)
     by (inr plain) = Pooled common item is plain
 
-  pub shown_so : (n : Node) → p.node ≡ n → shows_parts n ≡ false → ((common : List Attribute) (item : Declared) → p.node ≡ OfItem common item → StandsForData ps k p common item ⊎ StandsForItself ps k p common item) → IsShown ps k p
-  shown_so (OfTemplate template head declarations) is none pools = Written template head declarations is none
-  shown_so (OfItem common item) is none pools = item_shown common item is (is_in_unit ps p.around.home) refl (pools common item is)
-  shown_so other is none pools = Plain (ap (is_templated ps p) is)
+  pub shown_so : (n : Node) → p.node ≡ n → ((common : List Attribute) (item : Declared) → p.node ≡ OfItem common item → StandsForData ps k p common item ⊎ StandsForItself ps k p common item) → IsShown ps k p
+  shown_so (OfTemplate template head declarations) is pools = Written template head declarations is
+  shown_so (OfItem common item) is pools = item_shown common item is (is_in_unit ps p.around.home) refl (pools common item is)
+  shown_so other is pools = Plain (ap (is_templated ps p) is)
 
 -- what is called is no template
 pub called_plain : (ps : List Phrase) (p : Phrase) (n : Node) → is_called n ≡ true → is_templated ps p n ≡ false

@@ -23,7 +23,7 @@ use Rattle.hal_fit_rules.proofs.Constants.{among_found}
 use Rattle.hal_fit_rules.proofs.Unbroken.{unbroken, ruled_none}
 use Rattle.hal_fit_names.specs.Used.{IsDeclaredParameter, AreDeclaredParameters, HaveSizes}
 use Rattle.hal_fit_names.proofs.Bodied.{IsInput, AreInputs}
-use Rattle.hal_fit_names.proofs.MeantNames.{of_attributes}
+use Rattle.hal_fit_names.proofs.MeantItems.{of_attributes}
 use Rattle.hal_fit_names.proofs.Placing.{at_among}
 use Rattle.hal_fit_names.proofs.Suiting.{unless_true}
 

@@ -1,24 +1,25 @@
--- Where the attributes of what is declared stand: those of its own behind it, those before the comma before it, and no other item between.
+-- Where the sizes of what is declared stand: those of its own behind it, those before the comma before it, and no other item between. That of a FUNCTION's result stands in the FUNCTION.
 use Rattle.std.proofs.Common.{◌≡◌, ◌≤◌, ◌<◌, ◌⊎◌, ℕ, zero, suc, true, false, List, [], ◌∷◌, ◌++◌, length, Option, Some, slice_get, refl, sym, ap, ◌∙◌, subst, inl, inr, arith, length-append}
 use Rattle.hal_grammar.specs.Leaves.{Naming}
-use Rattle.hal_grammar.specs.Declarations.{Attribute, Declared, Declaration, Declare, Structure}
-use Rattle.hal_grammar.specs.Units.{Head, Block, BlockOf, Elements, NoElements, StatementFirst, BlockFirst, Template, Preface, Include, Templates, File}
+use Rattle.hal_grammar.specs.Declarations.{Attribute, Typed, Declared, Declaration, Declare, Structure}
+use Rattle.hal_grammar.specs.Units.{Head, Function, Returns, NoKind, HasKind, Block, BlockOf, Elements, NoElements, StatementFirst, BlockFirst, Template, Preface, Include, Templates, File}
 use Rattle.hal_phrases.specs.declared.around.Around.{Around}
 use Rattle.hal_phrases.specs.Surroundings.{in_file, behind, opened}
 use Rattle.hal_phrases.specs.Phrases.{Node, Phrase, phrase, add, gathered_each, gathered_any, OfFile, OfInclude, OfTemplate, OfUnit, OfDeclare, OfItem, OfStructure}
 use Rattle.hal_phrases.specs.GatheredExpressions.{below}
 use Rattle.hal_phrases.specs.GatheredDeclarations.{gathered_attribute, gathered_item, gathered_parts, gathered_declaration}
 use Rattle.hal_phrases.specs.GatheredStatements.{gathered_close, gathered_statement}
-use Rattle.hal_phrases.specs.GatheredUnits.{gathered_head, gathered_block, gathered_elements, around_template, gathered_template, gathered_preface, gathered_prefaces, name_of_block, gathered_file, phrases_of}
+use Rattle.hal_phrases.specs.GatheredUnits.{gathered_parameter, gathered_returns, gathered_head, gathered_block, gathered_elements, around_template, gathered_template, gathered_preface, gathered_prefaces, name_of_block, gathered_file, phrases_of}
 use Rattle.hal_names.specs.Laws.{IsCounted}
 use Rattle.hal_scope.specs.Rules.{IsAmong}
+use Rattle.hal_templates.specs.Heads as heads
 use Rattle.hal_fit_rules.specs.Begun.{AreFirst}
 use Rattle.hal_fit_rules.proofs.Beginning as begun
 use Rattle.hal_fit_rules.proofs.BegunStatements.{close_first, statement_first}
 use Rattle.hal_fit_rules.proofs.BegunDeclarations.{attributes_first, parts_first, head_first}
 use Rattle.hal_fit_rules.proofs.Constants.{among_found}
 use Rattle.hal_fit_names.proofs.Plain as plainly
-use Rattle.hal_fit_names.proofs.Plain.{is_item, IsPart, IsPlain, no_step, then_, one}
+use Rattle.hal_fit_names.proofs.Plain.{is_item, is_sized, IsPart, IsPlain, no_step, then_, one}
 use Rattle.hal_fit_names.proofs.PlainStatements.{close_plain, statement_plain}
 use Rattle.hal_fit_names.proofs.PlainDeclarations.{attribute_plain, attributes_plain, parts_plain, head_plain}
 
@@ -41,13 +42,27 @@ pub record IsGiven (ps : List Phrase) (common : List Attribute) : Type 0 where
   pub within : IsAmong phrase ps
   pub is : phrase.node ≡ OfDeclare common
 
--- all attributes of an item are
+-- the type of the result of a FUNCTION stands in it, as an attribute would
+abbrev pub ReturnsPlaced : List Phrase → Phrase → Returns → Type 0
+ReturnsPlaced ps p NoKind = Unit {0}
+ReturnsPlaced ps p (HasKind kind precision) = IsPlaced ps (heads.within p) (Typed kind)
+
+abbrev pub HeadPlaced : List Phrase → Phrase → Head → Type 0
+HeadPlaced ps p (Function place inputs returns mode) = ReturnsPlaced ps p returns
+HeadPlaced ps p other = Unit {0}
+
+-- all attributes of an item are placed, and the type of a result
 abbrev pub NodePlaced : List Phrase → Phrase → Node → Type 0
 NodePlaced ps p (OfItem common item) = ArePlaced ps p item.attributes × ArePlaced ps p common × IsGiven ps common
+NodePlaced ps p (OfUnit name head declarations) = HeadPlaced ps p head
+NodePlaced ps p (OfTemplate name head declarations) = HeadPlaced ps p head
 NodePlaced ps p other = Unit {0}
 
-none_placed : (ps : List Phrase) (p : Phrase) (n : Node) → is_item n ≡ false → NodePlaced ps p n
+-- what has no sizes is placed
+none_placed : (ps : List Phrase) (p : Phrase) (n : Node) → is_sized n ≡ false → NodePlaced ps p n
 none_placed ps p (OfItem common item) plain = absurd (cc)
+none_placed ps p (OfUnit name head declarations) plain = absurd (cc)
+none_placed ps p (OfTemplate name head declarations) plain = absurd (cc)
 none_placed ps p other plain = tt
 
 pub longer : {d e : List Phrase} → AreFirst d e → length d ≤ length e
@@ -74,14 +89,14 @@ at_among (y ∷ d) (suc k) x there = inr (at_among d k x there)
 
 module _ (ps : List Phrase) (counted : IsCounted ps) where
   -- a phrase among the first ones has a number below their length
-  number_low : (d : List Phrase) (r : Phrase) → AreFirst d ps → IsAmong r d → r.number < length d
+  pub number_low : (d : List Phrase) (r : Phrase) → AreFirst d ps → IsAmong r d → r.number < length d
   number_low d r first within =
       let found = among_found r d within in
       let place = within_first d first.later found.0 r found.1 in
       omega (arith, counted found.0 r (ap (λ xs. slice_get xs found.0) first.whole ∙ place.0), place.1)
 
   -- and one with such a number is among them
-  number_among : (d : List Phrase) (k : ℕ) (r : Phrase) → AreFirst d ps → slice_get ps k ≡ Some r → r.number < length d → IsAmong r d
+  pub number_among : (d : List Phrase) (k : ℕ) (r : Phrase) → AreFirst d ps → slice_get ps k ≡ Some r → r.number < length d → IsAmong r d
   number_among d k r first there low =
       at_among d k r (first_among d first.later k r (sym (ap (λ xs. slice_get xs k) first.whole) ∙ there) (omega (arith, counted k r there, low)))
 
@@ -109,29 +124,29 @@ module _ (ps : List Phrase) (counted : IsCounted ps) where
 
   -- one more item that is placed
   one_placed : (home : ℕ) (q p : Phrase) (e d : List Phrase) → IsAmong q d ⊎ IsPart home q → (IsAmong q d → IsAmong q e ⊎ (q ≡ p)) → NodePlaced ps p p.node → IsAmong q e ⊎ NodePlaced ps q q.node
-  one_placed home q p e d (inr part) ends placed = inr (none_placed ps q q.node part.single)
+  one_placed home q p e d (inr part) ends placed = inr (none_placed ps q q.node part.unsized)
   one_placed home q p e d (inl within) ends placed = by (ends within) where
     by : IsAmong q e ⊎ (q ≡ p) → IsAmong q e ⊎ NodePlaced ps q q.node
     by (inl before) = inl before
     by (inr same) = inr (subst (λ (x : Phrase). NodePlaced ps x x.node) (sym same) placed)
 
-  -- phrases that are no items
+  -- phrases without sizes
   plain : {home : ℕ} (d e : List Phrase) → AreFirst d e → IsPlain home d e → Places d e
   plain {home = home} d e first none = record { first = first; each_ = λ whole p within. by p (none.each_ p within) } where
     by : (p : Phrase) → IsAmong p d ⊎ IsPart home p → IsAmong p d ⊎ NodePlaced ps p p.node
     by p (inl within) = inl within
-    by p (inr part) = inr (none_placed ps p p.node part.single)
+    by p (inr part) = inr (none_placed ps p p.node part.unsized)
 
-  -- the items up to the end of an item's own attributes
-  beside_own : (a : Around) (common : List Attribute) (item : Declared) (e f : List Phrase) → AreFirst f ps → AreFirst e ps → IsPlain a.home (add e a (OfItem common item)) f → (k : ℕ) (r : Phrase) → slice_get ps k ≡ Some r
-      → is_item r.node ≡ true → r.number < length f → (r.number < length e) ⊎ (r ≡ phrase (length e) a (OfItem common item))
-  beside_own a common item e f whole start none k r there is low = by_plain (none.each_ r (number_among f k r whole there low)) where
-    by_end : IsAmong r e ⊎ (r ≡ phrase (length e) a (OfItem common item)) → (r.number < length e) ⊎ (r ≡ phrase (length e) a (OfItem common item))
+  -- the items up to the end of what stands in a phrase
+  beside_own : (home : ℕ) (a : Around) (n : Node) (e f : List Phrase) → AreFirst f ps → AreFirst e ps → IsPlain home (add e a n) f → (k : ℕ) (r : Phrase) → slice_get ps k ≡ Some r → is_item r.node ≡ true
+      → r.number < length f → (r.number < length e) ⊎ (r ≡ phrase (length e) a n)
+  beside_own home a n e f whole start none k r there is low = by_plain (none.each_ r (number_among f k r whole there low)) where
+    by_end : IsAmong r e ⊎ (r ≡ phrase (length e) a n) → (r.number < length e) ⊎ (r ≡ phrase (length e) a n)
     by_end (inl within) = inl (number_low e r start within)
     by_end (inr same) = inr same
 
-    by_plain : IsAmong r (add e a (OfItem common item)) ⊎ IsPart a.home r → (r.number < length e) ⊎ (r ≡ phrase (length e) a (OfItem common item))
-    by_plain (inl within) = by_end (plainly.behind r (phrase (length e) a (OfItem common item)) e within)
+    by_plain : IsAmong r (add e a n) ⊎ IsPart home r → (r.number < length e) ⊎ (r ≡ phrase (length e) a n)
+    by_plain (inl within) = by_end (plainly.behind r (phrase (length e) a n) e within)
     by_plain (inr part) = let other : true ≡ false = sym is ∙ part.single in absurd (cc)
 
   -- its own attributes
@@ -142,7 +157,7 @@ module _ (ps : List Phrase) (counted : IsCounted ps) where
       let f : List Phrase = gathered_attribute (below e a) d x in
       let f_whole = begun.then_ (attributes_first (below e a) f xs) whole in
       let f_none = then_ none (attribute_plain (below e a) d x) in
-      (record { before = d; around = below e a; begun = f_whole; block = refl; home = refl; beside = beside_own a common item e f f_whole start f_none }, own_placed a common item e xs f start f_none whole)
+      (record { before = d; around = below e a; begun = f_whole; block = refl; home = refl; beside = beside_own a.home a (OfItem common item) e f f_whole start f_none }, own_placed a common item e xs f start f_none whole)
 
   -- those before the comma
   given_placed : (b : Around) (xs : List Attribute) (d : List Phrase) (p : Phrase) → b.block ≡ p.around.block → b.home ≡ p.around.home → AreFirst (gathered_each (gathered_attribute b) d xs) ps
@@ -177,7 +192,7 @@ module _ (ps : List Phrase) (counted : IsCounted ps) where
       )) in
       more one_item (items_placed b common d items (gathered_item b common e item) (begun.then_ first one_item.first) given)
 
-  single_plain : (d : List Phrase) (a : Around) (n : Node) → is_item n ≡ false → Places d (add d a n)
+  single_plain : (d : List Phrase) (a : Around) (n : Node) → is_sized n ≡ false → Places d (add d a n)
   single_plain d a n none = plain d (add d a n) (begun.one d a n) (one d a n none)
 
   declaration_placed : (a : Around) (d : List Phrase) (x : Declaration) → Places d (gathered_declaration a d x)
@@ -195,8 +210,35 @@ module _ (ps : List Phrase) (counted : IsCounted ps) where
   declarations_placed : (a : Around) (d : List Phrase) (xs : List Declaration) → Places d (gathered_each (gathered_declaration a) d xs)
   declarations_placed a d xs = each_more (gathered_declaration a) (declaration_placed a) d xs
 
-  head_placed : (d : List Phrase) (a : Around) (x : Head) → Places d (gathered_head d a x)
-  head_placed d a x = plain d (gathered_head d a x) (head_first d a x) (head_plain d a x)
+  -- the type of a result
+  result_placed : (a : Around) (n : Node) (e : List Phrase) (head : Head) → is_item n ≡ false → AreFirst e ps → AreFirst (gathered_head (add e a n) (opened (length e) a) head) ps → HeadPlaced ps (phrase (length e) a n) head
+  unfolding gathered_head gathered_returns gathered_attribute
+  result_placed a n e (Function place inputs (HasKind kind precision) mode) none start whole = record {
+    before = gathered_each (gathered_parameter (opened (length e) a) false) (add e a n) inputs;
+    around = opened (length e) a;
+    begun = whole;
+    block = refl;
+    home = refl;
+    beside = λ k r there is low. by r is
+        (beside_own (length e) a n e (gathered_head (add e a n) (opened (length e) a) (Function place inputs (HasKind kind precision) mode)) whole start
+        (head_plain (add e a n) (opened (length e) a) (Function place inputs (HasKind kind precision) mode)) k r there is low);
+  } where
+    by : (r : Phrase) → is_item r.node ≡ true → (r.number < length e) ⊎ (r ≡ phrase (length e) a n) → (r.number < length e) ⊎ (r ≡ heads.within (phrase (length e) a n))
+    by r is (inl less) = inl less
+    by r is (inr same) = absurd (let other : true ≡ false = sym is ∙ (ap (λ (x : Phrase). is_item x.node) same ∙ none) in cc)
+  result_placed a n e (Function place inputs NoKind mode) none start whole = tt
+  result_placed a n e other none start whole = tt
+
+  -- a phrase with a head, and what stands in that
+  head_placed : (d : List Phrase) (a : Around) (n : Node) (head : Head) → is_item n ≡ false → (HeadPlaced ps (phrase (length d) a n) head → NodePlaced ps (phrase (length d) a n) n) → Places d (gathered_head (add d a n) (opened (length d) a) head)
+  head_placed d a n head none so =
+      let e : List Phrase = add d a n in
+      record {
+        first = begun.then_ (begun.one d a n) (head_first e (opened (length d) a) head);
+        each_ = λ whole q within.
+            one_placed (length d) q (phrase (length d) a n) d e ((head_plain e (opened (length d) a) head).each_ q within) (λ among_. plainly.behind q (phrase (length d) a n) d among_)
+            (so (result_placed a n d head none (begun.then_ (begun.one d a n) (begun.then_ (head_first e (opened (length d) a) head) whole)) whole));
+      }
 
   close_placed : (a : Around) (d : List Phrase) (o : Option Naming) → Places d (gathered_any (gathered_close a) d o)
   close_placed a d o = plain d (gathered_any (gathered_close a) d o) (close_first a d o) (close_plain a d o)
@@ -206,8 +248,8 @@ module _ (ps : List Phrase) (counted : IsCounted ps) where
 
     block_placed : (d : List Phrase) (a : Around) (b : Block) → Places d (gathered_block d a b)
     block_placed d a (BlockOf name head declarations body close) =
-        more (single_plain d a (OfUnit name head declarations) refl) (more (head_placed _ (opened (length d) a) head)
-        (more (declarations_placed (opened (length d) a) _ declarations) (more (elements_placed _ (opened (length d) a) body) (close_placed (opened (length d) a) _ close))))
+        more (head_placed d a (OfUnit name head declarations) head refl (λ placed. placed))
+        (more (declarations_placed (opened (length d) a) _ declarations) (more (elements_placed _ (opened (length d) a) body) (close_placed (opened (length d) a) _ close)))
 
     elements_placed : (d : List Phrase) (a : Around) (x : Elements) → Places d (gathered_elements d a x)
     elements_placed d a NoElements = nothing d
@@ -217,8 +259,8 @@ module _ (ps : List Phrase) (counted : IsCounted ps) where
   template_placed : (d : List Phrase) (a : Around) (t : Template) → Places d (gathered_template d a t)
   unfolding gathered_template
   template_placed d a t =
-      more (single_plain d a (OfTemplate t.name t.head t.declarations) refl) (more (head_placed _ (opened (length d) a) t.head)
-      (more (declarations_placed (around_template (length d) a t.head) _ t.declarations) (close_placed (opened (length d) a) _ t.close)))
+      more (head_placed d a (OfTemplate t.name t.head t.declarations) t.head refl (λ placed. placed))
+      (more (declarations_placed (around_template (length d) a t.head) _ t.declarations) (close_placed (opened (length d) a) _ t.close))
 
   preface_placed : (d : List Phrase) (a : Around) (x : Preface) → Places d (gathered_preface d a x)
   unfolding gathered_preface
@@ -236,7 +278,7 @@ module _ (ps : List Phrase) (counted : IsCounted ps) where
       more (single_plain d (in_file (length d)) (OfFile f.prefaces (name_of_block f.block)) refl)
       (more (prefaces_placed _ (in_file (length d)) 0 f.prefaces) (block_placed _ (behind (length f.prefaces) (in_file (length d))) f.block))
 
--- each item of a set of files is placed
+-- each item of a set of files is placed, and each head
 pub items_are_placed : (files : List File) → IsCounted (phrases_of files) → (p : Phrase) → IsAmong p (phrases_of files) → NodePlaced (phrases_of files) p p.node
 unfolding phrases_of
 items_are_placed files counted p within =

@@ -1,7 +1,7 @@
--- Phrases that are added and are no items, and whose names belong to the same unit.
-use Rattle.std.proofs.Common.{◌≡◌, ◌⊎◌, ℕ, Bool, true, false, List, [], ◌∷◌, ◌++◌, length, Option, Some, None, ap, ◌∙◌, inl, inr}
+-- Phrases that are added and have no sizes, and whose names belong to the same unit.
+use Rattle.std.proofs.Common.{◌≡◌, ◌⊎◌, ℕ, Bool, true, false, List, [], ◌∷◌, ◌++◌, length, Option, Some, None, refl, ap, ◌∙◌, inl, inr}
 use Rattle.hal_phrases.specs.declared.around.Around.{Around}
-use Rattle.hal_phrases.specs.Phrases.{Node, Phrase, OfItem, phrase, add, gathered_each, gathered_any}
+use Rattle.hal_phrases.specs.Phrases.{Node, Phrase, OfItem, OfTemplate, OfUnit, phrase, add, gathered_each, gathered_any}
 use Rattle.hal_scope.specs.Rules.{IsAmong}
 
 -- whether a phrase declares data
@@ -9,9 +9,22 @@ abbrev pub is_item : Node → Bool
 is_item (OfItem common item) = true
 is_item other = false
 
--- a phrase that is no item, whose names belong to this unit
+-- whether a phrase may have sizes: among the attributes of data, or as that of the result of a unit or template
+abbrev pub is_sized : Node → Bool
+is_sized (OfItem common item) = true
+is_sized (OfUnit name head declarations) = true
+is_sized (OfTemplate name head declarations) = true
+is_sized other = false
+
+-- data may have them
+no_item : (n : Node) → is_sized n ≡ false → is_item n ≡ false
+no_item (OfItem common item) plain = absurd (cc)
+no_item other plain = refl
+
+-- a phrase that has none, whose names belong to this unit
 pub record IsPart (home : ℕ) (p : Phrase) : Type 0 where
   pub single : is_item p.node ≡ false
+  pub unsized : is_sized p.node ≡ false
   pub here : p.around.home ≡ home
 
 -- each of these phrases is one of those, or such a phrase
@@ -39,11 +52,11 @@ behind p q (x ∷ d) (inr later) = by (behind p q d later) where
   by (inr same) = inr same
 
 -- one more
-pub one : (d : List Phrase) (a : Around) (n : Node) → is_item n ≡ false → IsPlain a.home d (add d a n)
+pub one : (d : List Phrase) (a : Around) (n : Node) → is_sized n ≡ false → IsPlain a.home d (add d a n)
 one d a n none = record { each_ = λ p within. by p (behind p (phrase (length d) a n) d within) } where
   by : (p : Phrase) → IsAmong p d ⊎ (p ≡ phrase (length d) a n) → IsAmong p d ⊎ IsPart a.home p
   by p (inl within) = inl within
-  by p (inr same) = inr (record { single = ap (λ (x : Phrase). is_item x.node) same ∙ none; here = ap (λ (x : Phrase). x.around.home) same })
+  by p (inr same) = inr (record { single = ap (λ (x : Phrase). is_item x.node) same ∙ no_item n none; unsized = ap (λ (x : Phrase). is_sized x.node) same ∙ none; here = ap (λ (x : Phrase). x.around.home) same })
 
 pub each : {home : ℕ} {X : Type 0} (step : List Phrase → X → List Phrase) → ((d : List Phrase) (x : X) → IsPlain home d (step d x)) → (d : List Phrase) (xs : List X) → IsPlain home d (gathered_each step d xs)
 each step steps d [] = no_step d

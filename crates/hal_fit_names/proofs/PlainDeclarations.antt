@@ -1,4 +1,4 @@
--- The phrases of attributes, of parts and of heads are no items.
+-- The phrases of attributes, of parts and of heads have no sizes.
 use Rattle.std.proofs.Common.{Bool, List, [], ◌∷◌, ◌++◌, length, refl}
 use Rattle.hal_grammar.specs.Leaves.{Naming}
 use Rattle.hal_grammar.specs.Declarations.{Kind, IntegerKind, BooleanKind, EventKind, BitKind, CharacterKind, StructureKind, Initial, Value, LiteralTimes, NameTimes, ListTimes, Initials, NoInitials, MoreInitials, Attribute, Dimensions, Typed, Marked, LockGroup, LockAny, InitialValues, ConstantValues, Part}

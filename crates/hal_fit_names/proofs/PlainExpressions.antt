@@ -1,4 +1,4 @@
--- The phrases of an expression are no items.
+-- The phrases of an expression have no sizes.
 use Rattle.std.proofs.Common.{List, refl}
 use Rattle.hal_grammar.specs.Expressions.{Expression, Or, And, Compare, Cat, Sum, Product, Power, Not, Literal, Decimal, Referred, Called, Convert, Parenthesis, Expressions, NoExpressions, MoreExpressions, Terms, NoTerms, MoreTerms, Reference, Refers, Subscript, Unsubscripted, ByName, ByInteger, ByParts, Subscripts, NoSubscripts, MoreSubscripts, Sub, Every, One, Range, Portion, Position, FromBeginning, FromEnd}
 use Rattle.hal_phrases.specs.declared.around.Around.{Around}

@@ -1,4 +1,4 @@
--- The phrases of a statement are no items.
+-- The phrases of a statement have no sizes.
 use Rattle.std.proofs.Common.{◌≡◌, ℕ, Bool, true, false, List, length, Option, refl, subst}
 use Rattle.hal_grammar.specs.Leaves.{Naming}
 use Rattle.hal_grammar.specs.Expressions.{Expression, Reference}

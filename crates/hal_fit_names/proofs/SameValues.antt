@@ -1,5 +1,5 @@
 -- A constant that a written template of a COMPOOL declares has the value of the COMPOOL's own.
-use Rattle.std.proofs.Common.{◌≡◌, ◌<◌, ℕ, max, Bool, true, false, not, ◌&&◌, List, [], ◌∷◌, length, Option, Some, None, if◌then◌else◌, refl, sym, ap, ◌∙◌, subst, arith}
+use Rattle.std.proofs.Common.{◌≡◌, ℕ, Bool, true, false, not, ◌&&◌, List, [], ◌∷◌, Option, Some, None, if◌then◌else◌, refl, sym, ap, ◌∙◌, arith}
 use Rattle.std.specs.Prelude.{slice_get}
 use Rattle.std.specs.Option.{option_and_then, is_some}
 use Rattle.std.proofs.lemmas.Bool.{and_parts}
@@ -13,17 +13,17 @@ use Rattle.hal_values.specs.declared.value.Kind.{Kind}
 use Rattle.hal_values.specs.declared.value.Value.{Value}
 use Rattle.hal_constants.specs.declared.constant.Constant.{Constant}
 use Rattle.hal_constants.specs.declared.constant.Constant.TheVariants as constant
-use Rattle.hal_constants.specs.Known.{Known, declared_value, fitted, kind_of_item, known, only_among, only_in}
+use Rattle.hal_constants.specs.Known.{Known, declared_value, fitted, kind_of_item, only_among, only_in}
 use Rattle.hal_constants.specs.Naming.{is_value_item}
 use Rattle.hal_initials.specs.Repetition as repetition
-use Rattle.hal_templates.specs.Agreeing.{Agree, IsSameData}
+use Rattle.hal_templates.specs.Agreeing.{IsSameData}
 use Rattle.hal_templates.specs.Counts.{is_few}
 use Rattle.hal_templates.specs.Kinds.{kinds_by, kinds_of}
 use Rattle.hal_templates.specs.Leaves.{all_leaves, leaf_value}
 use Rattle.hal_templates.specs.Own.{template_of}
 use Rattle.hal_templates.specs.Traits.{kind_given, type_given}
-use Rattle.hal_templates.specs.Values.{held_at, leaf_at}
-use Rattle.hal_fit_names.proofs.FirstValues.{IsFirst, all_first, counts_same}
+use Rattle.hal_templates.specs.Values.{held_at}
+use Rattle.hal_fit_names.proofs.FirstValues.{all_first, counts_same}
 use Rattle.hal_fit_names.proofs.Pooled.{agree_some, sizes_same, structure_by_template}
 
 -- what fits a kind is a value

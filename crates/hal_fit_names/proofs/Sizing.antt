@@ -52,7 +52,7 @@ found None fault is broken = absurd (broken is)
 found (Some x) fault is broken = (x, refl)
 
 -- a size that breaks no rule is known, and so it is where the same stands before
-size_known : (limit : ℕ) (place : Place) (c d : Constant) → Holds want.Integer c → missized limit place c ≡ None → Keeps c d → (n : ℕ) × (size_of limit d ≡ Some n)
+pub size_known : (limit : ℕ) (place : Place) (c d : Constant) → Holds want.Integer c → missized limit place c ≡ None → Keeps c d → (n : ℕ) × (size_of limit d ≡ Some n)
 unfolding missized missized_value unsettled size_of size_of_value
 size_known limit place (constant.Worth (value.Int z)) d holds_ none keeps =
     let size = found (size_of_integer limit z) (Some (710, place)) none (λ is. cc) in
@@ -64,7 +64,7 @@ size_known limit place constant.Open d holds_ none keeps = absurd (cc)
 size_known limit place constant.Unfit d holds_ none keeps = absurd holds_
 
 -- whether a phrase declares a constant that is its value
-abbrev is_valued : Node → Bool
+abbrev pub is_valued : Node → Bool
 is_valued (OfItem common item) = is_value_item common item
 is_valued other = false
 
@@ -102,7 +102,7 @@ same_kind : (ps : List Phrase) (p : Phrase) (k t : Kind) → Some k ≡ Some t �
 same_kind ps p k t is placed = subst (λ x. IsPlaced ps p (Typed x)) (let same : k ≡ t = cc in same) placed
 
 -- where the type among attributes stands
-typed_among : (ps : List Phrase) (p : Phrase) (xs : List Attribute) (t : Kind) → type_among xs ≡ Some t → ArePlaced ps p xs → IsPlaced ps p (Typed t)
+pub typed_among : (ps : List Phrase) (p : Phrase) (xs : List Attribute) (t : Kind) → type_among xs ≡ Some t → ArePlaced ps p xs → IsPlaced ps p (Typed t)
 unfolding type_among type_in
 typed_among ps p [] t is placed = absurd (cc)
 typed_among ps p (Dimensions place sizes ∷ xs) t is placed = typed_among ps p xs t is placed.1
@@ -113,7 +113,7 @@ typed_among ps p (LockAny place ∷ xs) t is placed = typed_among ps p xs t is p
 typed_among ps p (InitialValues place values_ ∷ xs) t is placed = typed_among ps p xs t is placed.1
 typed_among ps p (ConstantValues place values_ ∷ xs) t is placed = typed_among ps p xs t is placed.1
 
-typed_by : (ps : List Phrase) (p : Phrase) (own common : List Attribute) (o : Option Kind) (t : Kind) → type_among own ≡ o → option_or o (type_among common) ≡ Some t → ArePlaced ps p own → ArePlaced ps p common → IsPlaced ps p (Typed t)
+pub typed_by : (ps : List Phrase) (p : Phrase) (own common : List Attribute) (o : Option Kind) (t : Kind) → type_among own ≡ o → option_or o (type_among common) ≡ Some t → ArePlaced ps p own → ArePlaced ps p common → IsPlaced ps p (Typed t)
 typed_by ps p own common (Some k) t here is first second = typed_among ps p own t (here ∙ is) first
 typed_by ps p own common None t here is first second = typed_among ps p common t is second
 

@@ -19,7 +19,7 @@ use Rattle.hal_fit_rules.proofs.Constants.{phrase_same}
 use Rattle.hal_fit_rules.proofs.Declaring.{meant_itself}
 use Rattle.hal_fit_names.specs.Suited.{is_templated}
 use Rattle.hal_fit_names.proofs.Homing.{is_holder, IsHolder}
-use Rattle.hal_fit_names.proofs.MeantNames.{space_of}
+use Rattle.hal_fit_names.proofs.MeantItems.{space_of}
 use Rattle.hal_fit_names.proofs.Owning.{own_number}
 use Rattle.hal_fit_names.proofs.Parametered.{owner_of}
 use Rattle.hal_fit_names.proofs.Placing.{at_among}

@@ -1,11 +1,11 @@
 -- What a written template of a unit that is called declares of a parameter is the same as what the unit does.
 use Rattle.std.proofs.Common.{◌≡◌, ℕ, Bool, true, false, cond, List, [], ◌∷◌, Option, Some, None, filter, slice_get, refl, sym, ap, ◌∙◌, subst, inl, inr, ◌⊎◌, if◌then◌else◌}
 use Rattle.std.specs.List.{list_any}
-use Rattle.std.specs.Option.{option_and_then, is_some}
+use Rattle.std.specs.Option.{option_and_then}
 use Rattle.hal_grammar.specs.Leaves.{Naming}
 use Rattle.hal_grammar.specs.Declarations.{Attribute, Declaration, Declared}
 use Rattle.hal_grammar.specs.Units.{Compool, File, Head, Program, Task, Procedure, Function}
-use Rattle.hal_phrases.specs.Phrases.{Node, Phrase, OfItem, OfTemplate, OfUnit}
+use Rattle.hal_phrases.specs.Phrases.{Node, Phrase, OfItem, OfUnit}
 use Rattle.hal_phrases.specs.GatheredUnits.{phrases_of}
 use Rattle.hal_names.specs.declared.key.Key.{Key}
 use Rattle.hal_names.specs.declared.key.Space.TheVariants as space
@@ -13,7 +13,7 @@ use Rattle.hal_names.specs.Keys.{declared_at, declared_by, key, own}
 use Rattle.hal_names.specs.Laws.{IsCounted, IsFirst}
 use Rattle.hal_scope.specs.Rules.{IsAmong}
 use Rattle.hal_shapes.specs.Arguments.{parameter_of}
-use Rattle.hal_constants.specs.Known.{Known, known}
+use Rattle.hal_constants.specs.Known.{known}
 use Rattle.hal_templates.specs.Agreeing.{IsSameData}
 use Rattle.hal_templates.specs.Entries.{entries}
 use Rattle.hal_templates.specs.Giving.{AreSameNames, IsData, IsOwn, IsSameName, IsStructure}

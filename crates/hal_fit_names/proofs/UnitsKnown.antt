@@ -6,7 +6,7 @@ use Rattle.hal_base.specs.declared.refusal.Place.{Place}
 use Rattle.hal_grammar.specs.Leaves.{Naming}
 use Rattle.hal_grammar.specs.Declarations.{Attribute, Kind, Declaration, Declared}
 use Rattle.hal_grammar.specs.Expressions.{Expression, Literal, Decimal, Refers, Subscript}
-use Rattle.hal_grammar.specs.Units.{Head, Mode, Procedure, Function}
+use Rattle.hal_grammar.specs.Units.{Head, Mode, Procedure, Function, Returns}
 use Rattle.hal_phrases.specs.declared.role.Role.{Role}
 use Rattle.hal_phrases.specs.declared.role.Role.TheVariants as role
 use Rattle.hal_phrases.specs.Phrases.{Node, Phrase, OfExpression, OfReference, OfSubscriptName, OfCallForm, OfCall, OfEvent, OfVariable, OfTemporaryGroup, OfAssignment, OfItem, OfReturn, OfTemplate, OfUnit}
@@ -20,6 +20,7 @@ use Rattle.hal_scope.specs.Rules.{IsAmong, IsSound, rows}
 use Rattle.hal_scope.specs.Sorts.{type_of, usage_of, use_of, use_of_reference, used}
 use Rattle.hal_scope.specs.Uses.{is_nil, unless}
 use Rattle.hal_types.specs.Rules.{type_rows}
+use Rattle.hal_kinds.specs.Classes.{class_of_called_head, class_of_returns}
 use Rattle.hal_shapes.specs.Arguments.{parameter_of}
 use Rattle.hal_values.specs.declared.value.Value.{Value}
 use Rattle.hal_values.specs.declared.tables.EventStart.{EventStart}
@@ -30,7 +31,7 @@ use Rattle.hal_constants.specs.Known.{Known}
 use Rattle.hal_constants.specs.Naming.{is_value_item, value_at}
 use Rattle.hal_meaning.specs.Bodies as bodies
 use Rattle.hal_meaning.specs.Bodies.{Body, callee_at, called_block, is_called, is_called_head, is_process_head, processes_of, standing_for}
-use Rattle.hal_meaning.specs.Calls.{inputs_of}
+use Rattle.hal_meaning.specs.Calls.{inputs_of, is_function}
 use Rattle.hal_meaning.specs.Events as starts
 use Rattle.hal_meaning.specs.Events.{declared_events}
 use Rattle.hal_meaning.specs.Sets.{Set, body_at}
@@ -42,9 +43,11 @@ use Rattle.hal_code.specs.Images.{start_of}
 use Rattle.hal_agreement.specs.Constants.{IsConstant}
 use Rattle.hal_agreement.specs.Sites.{Site, here_at, within_block}
 use Rattle.hal_fitting.specs.Fitting.{Ground}
+use Rattle.hal_fit_expr.specs.Sorted.{sort_of_call}
 use Rattle.hal_fit_expr.specs.Uses.{Uses}
 use Rattle.hal_fit_constants.specs.Names.{NamesAgree}
 use Rattle.hal_fit_rules.specs.Happening.{StandsForProcess}
+use Rattle.hal_fit_rules.specs.Leaves.{IsKnown}
 use Rattle.hal_fit_rules.specs.Parameters as parameters
 use Rattle.hal_fit_rules.specs.Passing.{IsParameter, AreParameters}
 use Rattle.hal_fit_rules.specs.Signalled.{HasEvents}
@@ -59,13 +62,18 @@ use Rattle.hal_fit_names.specs.Serving.{AsksNothing, MayAsk, ServesUnit}
 use Rattle.hal_fit_names.specs.Spelled.{AreSpelled}
 use Rattle.hal_fit_names.specs.Standing.{StandsForData, StandsForItself}
 use Rattle.hal_fit_names.specs.Suited.{NodeIsFit, HasFitLiterals, AreDeclared}
-use Rattle.hal_fit_names.specs.Used.{IsDeclaredParameter, AreDeclaredParameters, HaveValues, IsHome, NamesAreOwn}
+use Rattle.hal_fit_names.specs.Used.{IsDeclaredParameter, AreDeclaredParameters, HaveValues, IsHome}
 use Rattle.hal_fit_names.proofs.Asking.{unasked, unasked_otherwise}
-use Rattle.hal_fit_names.proofs.Callable.{function_known, procedure_known}
+use Rattle.hal_fit_names.proofs.Callable.{function_known, function_result, procedure_known}
 use Rattle.hal_fit_names.proofs.Channelled.{channel_agrees}
 use Rattle.hal_fit_names.proofs.Declaring.{parameter_known}
 use Rattle.hal_fit_names.proofs.KindsMeant.{name_ranged}
-use Rattle.hal_fit_names.proofs.MeantNames.{item_typed, value_agrees, subscript_agrees, limit_agrees, receiver_agrees, output_agrees, variable_agrees, changed_agrees, form_agrees, call_agrees}
+use Rattle.hal_fit_names.proofs.MeantCalls.{call_agrees}
+use Rattle.hal_fit_names.proofs.MeantCells.{receiver_agrees, output_agrees, variable_agrees}
+use Rattle.hal_fit_names.proofs.MeantEvents.{changed_agrees}
+use Rattle.hal_fit_names.proofs.MeantForms.{form_agrees}
+use Rattle.hal_fit_names.proofs.MeantItems.{item_typed}
+use Rattle.hal_fit_names.proofs.MeantValues.{value_agrees, subscript_agrees, limit_agrees}
 use Rattle.hal_fit_names.proofs.Owning.{called_plain, own_number}
 use Rattle.hal_fit_names.proofs.Placing.{NodePlaced, at_among}
 use Rattle.hal_fit_names.proofs.Temporary.{temporary_sorted}
@@ -89,7 +97,6 @@ unit_called ps k j p o is there stands called =
 
 module _ (image : ImageParts) (g : Ground) (u : Bool → Uses) (site : Site) (home : ℕ) (named : IsSound rows site.set.phrases) (sound : IsSound type_rows site.set.phrases) (counted : IsCounted site.set.phrases)
     (declared : AreDeclared site.set.phrases) (literals : HasFitLiterals site.set.phrases) (spelled : AreSpelled site.set.phrases) (has : HasConstants site) (serves : ServesUnit site.set image u home)
-    (owned : NamesAreOwn site.set.phrases)
     (written : (k : ℕ) (p : Phrase) (template : Naming) (head : Head) (declarations : List Declaration) → slice_get site.set.phrases k ≡ Some p → p.node ≡ OfTemplate template head declarations → is_process_head head ≡ true → StandsForProcess site.set.phrases k)
     (pools : (k : ℕ) (p : Phrase) (common : List Attribute) (item : Declared) → slice_get site.set.phrases k ≡ Some p → p.node ≡ OfItem common item → StandsForData site.set.phrases k p common item ⊎ StandsForItself site.set.phrases k p common item) (valued : HaveValues site.set)
     (same : (k : ℕ) (p : Phrase) (common : List Attribute) (item : Declared) → slice_get site.set.phrases k ≡ Some p → p.node ≡ OfItem common item → is_value_item common item ≡ true
@@ -125,7 +132,7 @@ module _ (image : ImageParts) (g : Ground) (u : Bool → Uses) (site : Site) (ho
   declared_parameter : (block unit : ℕ) (name : Naming) → IsDeclaredParameter site.set.phrases unit name → IsParameter (within_block block site) unit name
   declared_parameter block unit name is =
       typed_parameter block unit name is (type_of is.common is.item) refl
-      (item_typed (u false) site named sound counted declared literals has placed is.phrase is.common is.item (parameter_among site.set.phrases unit name is.phrase is.found) is.declares)
+      (item_typed site sound is.phrase is.common is.item (parameter_among site.set.phrases unit name is.phrase is.found) is.declares)
 
   declared_parameters : (block unit : ℕ) (names : List Naming) → AreDeclaredParameters site.set.phrases unit names → AreParameters (within_block block site) unit names
   declared_parameters block unit [] are = tt
@@ -140,7 +147,6 @@ module _ (image : ImageParts) (g : Ground) (u : Bool → Uses) (site : Site) (ho
     module _ (v : Use) (uses : used q.node ≡ Some v) where
       name_left : AreLeft (within_block q.around.block site) v.name
       name_left = record {
-        untemplated = λ k p meant there. owned q.around.block v.name k p meant there;
         standing = λ k p template head declarations meant there is process. written k p template head declarations there is process;
         pooled = λ k p common item meant there is. pools k p common item there is;
         valued = λ k p common item meant there is value_item. valued p common item (at_among site.set.phrases k p there) is value_item;
@@ -155,15 +161,17 @@ module _ (image : ImageParts) (g : Ground) (u : Bool → Uses) (site : Site) (ho
             (calling
             ∙ unit_called site.set.phrases k k p (means site.set.phrases q.around.block v.name) is there (own_number site.set.phrases k p there (called_plain site.set.phrases p p.node called)) called)
 
-        functions : AreFunctions (u (is_some q.around.update)) (within_block q.around.block site) v.name
-        functions k p unit place inputs returns mode declarations is there declares =
-            function_known (u (is_some q.around.update)) (within_block q.around.block site) sound counted k p there unit place inputs returns mode declarations declares (bodied k p unit (Function place inputs returns mode) declarations there declares)
-            (may_call k p is there (ap is_called declares))
+        template_calls : (k : ℕ) (head : Head) → means site.set.phrases q.around.block v.name ≡ Some k → (stands_ : StandsForCalled (within_block q.around.block site) k head)
+            → (u (is_some q.around.update)).calls stands_.unit.number ≡ true
+        template_calls k head is stands_ =
+            serves.calls q stands_.unit.number within here
+            (calling
+            ∙ unit_called site.set.phrases k stands_.unit.number stands_.unit (means site.set.phrases q.around.block v.name) is stands_.there stands_.stands (ap is_called stands_.declares ∙ stands_.called))
 
-        -- what the template of a PROCEDURE stands for may be called too
-        used_template : (k : ℕ) (place : Place) (inputs outputs : List Naming) (mode : Option Mode) → means site.set.phrases q.around.block v.name ≡ Some k
-            → StandsForCalled (within_block q.around.block site) k (Procedure place inputs outputs mode) → StandsForUsed (u (is_some q.around.update)) (within_block q.around.block site) k inputs
-        used_template k place inputs outputs mode is stands_ =
+        -- what the template of a PROCEDURE or FUNCTION stands for may be called too
+        used_template : (k : ℕ) (head : Head) → means site.set.phrases q.around.block v.name ≡ Some k → StandsForCalled (within_block q.around.block site) k head
+            → StandsForUsed (u (is_some q.around.update)) (within_block q.around.block site) k (inputs_of head)
+        used_template k head is stands_ =
             let has_body = bodied stands_.unit.number stands_.unit stands_.name stands_.unit_head stands_.declarations stands_.there stands_.declares in
             record {
               unit = stands_.unit;
@@ -175,11 +183,32 @@ module _ (image : ImageParts) (g : Ground) (u : Bool → Uses) (site : Site) (ho
               declares = stands_.declares;
               called = stands_.called;
               taken = ap parameters.spelled (ap (λ (o : Option Body). elim o [ None ↦ [] | Some b ↦ inputs_of b.head ]) has_body.found ∙ ap inputs_of has_body.same) ∙ stands_.named;
-              calls = serves.calls q stands_.unit.number within here
-                  (calling
-                  ∙ unit_called site.set.phrases k stands_.unit.number stands_.unit (means site.set.phrases q.around.block v.name) is stands_.there stands_.stands (ap is_called stands_.declares ∙ stands_.called));
+              calls = template_calls k head is stands_;
               parameters = stands_.parameters;
             }
+
+        -- and a FUNCTION gives a value of the class that its template says
+        template_gives : (k : ℕ) (place : Place) (inputs : List Naming) (returns : Returns) (mode : Option Mode) → means site.set.phrases q.around.block v.name ≡ Some k
+            → (stands_ : StandsForCalled (within_block q.around.block site) k (Function place inputs returns mode)) (h : Head) → stands_.unit_head ≡ h → is_function h ≡ true → class_of_called_head h ≡ class_of_returns returns
+            → IsKnown (class_of_returns returns) (sort_of_call (u (is_some q.around.update)) (within_block q.around.block site) stands_.unit.number)
+        unfolding class_of_called_head
+        template_gives k place inputs returns mode is stands_ (Function at others other_returns other_mode) same function gives =
+            let declares = stands_.declares ∙ ap (λ h. OfUnit stands_.name h stands_.declarations) same in
+            subst (λ c. IsKnown c (sort_of_call (u (is_some q.around.update)) (within_block q.around.block site) stands_.unit.number)) gives
+            (function_result (u (is_some q.around.update)) (within_block q.around.block site) sound counted stands_.unit.number stands_.unit stands_.there stands_.name at others other_returns other_mode stands_.declarations declares
+            (bodied stands_.unit.number stands_.unit stands_.name (Function at others other_returns other_mode) stands_.declarations stands_.there declares) (template_calls k (Function place inputs returns mode) is stands_))
+        template_gives k place inputs returns mode is stands_ other same function gives = absurd (cc)
+
+        functions : AreFunctions (u (is_some q.around.update)) (within_block q.around.block site) v.name
+        unfolding class_of_called_head used_template
+        functions = record {
+          itself = λ k p unit place inputs returns mode declarations is there declares.
+              function_known (u (is_some q.around.update)) (within_block q.around.block site) sound counted k p there unit place inputs returns mode declarations declares
+              (bodied k p unit (Function place inputs returns mode) declarations there declares) (may_call k p is there (ap is_called declares));
+          written = λ k p template place inputs returns mode declarations is there declares.
+              let stands_ = called_stand q.around.block k p template (Function place inputs returns mode) declarations there declares refl in
+              record { used = used_template k (Function place inputs returns mode) is stands_; gives = template_gives k place inputs returns mode is stands_ stands_.unit_head refl stands_.function stands_.gives };
+        }
 
         procedures : AreProcedures (u (is_some q.around.update)) (within_block q.around.block site) v.name
         procedures = record {
@@ -187,7 +216,7 @@ module _ (image : ImageParts) (g : Ground) (u : Bool → Uses) (site : Site) (ho
               procedure_known (u (is_some q.around.update)) (within_block q.around.block site) sound counted k p there unit place inputs outputs mode declarations declares (bodied k p unit (Procedure place inputs outputs mode) declarations there declares)
               (may_call k p is there (ap is_called declares)) (declared_parameters q.around.block p.number inputs (numbered_inputs k p unit (Procedure place inputs outputs mode) declarations there declares));
           written = λ k p template place inputs outputs mode declarations is there declares.
-              used_template k place inputs outputs mode is (called_stand q.around.block k p template (Procedure place inputs outputs mode) declarations there declares refl);
+              used_template k (Procedure place inputs outputs mode) is (called_stand q.around.block k p template (Procedure place inputs outputs mode) declarations there declares refl);
         }
 
     function_parameters : (name : List ℕ) → FunctionParameters (u (is_some q.around.update)) (within_block q.around.block site) name
@@ -297,7 +326,7 @@ module _ (image : ImageParts) (g : Ground) (u : Bool → Uses) (site : Site) (ho
       call_agrees (u (is_some q.around.update)) (within_block q.around.block site) named sound counted declared literals has placed q name arguments receivers
       (name_left q within here v (ap used is)) (procedures q within here v (ap used is) (ap (callee_at site.set.phrases q.around.block) is)) within is refl
   node_known q (OfEvent event) within here is plain =
-      changed_agrees (u (is_some q.around.update)) (within_block q.around.block site) named sound counted declared literals has placed image q event
+      changed_agrees (within_block q.around.block site) named sound counted declared literals has placed image q event
       (name_left q within here (use_of event.name.place event.name.name usage.Event) (ap used is)) (events_in q.around.block) within is refl
   node_known q other within here is plain = tt
 

@@ -75,7 +75,7 @@ use Rattle.hal_fit_names.proofs.Growing.{Gets}
 use Rattle.hal_fit_names.proofs.Homing.{prefaces_first}
 use Rattle.hal_fit_names.proofs.Holding.{Holds, IsSane, is_string_of, minus_suits}
 use Rattle.hal_fit_names.proofs.Keeping.{Keeps, Precedes, constant_keeps, named_keeps, signed_keeps}
-use Rattle.hal_fit_names.proofs.MeantNames.{of_attributes}
+use Rattle.hal_fit_names.proofs.MeantItems.{of_attributes}
 use Rattle.hal_fit_names.proofs.Placing.{ArePlaced, IsPlaced, NodePlaced, longer, one_longer}
 use Rattle.hal_fit_names.proofs.Rounds.{declared_known, known_declared}
 use Rattle.hal_fit_names.proofs.Sizing.{hidden_kind_known, placed_precedes}

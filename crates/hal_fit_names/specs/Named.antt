@@ -1,5 +1,5 @@
 -- What is left to be known of what a name means, besides that no rule is broken.
-use Rattle.std.specs.Prelude.{◌≡◌, ◌⊎◌, ℕ, true, false, List, Option, Some, slice_get}
+use Rattle.std.specs.Prelude.{◌≡◌, ◌⊎◌, ℕ, true, List, Option, Some, slice_get}
 use Rattle.hal_base.specs.declared.refusal.Place.{Place}
 use Rattle.hal_grammar.specs.Leaves.{Naming}
 use Rattle.hal_grammar.specs.Declarations.{Attribute, Declared, Declaration}
@@ -14,14 +14,12 @@ use Rattle.hal_fit_expr.specs.Uses.{Uses}
 use Rattle.hal_fit_rules.specs.Happening.{StandsForProcess}
 use Rattle.hal_fit_rules.specs.Owned.{IsFunction}
 use Rattle.hal_fit_rules.specs.Passing.{AreParameters, IsProcedure}
-use Rattle.hal_fit_names.specs.Called.{StandsForUsed}
+use Rattle.hal_fit_names.specs.Called.{StandsForFunction, StandsForUsed}
 use Rattle.hal_fit_names.specs.Standing.{StandsForData, StandsForItself}
-use Rattle.hal_fit_names.specs.Suited.{shows_parts}
 
--- it means no written template of a FUNCTION; a template of a process stands for the process, and other data for those of a COMPOOL, or
--- for themselves; and it has a value where it means a constant that is its value, which is that of the COMPOOL's constant
+-- a template of a process that it means stands for the process, and data for those of a COMPOOL, or for themselves; and it has a value where it
+-- means a constant that is its value, which is that of the COMPOOL's constant
 pub record AreLeft (site : Site) (name : List ℕ) : Type 0 where
-  pub untemplated : (k : ℕ) (p : Phrase) → means site.set.phrases site.block name ≡ Some k → slice_get site.set.phrases k ≡ Some p → shows_parts p.node ≡ false
   pub standing : (k : ℕ) (p : Phrase) (template : Naming) (head : Head) (declarations : List Declaration) → means site.set.phrases site.block name ≡ Some k → slice_get site.set.phrases k ≡ Some p
       → p.node ≡ OfTemplate template head declarations → is_process_head head ≡ true → StandsForProcess site.set.phrases k
   pub pooled : (k : ℕ) (p : Phrase) (common : List Attribute) (item : Declared) → means site.set.phrases site.block name ≡ Some k → slice_get site.set.phrases k ≡ Some p → p.node ≡ OfItem common item
@@ -31,11 +29,12 @@ pub record AreLeft (site : Site) (name : List ℕ) : Type 0 where
   pub same : (k : ℕ) (p : Phrase) (common : List Attribute) (item : Declared) → means site.set.phrases site.block name ≡ Some k → slice_get site.set.phrases k ≡ Some p → p.node ≡ OfItem common item
       → is_value_item common item ≡ true → (stands : StandsForData site.set.phrases k p common item) → value_at site.set.constants stands.phrase.number ≡ value_at site.set.constants p.number
 
--- a FUNCTION that it means may be called
-abbrev pub AreFunctions : Uses → Site → List ℕ → Type 0
-AreFunctions u site name =
-    (k : ℕ) (p : Phrase) (unit : Naming) (place : Place) (inputs : List Naming) (returns : Returns) (mode : Option Mode) (declarations : List Declaration) → means site.set.phrases site.block name ≡ Some k
-    → slice_get site.set.phrases k ≡ Some p → p.node ≡ OfUnit unit (Function place inputs returns mode) declarations → IsFunction u site p
+-- a FUNCTION that it means may be called, or its written template stands for one
+pub record AreFunctions (u : Uses) (site : Site) (name : List ℕ) : Type 0 where
+  pub itself : (k : ℕ) (p : Phrase) (unit : Naming) (place : Place) (inputs : List Naming) (returns : Returns) (mode : Option Mode) (declarations : List Declaration) → means site.set.phrases site.block name ≡ Some k
+      → slice_get site.set.phrases k ≡ Some p → p.node ≡ OfUnit unit (Function place inputs returns mode) declarations → IsFunction u site p
+  pub written : (k : ℕ) (p : Phrase) (template : Naming) (place : Place) (inputs : List Naming) (returns : Returns) (mode : Option Mode) (declarations : List Declaration) → means site.set.phrases site.block name ≡ Some k
+      → slice_get site.set.phrases k ≡ Some p → p.node ≡ OfTemplate template (Function place inputs returns mode) declarations → StandsForFunction u site k inputs returns
 
 -- a FUNCTION that it means has parameters that are known
 abbrev pub FunctionParameters : Uses → Site → List ℕ → Type 0

@@ -17,7 +17,6 @@ use Rattle.hal_constants.specs.declared.constant.Constant.{Constant}
 use Rattle.hal_constants.specs.declared.constant.Constant.TheVariants as constant
 use Rattle.hal_constants.specs.Naming.{is_value_item}
 use Rattle.hal_sound_values.specs.Right.{IsRight}
-use Rattle.hal_meaning.specs.Calls.{is_function}
 use Rattle.hal_meaning.specs.Places.{is_in_unit}
 use Rattle.hal_fit_classes.specs.Kinded.{IsFitLiteral}
 
@@ -66,8 +65,3 @@ is_plain common item = not (is_event_type (type_of common item)) && not (is_valu
 -- whether names belong to a file
 abbrev pub is_in_file : List Phrase → ℕ → Bool
 is_in_file ps home = elim (slice_get ps home) [ None ↦ false | Some f ↦ is_some (prefaces_of f.node) ]
-
--- whether it is a template by which the result of its unit is seen: that of a FUNCTION
-abbrev pub shows_parts : Node → Bool
-shows_parts (OfTemplate name head declarations) = is_function head
-shows_parts other = false

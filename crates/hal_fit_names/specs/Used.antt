@@ -1,10 +1,9 @@
 -- What is left to be known of the names of a set, and of a unit.
-use Rattle.std.specs.Prelude.{◌≡◌, ℕ, true, false, List, [], ◌∷◌, Some, slice_get}
+use Rattle.std.specs.Prelude.{◌≡◌, ℕ, true, false, List, [], ◌∷◌, Some}
 use Rattle.hal_grammar.specs.Leaves.{Naming}
 use Rattle.hal_grammar.specs.Declarations.{Attribute, Declared}
 use Rattle.hal_grammar.specs.Expressions.{NoExpressions}
 use Rattle.hal_phrases.specs.Phrases.{Phrase, OfItem}
-use Rattle.hal_names.specs.Means.{means}
 use Rattle.hal_scope.specs.Rules.{IsAmong}
 use Rattle.hal_kinds.specs.Attributes.{sizes_of}
 use Rattle.hal_values.specs.declared.value.Value.{Value}
@@ -16,7 +15,6 @@ use Rattle.hal_meaning.specs.Sets.{Set, body_at}
 use Rattle.hal_code.specs.Controlling as machine
 use Rattle.hal_agreement.specs.Sites.{Site}
 use Rattle.hal_fitting.specs.Fitting.{Ground}
-use Rattle.hal_fit_names.specs.Suited.{shows_parts}
 
 -- the unit with this number declares a parameter of this name as data, not as a constant; an array has a size
 pub record IsDeclaredParameter (ps : List Phrase) (unit : ℕ) (name : Naming) : Type 0 where
@@ -36,10 +34,6 @@ HaveSizes ps = (p : Phrase) (common : List Attribute) (item : Declared) → IsAm
 abbrev pub AreDeclaredParameters : List Phrase → ℕ → List Naming → Type 0
 AreDeclaredParameters ps unit [] = Unit {0}
 AreDeclaredParameters ps unit (name ∷ names) = IsDeclaredParameter ps unit name × AreDeclaredParameters ps unit names
-
--- no name means the written template of a FUNCTION
-abbrev pub NamesAreOwn : List Phrase → Type 0
-NamesAreOwn ps = (block : ℕ) (name : List ℕ) (k : ℕ) (p : Phrase) → means ps block name ≡ Some k → slice_get ps k ≡ Some p → shows_parts p.node ≡ false
 
 -- constants of a set that are their values have values
 abbrev pub HaveValues : Set → Type 0

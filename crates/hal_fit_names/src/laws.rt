@@ -1,12 +1,12 @@
 //! What holds of a set of files that breaks no rule of names or types.
 
-ghost use Rattle.std.specs.Prelude.{◌≡◌, ℕ, false, true, Bool, List, [], Option, Some, slice_get};
+ghost use Rattle.std.specs.Prelude.{◌≡◌, ◌⊎◌, ℕ, false, true, Bool, List, [], Option, Some, slice_get};
 ghost use Rattle.hal_grammar.specs.Declarations.{Attribute, Declaration, Declared, Kind};
 ghost use Rattle.hal_base.specs.declared.refusal.Place.{Place};
 ghost use Rattle.hal_grammar.specs.Expressions.{Expression, Expressions, NoExpressions, Reference, Refers, Subscript};
 ghost use Rattle.hal_grammar.specs.Leaves.{Naming};
 ghost use Rattle.hal_grammar.specs.Statements.{Eventful};
-ghost use Rattle.hal_grammar.specs.Units.{File, Function, Head, Mode, Preface, Procedure, Returns};
+ghost use Rattle.hal_grammar.specs.Units.{File, Function, HasKind, Head, Mode, Precision, Preface, Procedure, Returns};
 ghost use Rattle.hal_phrases.specs.declared.around.Around.{Around};
 ghost use Rattle.hal_phrases.specs.declared.role.Role.{Role};
 ghost use Rattle.hal_phrases.specs.declared.role.Role.TheVariants as role;
@@ -18,8 +18,10 @@ ghost use Rattle.hal_scope.specs.Rules.{IsAmong, IsSound, rows};
 ghost use Rattle.hal_scope.specs.declared.usage.Usage.TheVariants as usage;
 ghost use Rattle.hal_scope.specs.Sorts.{type_of, usage_of};
 ghost use Rattle.hal_kinds.specs.Attributes.{sizes_of};
-ghost use Rattle.hal_kinds.specs.Classes.{class_of};
+ghost use Rattle.hal_kinds.specs.Classes.{class_of, class_of_called_head};
 ghost use Rattle.hal_kinds.specs.Data.{is_event_type, is_structure_type};
+ghost use Rattle.hal_templates.specs.Giving.{HaveSameHead};
+ghost use Rattle.hal_templates.specs.Heads.{within};
 ghost use Rattle.hal_templates.specs.Rules.{template_rows};
 ghost use Rattle.hal_types.specs.Rules.{type_rows};
 ghost use Rattle.hal_values.specs.declared.value.Kind as values;
@@ -54,7 +56,7 @@ ghost use Rattle.hal_fit_names.specs.Serving.{MayAsk, ServesUnit};
 ghost use Rattle.hal_fit_names.specs.Spelled.{AreSpelled};
 ghost use Rattle.hal_fit_names.specs.Standing.{StandsForData};
 ghost use Rattle.hal_fit_names.specs.Suited.{HasFitLiterals, is_templated, Suits};
-ghost use Rattle.hal_fit_names.specs.Used.{AreDeclaredParameters, HaveSizes, HaveValues, IsHome, NamesAreOwn};
+ghost use Rattle.hal_fit_names.specs.Used.{AreDeclaredParameters, HaveSizes, HaveValues, IsHome};
 
 use hal_fit_constants::what_the_checks_know_is_constant;
 use hal_names::{
@@ -79,6 +81,21 @@ pub fn kinds_of_cells_are_known()
     ensures { (files : List File) (p : Phrase) (common : List Attribute) (item : Declared) (kind : Kind) (double : Bool) → IsSound rows (phrases_of files) → IsSound type_rows (phrases_of files)
         → HasFitLiterals (phrases_of files) → IsAmong p (phrases_of files) → p.node ≡ OfItem common item → type_of common item ≡ Some kind → is_structure_type (Some kind) ≡ false
         → is_value_item common item ≡ false → (cells : values.Kind) × (kind_of_type (phrases_of files) (known (phrases_of files)) p double (Some kind) ≡ Some cells) }
+{
+    phrases_are_counted();
+    what_is_meant_declares_the_name();
+}
+
+/// So is the kind of the result of a FUNCTION, in it and in its written template, where that is no structure; and both results are of one class, as their heads mean the
+/// same: a length that a head gives is looked up in the FUNCTION (language document, Kinds and Templates).
+pub fn results_of_functions_are_known()
+    ensures known { (files : List File) (p : Phrase) (name : Naming) (place : Place) (inputs : List Naming) (kind : Kind) (precision : Option Precision) (mode : Option Mode) (declarations : List Declaration)
+        (double : Bool) → IsSound rows (phrases_of files) → IsSound type_rows (phrases_of files) → HasFitLiterals (phrases_of files) → IsAmong p (phrases_of files)
+        → (p.node ≡ OfUnit name (Function place inputs (HasKind kind precision) mode) declarations) ⊎ (p.node ≡ OfTemplate name (Function place inputs (HasKind kind precision) mode) declarations)
+        → is_structure_type (Some kind) ≡ false → (cells : values.Kind) × (kind_of_type (phrases_of files) (known (phrases_of files)) (within p) double (Some kind) ≡ Some cells) }
+    ensures class { (files : List File) (p q : Phrase) (template unit : Naming) (head other : Head) (declarations others : List Declaration) → IsSound rows (phrases_of files)
+        → IsSound type_rows (phrases_of files) → HasFitLiterals (phrases_of files) → IsAmong p (phrases_of files) → IsAmong q (phrases_of files) → p.node ≡ OfTemplate template head declarations
+        → q.node ≡ OfUnit unit other others → HaveSameHead (phrases_of files) (known (phrases_of files)) p head q other → is_called_head head ≡ true → class_of_called_head other ≡ class_of_called_head head }
 {
     phrases_are_counted();
     what_is_meant_declares_the_name();
@@ -117,9 +134,9 @@ pub fn names_of_no_template_are_own()
 {}
 
 /// A name without a path agrees that is used as a value in a set of files that breaks no rule of names or types, also behind `$`: it means data, an event, a process, a
-/// structure, a constant, a FUNCTION or a built-in function, each of which is for the meaning what it is for the checks. What is left is that it means no
-/// written template of a FUNCTION, what other templates stand for, that a constant has a value, which is that of the constant it stands for, that a
-/// FUNCTION may be called, and an event, a process or RUNTIME asked for (language document, Names and Templates).
+/// structure, a constant, a FUNCTION or a built-in function, each of which is for the meaning what it is for the checks. What is left is what written templates
+/// stand for, that a constant has a value, which is that of the constant it stands for, that a FUNCTION may be called, and an event, a process or
+/// RUNTIME asked for (language document, Names and Templates).
 pub fn names_of_values_agree()
     ensures reference { (u : Uses) (files : List File) (site : Site) (q : Phrase) (role : Role) (place : Place) (name : List ℕ) (subscript : Subscript) → site.set.phrases ≡ phrases_of files → HasConstants site
         → AreLeft site name → MayAsk u site name → AreFunctions u site name → IsSound rows (phrases_of files) → IsSound type_rows (phrases_of files) → HasFitLiterals (phrases_of files) → IsAmong q (phrases_of files)
@@ -243,8 +260,9 @@ pub fn data_of_written_templates_stand_for_those_of_units()
     a_written_template_gives_what_its_unit_shows();
 }
 
-/// A written template of a PROCEDURE or FUNCTION stands for the unit of its name, which has the same names of input parameters; and each that the template declares is for
-/// the unit what it is for the checks: an array or a structure for both, or a single value of one sort (language document, Templates and Calls).
+/// A written template of a PROCEDURE or FUNCTION stands for the unit of its name, which has the same names of input parameters, and gives a value of the same class; and
+/// each that the template declares is for the unit what it is for the checks: an array or a structure for both, or a single value of one sort (language
+/// document, Templates and Calls).
 pub fn templates_of_called_units_stand_for_them()
     ensures { (files : List File) (site : Site) (k : ℕ) (p : Phrase) (template : Naming) (head : Head) (declarations : List Declaration) → site.set.phrases ≡ phrases_of files → HasConstants site
         → IsSound template_rows (phrases_of files) → IsSound rows (phrases_of files) → IsSound type_rows (phrases_of files) → HasFitLiterals (phrases_of files) → HaveSizes (phrases_of files)
@@ -258,11 +276,11 @@ pub fn templates_of_called_units_stand_for_them()
 }
 
 /// So a unit is known, as the law of statements asks, by all that serves it, where this is known of the phrases that are left: references with a path, but for operands of
-/// event expressions. What is left of names is that they mean no written templates of FUNCTIONs; one of a process stands for the process, data of one of a
-/// COMPOOL for those of the COMPOOL, with the same values of constants, and what others declare are plain parameters, as no rule of templates or types is broken.
+/// event expressions. Nothing is left of names: written templates stand for their units, data of one of a COMPOOL for those of the COMPOOL, with the same values
+/// of constants, and what others declare are plain parameters, as no rule of templates or types is broken.
 pub fn units_are_known_where_what_is_left_is()
     ensures { (image : ImageParts) (g : Ground) (u : Bool → Uses) (files : List File) (site : Site) (home : ℕ) → site.set.phrases ≡ phrases_of files → site.set.bodies ≡ bodies_of files site.set.phrases
-        → HasConstants site → ServesUnit site.set image u home → NamesAreOwn site.set.phrases → IsHome g site home → HasEvents image site → IsSound template_rows (phrases_of files)
+        → HasConstants site → ServesUnit site.set image u home → IsHome g site home → HasEvents image site → IsSound template_rows (phrases_of files)
         → IsSound rows (phrases_of files) → IsSound type_rows (phrases_of files) → HasFitLiterals (phrases_of files) → AreSpelled (phrases_of files)
         → ((q : Phrase) → IsAmong q site.set.phrases → q.around.home ≡ home → is_left_node q.node ≡ true → PhraseKnown image g u site q) → UnitKnown image g u site home }
 {

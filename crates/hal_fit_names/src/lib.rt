@@ -10,6 +10,7 @@ pub use laws::{
     data_of_written_templates_stand_for_those_of_units, declared_data_are_known,
     events_that_are_changed_agree, input_parameters_are_declared, kinds_of_cells_are_known,
     names_of_no_template_are_own, names_of_receivers_agree, names_of_values_agree,
-    templates_of_called_units_stand_for_them, temporary_variables_mean_themselves,
-    units_are_known_where_what_is_left_is, units_have_bodies, units_that_may_be_called_are_known,
+    results_of_functions_are_known, templates_of_called_units_stand_for_them,
+    temporary_variables_mean_themselves, units_are_known_where_what_is_left_is, units_have_bodies,
+    units_that_may_be_called_are_known,
 };

@@ -23,7 +23,7 @@ use Rattle.hal_fit_rules.specs.Agreeing.{AreAlike}
 use Rattle.hal_fit_rules.proofs.Declaring.{cells_of_type, types_joined}
 
 -- data have dimensions where they have sizes
-arrayed_by : (ps : List Phrase) (vs : Known) (p : Phrase) (sizes : Option Expressions) → nat_lt 0 (dimensions_of sizes) ≡ is_arrayed (sizes_given ps vs p sizes)
+pub arrayed_by : (ps : List Phrase) (vs : Known) (p : Phrase) (sizes : Option Expressions) → nat_lt 0 (dimensions_of sizes) ≡ is_arrayed (sizes_given ps vs p sizes)
 unfolding dimensions_of count_of
 arrayed_by ps vs p None = refl
 arrayed_by ps vs p (Some NoExpressions) = refl

@@ -116,7 +116,7 @@ module _ (ps : List Phrase) (counted : IsCounted ps) (found : (q : Key) (n : ℕ
 
   module _ (p : Phrase) (name : Naming) (own_parts : List Part) (region : Region ps ps p name own_parts) where
     -- parts of a structure stand up to its end
-    child_inside : (m : ℕ) (x : List ℕ) (j : ℕ) → length region.before ≤ m → m < length (region_of region.before region.around name own_parts) → own ps (key space.Part m x) ≡ Some j
+    pub child_inside : (m : ℕ) (x : List ℕ) (j : ℕ) → length region.before ≤ m → m < length (region_of region.before region.around name own_parts) → own ps (key space.Part m x) ≡ Some j
         → (length region.before < j) × (j < length (region_of region.before region.around name own_parts))
     child_inside m x j low high is =
         (omega (arith, low, so.parent, behind.before, number), by (region.later so.child (among_at so.child ps j so.there))) where
@@ -156,17 +156,17 @@ module _ (ps : List Phrase) (counted : IsCounted ps) (found : (q : Key) (n : ℕ
         cc
 
     -- what surrounds the structure's parts
-    abbrev beside : Around
+    abbrev pub beside : Around
     beside = below region.before region.around
 
-    abbrev around_part : List OpenPart → Part → Around
+    abbrev pub around_part : List OpenPart → Part → Around
     around_part unclosed x = under (innermost (below region.before region.around).parent (still_open x.level unclosed)) (below region.before region.around)
 
     -- the phrases up to the end of a part
-    abbrev to_end : List OpenPart → List Phrase → Part → List Part → List Phrase
+    abbrev pub to_end : List OpenPart → List Phrase → Part → List Part → List Phrase
     to_end unclosed d x xs = gathered_part (around_part unclosed x) (is_bottom x.level xs) d x
 
-    rest_first : (unclosed : List OpenPart) (d : List Phrase) (x : Part) (xs : List Part) → AreFirst (gathered_parts beside unclosed d (x ∷ xs)) ps
+    pub rest_first : (unclosed : List OpenPart) (d : List Phrase) (x : Part) (xs : List Part) → AreFirst (gathered_parts beside unclosed d (x ∷ xs)) ps
         → AreFirst (gathered_parts beside (still_open x.level unclosed ++ ((x.level, length d) ∷ [])) (to_end unclosed d x xs) xs) ps
     unfolding gathered_parts
     rest_first unclosed d x xs whole = whole
@@ -178,15 +178,15 @@ module _ (ps : List Phrase) (counted : IsCounted ps) (found : (q : Key) (n : ℕ
     unfolding gathered_part
     part_first unclosed d x xs = attributes_first (below d (around_part unclosed x)) (add d (around_part unclosed x) (OfPart (is_bottom x.level xs) x)) x.attributes
 
-    part_there : (unclosed : List OpenPart) (d : List Phrase) (x : Part) (xs : List Part) → AreFirst (gathered_parts beside unclosed d (x ∷ xs)) ps
+    pub part_there : (unclosed : List OpenPart) (d : List Phrase) (x : Part) (xs : List Part) → AreFirst (gathered_parts beside unclosed d (x ∷ xs)) ps
         → slice_get ps (length d) ≡ Some (phrase (length d) (around_part unclosed x) (OfPart (is_bottom x.level xs) x))
     part_there unclosed d x xs whole = begun.there ps d (around_part unclosed x) (OfPart (is_bottom x.level xs) x) (begun.then_ (part_first unclosed d x xs) (end_first unclosed d x xs whole))
 
-    part_grows : (unclosed : List OpenPart) (d : List Phrase) (x : Part) (xs : List Part) → length d < length (to_end unclosed d x xs)
+    pub part_grows : (unclosed : List OpenPart) (d : List Phrase) (x : Part) (xs : List Part) → length d < length (to_end unclosed d x xs)
     part_grows unclosed d x xs = omega (arith, longer (part_first unclosed d x xs), one_longer d (around_part unclosed x) (OfPart (is_bottom x.level xs) x))
 
     -- no other part stands before its end
-    none_between : (unclosed : List OpenPart) (d : List Phrase) (x : Part) (xs : List Part) (j : ℕ) (q : Phrase) (c : Bool) (part : Part) → AreFirst (gathered_parts beside unclosed d (x ∷ xs)) ps
+    pub none_between : (unclosed : List OpenPart) (d : List Phrase) (x : Part) (xs : List Part) (j : ℕ) (q : Phrase) (c : Bool) (part : Part) → AreFirst (gathered_parts beside unclosed d (x ∷ xs)) ps
         → slice_get ps j ≡ Some q → q.node ≡ OfPart c part → length d < j → length (to_end unclosed d x xs) ≤ j
     unfolding gathered_part
     none_between unclosed d x xs j q c part whole there is more = by (nat_lt j (length (to_end unclosed d x xs))) refl where
@@ -204,7 +204,7 @@ module _ (ps : List Phrase) (counted : IsCounted ps) (found : (q : Key) (n : ℕ
           (omega (arith, more, one_longer d (around_part unclosed x) (OfPart (is_bottom x.level xs) x))) (omega (arith, ltb-true j (length (to_end unclosed d x xs)) near, grown)) in
           plain_no_part q.node (each_among IsPlain adds.later adds.plain q within) (ap is_part is)
 
-    own_there : (unclosed : List OpenPart) (d : List Phrase) (x : Part) (xs : List Part) → AreFirst (gathered_parts beside unclosed d (x ∷ xs)) ps
+    pub own_there : (unclosed : List OpenPart) (d : List Phrase) (x : Part) (xs : List Part) → AreFirst (gathered_parts beside unclosed d (x ∷ xs)) ps
         → own ps (key space.Part (innermost (length region.before) (still_open x.level unclosed)) x.name.name) ≡ Some (length d)
     own_there unclosed d x xs whole = own_of_part (length d) (phrase (length d) (around_part unclosed x) (OfPart (is_bottom x.level xs) x)) (is_bottom x.level xs) x (part_there unclosed d x xs whole) refl
 
@@ -428,3 +428,10 @@ module _ (ps : List Phrase) (counted : IsCounted ps) (found : (q : Key) (n : ℕ
       let region = standing.regions p name parts (among_at p ps k there) is in
       subst (λ (n : Node). 0 < length (chosen path (components_at ps vs p n))) (sym is)
       (others_chosen p name parts region vs path j q (leading_from k j p name parts region path there leading) at part so)
+
+  -- a part to which a path leads from a structure stands behind it, among its parts
+  pub inside_structure : (k j : ℕ) (p q : Phrase) (name : Naming) (parts : List Part) (path : List Naming) (bottom : Bool) (part : Part) (region : Region ps ps p name parts) → slice_get ps k ≡ Some p → part_under ps k path ≡ Some j
+      → slice_get ps j ≡ Some q → q.node ≡ OfPart bottom part → (length region.before < j) × (j < length (region_of region.before region.around name parts))
+  inside_structure k j p q name parts path bottom part region there leading at so =
+      let place = behind_structure p name parts region [] path j q (leading_from k j p name parts region path there leading) at bottom part so in
+      (omega (arith, place.0, one_longer region.before region.around (OfStructure name parts)), place.1)

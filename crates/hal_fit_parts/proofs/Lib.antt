@@ -1,11 +1,11 @@
-mod Plain
-mod PlainExpressions
-mod PlainDeclarations
-mod PlainStatements
-mod Opening
-mod Belonging
-mod Standing
-mod Leading
+pub mod Plain
+pub mod PlainExpressions
+pub mod PlainDeclarations
+pub mod PlainStatements
+pub mod Opening
+pub mod Belonging
+pub mod Standing
+pub mod Leading
 mod Above
-mod Choosing
-mod Alike
+pub mod Choosing
+pub mod Alike

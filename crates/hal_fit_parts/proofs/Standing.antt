@@ -30,7 +30,7 @@ unfolding gathered_returns
 returns_step d a NoKind = plainly.no_step d
 returns_step d a (HasKind kind precision) = kind_step d a kind
 
-head_step : (d : List Phrase) (a : Around) (x : Head) → Adds d (gathered_head d a x)
+pub head_step : (d : List Phrase) (a : Around) (x : Head) → Adds d (gathered_head d a x)
 unfolding gathered_head
 head_step d a (Program p) = plainly.no_step d
 head_step d a (Compool p) = plainly.no_step d

@@ -11,7 +11,8 @@ use Rattle.hal_scope.specs.Rules.{IsAmong}
 use Rattle.hal_meaning.specs.Bodies.{Body, is_unit, units_from, bodies_from}
 use Rattle.hal_meaning.specs.Places.{unit_numbers}
 use Rattle.hal_meaning.specs.Sets.{set_of, body_at}
-use Rattle.hal_fit_rows.proofs.Told.{unit_head, heads_in, head_of}
+use Rattle.hal_fit_rows.specs.Nested.{head_of}
+use Rattle.hal_fit_rows.proofs.Told.{unit_head, heads_in}
 use Rattle.hal_fit_rows.proofs.ToldUnits.{set_heads}
 
 -- what is found in a list passes the test, and is among its members

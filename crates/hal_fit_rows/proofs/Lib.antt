@@ -41,4 +41,5 @@ mod GroupingExpressions
 mod GroupingDeclarations
 mod GroupingStatements
 pub mod GroupingFiles
+pub mod Nesting
 pub mod Pooled

@@ -1,16 +1,18 @@
--- Phrases that are added behind others, of which none is a unit, a template, a parameter or an item.
+-- Phrases that are added behind others, of which none is a file, a unit, a template, a parameter, an item or a structure.
 use Rattle.std.proofs.Common.{◌≡◌, Bool, true, false, List, [], ◌∷◌, ◌++◌, length, Option, Some, None, refl, sym, ap, ◌∙◌, append_assoc, append-nil}
 use Rattle.hal_phrases.specs.declared.around.Around.{Around}
-use Rattle.hal_phrases.specs.Phrases.{Node, Phrase, phrase, add, gathered_each, gathered_any, OfTemplate, OfUnit, OfParameter, OfItem}
+use Rattle.hal_phrases.specs.Phrases.{Node, Phrase, phrase, add, gathered_each, gathered_any, OfFile, OfTemplate, OfUnit, OfParameter, OfItem, OfStructure}
 use Rattle.hal_fit_calls.specs.Each.{Each}
 use Rattle.hal_fit_calls.proofs.Each.{each_append}
 
 -- whether a phrase is none of these
 abbrev pub is_plain : Node → Bool
+is_plain (OfFile prefaces name) = false
 is_plain (OfTemplate name head declarations) = false
 is_plain (OfUnit name head declarations) = false
 is_plain (OfParameter name output) = false
 is_plain (OfItem common item) = false
+is_plain (OfStructure name parts) = false
 is_plain other = true
 
 abbrev pub IsPlain : Phrase → Type 0

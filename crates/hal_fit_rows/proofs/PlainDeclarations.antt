@@ -1,4 +1,4 @@
--- The phrases of attributes and of the parts of structures are no units, templates, parameters or items.
+-- The phrases of attributes and of the parts of structures are no files, units, templates, parameters, items or structures.
 use Rattle.std.proofs.Common.{Bool, List, [], ◌∷◌, ◌++◌, length, Option, None, Some, refl}
 use Rattle.hal_grammar.specs.Expressions.{Expression}
 use Rattle.hal_grammar.specs.Declarations.{Kind, IntegerKind, BooleanKind, EventKind, BitKind, CharacterKind, StructureKind, Initial, Value, LiteralTimes, NameTimes, ListTimes, Initials, NoInitials, MoreInitials, Attribute, Dimensions, Typed, Marked, LockGroup, LockAny, InitialValues, ConstantValues, Part}

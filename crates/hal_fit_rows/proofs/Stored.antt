@@ -174,7 +174,7 @@ module _ (files : List File) (looks : LooksUp (phrases_of files)) (sound : IsSou
     components_there : (number : ℕ) (p : Phrase) → slice_get ps number ≡ Some p → (common : List Attribute) (item : Declared) → p.node ≡ OfItem common item → HasComponents ps vs p (type_of common item)
     components_there number p there common item node place template copies is =
         let told = subst (IsToldNode ps p) node (told_at number p there) in
-        let type = told place template copies is in
+        let type = told.1 place template copies is in
         let named = names_structure ps looks.meant sound type.phrase type.among type.place template type.is in
         let some = parts named.number named.phrase named.structure.name named.structure.parts named.there named.structure.is in
         let meant : means ps p.around.block template ≡ Some named.number = ap (λ block. means ps block template) (sym type.its) ∙ named.meant in

@@ -1,4 +1,4 @@
--- What the phrases of units, templates, parameters and items say of each other.
+-- What the phrases of files, units, templates, parameters, items and structures say of each other.
 use Rattle.std.specs.Prelude.{◌≡◌, ℕ, Bool, true, false, List, [], ◌∷◌, ◌++◌, length, map, filter_map, Option, Some, None, slice_get}
 use Rattle.std.specs.List.{cons_option}
 use Rattle.std.proofs.Common.{refl, sym, ap, subst, ◌∙◌, inl, inr, append_assoc, append-nil}
@@ -7,15 +7,16 @@ use Rattle.std.proofs.lemmas.List.Elements.{filter_map-append}
 use Rattle.hal_base.specs.declared.refusal.Place.{Place}
 use Rattle.hal_grammar.specs.Leaves.{Naming}
 use Rattle.hal_grammar.specs.Expressions.{Expression}
-use Rattle.hal_grammar.specs.Declarations.{StructureKind}
-use Rattle.hal_grammar.specs.Units.{Head, Block, BlockOf}
+use Rattle.hal_grammar.specs.Declarations.{StructureKind, Declaration, Part, Structure}
+use Rattle.hal_grammar.specs.Units.{Head, Block, Template, Templates}
 use Rattle.hal_phrases.specs.declared.around.Around.{Around}
-use Rattle.hal_phrases.specs.Phrases.{Node, Phrase, phrase, add, OfTemplate, OfUnit, OfParameter, OfItem, OfStructureType}
+use Rattle.hal_phrases.specs.Phrases.{Node, Phrase, phrase, add, OfFile, OfTemplate, OfUnit, OfParameter, OfItem, OfStructure, OfStructureType}
 use Rattle.hal_scope.specs.Rules.{IsAmong}
 use Rattle.hal_scope.specs.Sorts.{type_of}
 use Rattle.hal_meaning.specs.Calls.{inputs_of, outputs_of}
 use Rattle.hal_fit_calls.specs.Each.{Each}
 use Rattle.hal_fit_calls.proofs.Each.{each_append}
+use Rattle.hal_fit_rows.specs.Nested.{head_of}
 use Rattle.hal_fit_rows.proofs.Plain.{is_plain, IsPlain, Adds}
 
 -- these phrases are the first of those
@@ -93,20 +94,38 @@ pub record HasType (ps : List Phrase) (block : ℕ) (template : List ℕ) : Type
   pub is : phrase.node ≡ OfStructureType place template
   pub its : phrase.around.block ≡ block
 
+-- a written template before the unit of the file with this number is there
+pub record HasTemplate (ps : List Phrase) (file : ℕ) (template : Template) : Type 0 where
+  pub phrase : Phrase
+  pub among : IsAmong phrase ps
+  pub is : phrase.node ≡ OfTemplate template.name template.head template.declarations
+  pub its : phrase.around.home ≡ file
+
+-- one of these declarations is that of a structure
+pub record DeclareStructure (declarations : List Declaration) (name : Naming) (parts : List Part) : Type 0 where
+  pub place : Place
+  pub listed : IsAmong (Structure place name parts) declarations
+
 -- what is known of a phrase among all
 abbrev pub IsToldNode : List Phrase → Phrase → Node → Type 0
+IsToldNode ps p (OfFile prefaces name) = (template : Template) → IsAmong (Templates template) prefaces → HasTemplate ps p.number template
 IsToldNode ps p (OfParameter name output) = ListedBy ps p.around.home name output
 IsToldNode ps p (OfUnit name head declarations) = (output : Bool) (n : Naming) → IsAmong n (names_of head output) → HasParameter ps p.number n output
-IsToldNode ps p (OfItem common item) = (place : Place) (template : List ℕ) (copies : Option Expression) → type_of common item ≡ Some (StructureKind place template copies) → HasType ps p.around.block template
+IsToldNode ps p (OfItem common item) =
+    (p.around.block ≡ p.around.home) × ((place : Place) (template : List ℕ) (copies : Option Expression) → type_of common item ≡ Some (StructureKind place template copies) → HasType ps p.around.block template)
+IsToldNode ps p (OfStructure name parts) =
+    (q : Phrase) (unit : Naming) (head : Head) (declarations : List Declaration) → slice_get ps p.around.home ≡ Some q → q.node ≡ OfUnit unit head declarations → DeclareStructure declarations name parts
 IsToldNode ps p other = Unit {0}
 
 abbrev pub IsTold : List Phrase → Phrase → Type 0
 IsTold ps p = IsToldNode ps p p.node
 
 plain_told : (ps : List Phrase) (p : Phrase) (node : Node) → is_plain node ≡ true → IsToldNode ps p node
+plain_told ps p (OfFile prefaces name) is = absurd (cc)
 plain_told ps p (OfParameter name output) is = absurd (cc)
 plain_told ps p (OfUnit name head declarations) is = absurd (cc)
 plain_told ps p (OfItem common item) is = absurd (cc)
+plain_told ps p (OfStructure name parts) is = absurd (cc)
 plain_told ps p other is = tt
 
 pub all_told : (ps later : List Phrase) → Each IsPlain later → Each (IsTold ps) later
@@ -124,9 +143,6 @@ plain_headless other is = refl
 pub none_headed : (later : List Phrase) → Each IsPlain later → heads_in later ≡ []
 none_headed [] each = refl
 none_headed (p ∷ later) each = ap (λ o. cons_option o (heads_in later)) (plain_headless p.node each.0) ∙ none_headed later each.1
-
-abbrev pub head_of : Block → Head
-head_of (BlockOf name head declarations body close) = head
 
 -- phrases are added of which each is told, and which are those of these units
 pub record Step (units : List Block) (d e : List Phrase) : Type 0 where

@@ -1,14 +1,17 @@
--- Items that are added stand in blocks where their structure types do.
-use Rattle.std.specs.Prelude.{◌≡◌, ◌⊎◌, ℕ, List, [], ◌∷◌, length, Option, Some, None}
+-- Items that are added stand directly in their homes, in blocks where their structure types do; and structures are among what their unit declares.
+use Rattle.std.specs.Prelude.{◌≡◌, ◌⊎◌, ℕ, List, [], ◌∷◌, ◌++◌, length, Option, Some, None, slice_get}
 use Rattle.std.specs.Option.{option_or}
 use Rattle.std.proofs.Common.{refl, subst, ◌∙◌, inl, inr, append_assoc}
 use Rattle.hal_base.specs.declared.refusal.Place.{Place}
+use Rattle.hal_grammar.specs.Leaves.{Naming}
 use Rattle.hal_grammar.specs.Expressions.{Expression}
-use Rattle.hal_grammar.specs.Declarations.{Kind, IntegerKind, BooleanKind, EventKind, BitKind, CharacterKind, StructureKind, Attribute, Dimensions, Typed, Marked, LockGroup, LockAny, InitialValues, ConstantValues, Declared, Declaration, Declare, Structure}
+use Rattle.hal_grammar.specs.Declarations.{Kind, IntegerKind, BooleanKind, EventKind, BitKind, CharacterKind, StructureKind, Attribute, Dimensions, Typed, Marked, LockGroup, LockAny, InitialValues, ConstantValues, Declared, Declaration, Declare, Part, Structure}
+use Rattle.hal_grammar.specs.Units.{Head}
 use Rattle.hal_phrases.specs.declared.around.Around.{Around}
-use Rattle.hal_phrases.specs.Phrases.{Phrase, phrase, add, gathered_each, OfDeclare, OfItem, OfStructure, OfStructureType}
+use Rattle.hal_phrases.specs.Phrases.{Phrase, phrase, add, gathered_each, OfDeclare, OfItem, OfStructure, OfStructureType, OfUnit}
 use Rattle.hal_phrases.specs.GatheredExpressions.{below}
-use Rattle.hal_phrases.specs.GatheredDeclarations.{gathered_kind, gathered_attribute, gathered_item, gathered_declaration}
+use Rattle.hal_phrases.specs.GatheredDeclarations.{gathered_kind, gathered_attribute, gathered_item, gathered_parts, gathered_declaration}
+use Rattle.hal_scope.specs.Rules.{IsAmong}
 use Rattle.hal_scope.specs.Sorts.{type_in, type_among}
 use Rattle.hal_fit_rows.proofs.Plain as plain
 use Rattle.hal_fit_rows.proofs.PlainDeclarations.{optional_step, attributes_step, parts_step}
@@ -57,19 +60,22 @@ attributes_typed ps d a (x ∷ xs) first place template copies is = by (either_t
   by (inr others) later = later place template copies others
 
 -- an item, where the structure type before the comma stands in its block
-item_told : (a : Around) (common : List Attribute) (d : List Phrase) (item : Declared) → ((ps : List Phrase) → Begins d ps → AreTyped ps a common) → Step [] d (gathered_item a common d item)
+item_told : (a : Around) (common : List Attribute) (d : List Phrase) (item : Declared) → a.block ≡ a.home → ((ps : List Phrase) → Begins d ps → AreTyped ps a common) → Step [] d (gathered_item a common d item)
 unfolding gathered_item
-item_told a common d item typed =
+item_told a common d item direct typed =
     let adds = attributes_step (below d a) (add d a (OfItem common item)) item.attributes in
     let e = gathered_each (gathered_attribute (below d a)) (add d a (OfItem common item)) item.attributes in
     record {
       later = phrase (length d) a (OfItem common item) ∷ adds.later;
       whole = adds.whole ∙ append_assoc d (phrase (length d) a (OfItem common item) ∷ []) adds.later;
       told = λ ps first. (
-        (λ place template copies is.
-            by ps place template copies (either_typed (type_among item.attributes) (type_among common) (StructureKind place template copies) is)
-            (attributes_typed ps (add d a (OfItem common item)) (below d a) item.attributes first)
-            (typed ps (begins_on d e ps (phrase (length d) a (OfItem common item) ∷ adds.later) (adds.whole ∙ append_assoc d (phrase (length d) a (OfItem common item) ∷ []) adds.later) first))),
+        (
+          direct,
+          (λ place template copies is.
+              by ps place template copies (either_typed (type_among item.attributes) (type_among common) (StructureKind place template copies) is)
+              (attributes_typed ps (add d a (OfItem common item)) (below d a) item.attributes first)
+              (typed ps (begins_on d e ps (phrase (length d) a (OfItem common item) ∷ adds.later) (adds.whole ∙ append_assoc d (phrase (length d) a (OfItem common item) ∷ []) adds.later) first))),
+        ),
         all_told ps adds.later adds.plain,
       );
       heads = none_headed adds.later adds.plain;
@@ -81,20 +87,51 @@ item_told a common d item typed =
     by ps place template copies (inl own) here before = here place template copies own
     by ps place template copies (inr shared) here before = before place template copies shared
 
-items_told : (a : Around) (common : List Attribute) (d : List Phrase) (items : List Declared) → ((ps : List Phrase) → Begins d ps → AreTyped ps a common) → Step [] d (gathered_each (gathered_item a common) d items)
-items_told a common d [] typed = no_step d
-items_told a common d (item ∷ items) typed =
-    let one = item_told a common d item typed in
-    then_ one (items_told a common (gathered_item a common d item) items (λ ps first. typed ps (begins_on d (gathered_item a common d item) ps one.later one.whole first)))
+items_told : (a : Around) (common : List Attribute) (d : List Phrase) (items : List Declared) → a.block ≡ a.home → ((ps : List Phrase) → Begins d ps → AreTyped ps a common) → Step [] d (gathered_each (gathered_item a common) d items)
+items_told a common d [] direct typed = no_step d
+items_told a common d (item ∷ items) direct typed =
+    let one = item_told a common d item direct typed in
+    then_ one (items_told a common (gathered_item a common d item) items direct (λ ps first. typed ps (begins_on d (gathered_item a common d item) ps one.later one.whole first)))
 
-pub declaration_told : (a : Around) (d : List Phrase) (x : Declaration) → Step [] d (gathered_declaration a d x)
+-- what stands around has a unit as its home that declares all of these, or no unit
+abbrev pub Declares : Around → List Phrase → List Declaration → Type 0
+Declares a d xs =
+    (ps : List Phrase) → Begins d ps → (q : Phrase) (unit : Naming) (head : Head) (declarations : List Declaration) → slice_get ps a.home ≡ Some q → q.node ≡ OfUnit unit head declarations → (x : Declaration) → IsAmong x xs → IsAmong x declarations
+
+-- a structure, which its unit declares
+structure_told : (a : Around) (d : List Phrase) (p : Place) (name : Naming) (parts : List Part) → Declares a d (Structure p name parts ∷ []) → Step [] d (gathered_parts (below d a) [] (add d a (OfStructure name parts)) parts)
+structure_told a d p name parts declares =
+    let adds = parts_step (below d a) [] (add d a (OfStructure name parts)) parts in
+    let own : Phrase = phrase (length d) a (OfStructure name parts) in
+    let whole : gathered_parts (below d a) [] (add d a (OfStructure name parts)) parts ≡ d ++ (own ∷ adds.later) = adds.whole ∙ append_assoc d (own ∷ []) adds.later in
+    record {
+      later = own ∷ adds.later;
+      whole = whole;
+      told = λ ps first. (
+        (λ q unit head declarations at is. record {
+          place = p;
+          listed = declares ps (begins_on d (gathered_parts (below d a) [] (add d a (OfStructure name parts)) parts) ps (own ∷ adds.later) whole first) q unit head declarations at is (Structure p name parts) (inl refl);
+        }),
+        all_told ps adds.later adds.plain,
+      );
+      heads = none_headed adds.later adds.plain;
+    }
+
+declaration_told : (a : Around) (d : List Phrase) (x : Declaration) → a.block ≡ a.home → Declares a d (x ∷ []) → Step [] d (gathered_declaration a d x)
 unfolding gathered_declaration
-declaration_told a d (Declare p common items) =
+declaration_told a d (Declare p common items) direct declares =
     let named = add d a (OfDeclare common) in
     then_ (of_plain (plain.then_ (plain.one d a (OfDeclare common) refl) (attributes_step (below d a) named common)))
-    (items_told (below d a) common (gathered_each (gathered_attribute (below d a)) named common) items (λ ps first. attributes_typed ps named (below d a) common first))
-declaration_told a d (Structure p name parts) = of_plain (plain.then_ (plain.one d a (OfStructure name parts) refl) (parts_step (below d a) [] (add d a (OfStructure name parts)) parts))
+    (items_told (below d a) common (gathered_each (gathered_attribute (below d a)) named common) items direct (λ ps first. attributes_typed ps named (below d a) common first))
+declaration_told a d (Structure p name parts) direct declares = structure_told a d p name parts declares
 
-pub declarations_told : (a : Around) (d : List Phrase) (xs : List Declaration) → Step [] d (gathered_each (gathered_declaration a) d xs)
-declarations_told a d [] = no_step d
-declarations_told a d (x ∷ xs) = then_ (declaration_told a d x) (declarations_told a (gathered_declaration a d x) xs)
+pub declarations_told : (a : Around) (d : List Phrase) (xs : List Declaration) → a.block ≡ a.home → Declares a d xs → Step [] d (gathered_each (gathered_declaration a) d xs)
+declarations_told a d [] direct declares = no_step d
+declarations_told a d (x ∷ xs) direct declares =
+    let one = declaration_told a d x direct (λ ps begins q unit head declarations at is y listed. declares ps begins q unit head declarations at is y (first_of y listed)) in
+    then_ one (declarations_told a (gathered_declaration a d x) xs direct
+    (λ ps begins q unit head declarations at is y listed. declares ps (begins_on d (gathered_declaration a d x) ps one.later one.whole begins) q unit head declarations at is y (inr listed)))
+  where
+    first_of : (y : Declaration) → IsAmong y (x ∷ []) → IsAmong y (x ∷ xs)
+    first_of y (inl same) = inl same
+    first_of y (inr none) = absurd none

@@ -1,4 +1,5 @@
--- The phrases of a set of files: each parameter is listed by the head of its unit, and each that a head lists is there; and the heads of its units.
+-- The phrases of a set of files: each parameter is listed by the head of its unit, and each that a head lists is there; written templates are there, and structures are declared by their units; and the
+-- heads of its units.
 use Rattle.std.specs.Prelude.{◌≡◌, ◌⊎◌, ℕ, suc, Bool, true, false, List, [], ◌∷◌, ◌++◌, length, map, flat_map, Option, Some, None, slice_get}
 use Rattle.std.specs.List.{cons_option}
 use Rattle.std.proofs.Common.{refl, sym, ap, subst, ◌∙◌, inl, inr, append_assoc, append-nil}
@@ -15,12 +16,13 @@ use Rattle.hal_scope.specs.Rules.{IsAmong}
 use Rattle.hal_meaning.specs.Bodies.{units_from, units_within}
 use Rattle.hal_fit_calls.specs.Each.{Each}
 use Rattle.hal_fit_calls.proofs.Each.{each_append, each_weaker}
+use Rattle.hal_fit_rows.specs.Nested.{head_of}
 use Rattle.hal_fit_rows.proofs.Plain.{is_plain, IsPlain, Adds}
 use Rattle.hal_fit_rows.proofs.Plain as plain
 use Rattle.hal_fit_rows.proofs.PlainDeclarations.{kind_step}
 use Rattle.hal_fit_rows.proofs.PlainStatements.{close_step, statement_step}
-use Rattle.hal_fit_rows.proofs.Told.{Begins, begins_all, begins_on, there, among_first, among_second, names_of, head_in, unit_head, HasParameter, IsToldNode, IsTold, all_told, heads_in, head_of, Step, of_plain, then_, no_step}
-use Rattle.hal_fit_rows.proofs.ToldDeclarations.{declarations_told}
+use Rattle.hal_fit_rows.proofs.Told.{Begins, begins_all, begins_on, there, among_first, among_second, names_of, head_in, unit_head, among, HasParameter, HasTemplate, IsToldNode, IsTold, all_told, heads_in, Step, of_plain, then_, no_step}
+use Rattle.hal_fit_rows.proofs.ToldDeclarations.{Declares, declarations_told}
 
 -- a phrase of one of these parameters, which stands so
 record OfNames (a : Around) (output : Bool) (names : List Naming) (p : Phrase) : Type 0 where
@@ -216,6 +218,16 @@ close_told d e a close = of_plain (close_step (opened (length d) a) e close)
 of_units : {us vs : List Block} {d e : List Phrase} → us ≡ vs → Step us d e → Step vs d e
 of_units {d = d} {e = e} same step = subst (λ us. Step us d e) same step
 
+-- a unit declares what it declares
+unit_declares : (d : List Phrase) (a : Around) (name : Naming) (head : Head) (declarations : List Declaration)
+    → Declares (opened (length d) a) (gathered_head (add d a (OfUnit name head declarations)) (opened (length d) a) head) declarations
+unit_declares d a name head declarations ps begins q unit other own at is x listed =
+    let named = head_step (add d a (OfUnit name head declarations)) (opened (length d) a) head in
+    let here = there ps d a (OfUnit name head declarations) (begins_on (add d a (OfUnit name head declarations)) (gathered_head (add d a (OfUnit name head declarations)) (opened (length d) a) head) ps named.later named.whole begins) in
+    let one : phrase (length d) a (OfUnit name head declarations) ≡ q = let both : Some (phrase (length d) a (OfUnit name head declarations)) ≡ Some q = sym here ∙ at in cc in
+    let node : OfUnit name head declarations ≡ OfUnit unit other own = ap (λ (p : Phrase). p.node) one ∙ is in
+    subst (IsAmong x) (let same : declarations ≡ own = cc in same) listed
+
 mutual
   unfolding gathered_block gathered_elements
 
@@ -223,7 +235,7 @@ mutual
   block_told d a (BlockOf name head declarations body close) =
       of_units (ap (λ us. BlockOf name head declarations body close ∷ us) (append-nil (units_within body)))
       (then_ (unit_begun d a name head (BlockOf name head declarations body close) declarations refl)
-      (then_ (declarations_told (opened (length d) a) (gathered_head (add d a (OfUnit name head declarations)) (opened (length d) a) head) declarations)
+      (then_ (declarations_told (opened (length d) a) (gathered_head (add d a (OfUnit name head declarations)) (opened (length d) a) head) declarations refl (unit_declares d a name head declarations))
       (then_ (elements_told (gathered_each (gathered_declaration (opened (length d) a)) (gathered_head (add d a (OfUnit name head declarations)) (opened (length d) a) head) declarations) (opened (length d) a) body)
       (close_told d (gathered_elements (gathered_each (gathered_declaration (opened (length d) a)) (gathered_head (add d a (OfUnit name head declarations)) (opened (length d) a) head) declarations) (opened (length d) a) body) a close))))
 
@@ -232,30 +244,125 @@ mutual
   elements_told d a (StatementFirst statement others) = then_ (of_plain (statement_step d a statement)) (elements_told (gathered_statement d a statement) a others)
   elements_told d a (BlockFirst block others) = then_ (block_told d a block) (elements_told (gathered_block d a block) a others)
 
-template_told : (d : List Phrase) (a : Around) (t : Template) → Step [] d (gathered_template d a t)
+-- no unit is the home of what stands so
+abbrev NoUnit : Around → List Phrase → Type 0
+NoUnit a d = (ps : List Phrase) → Begins d ps → (q : Phrase) (unit : Naming) (head : Head) (declarations : List Declaration) → slice_get ps a.home ≡ Some q → q.node ≡ OfUnit unit head declarations → ⊥
+
+-- behind more phrases too
+no_unit_on : (a : Around) {us : List Block} {d e : List Phrase} → Step us d e → NoUnit a d → NoUnit a e
+no_unit_on a {d = d} {e = e} step none ps begins = none ps (begins_on d e ps step.later step.whole begins)
+
+-- one that is no unit is none
+no_unit_at : (d : List Phrase) (a o : Around) (n : Node) → o.home ≡ length d → unit_head n ≡ None → NoUnit o (add d a n)
+no_unit_at d a o n home isnt ps begins q unit head declarations at is =
+    let here : slice_get ps o.home ≡ Some (phrase (length d) a n) = ap (slice_get ps) home ∙ there ps d a n begins in
+    let one : phrase (length d) a n ≡ q = let both : Some (phrase (length d) a n) ≡ Some q = sym here ∙ at in cc in
+    let so : None ≡ Some head = sym isnt ∙ (ap (λ (p : Phrase). unit_head p.node) one ∙ ap unit_head is) in
+    absurd (cc)
+
+-- nor does one declare anything there
+none_declares : (a : Around) (d : List Phrase) (xs : List Declaration) → NoUnit a d → Declares a d xs
+none_declares a d xs none ps begins q unit head declarations at is x listed = absurd (none ps begins q unit head declarations at is)
+
+-- where the declarations of a template stand
+template_direct : (k : ℕ) (a : Around) (head : Head) → a.block ≡ a.home → (around_template k a head).block ≡ (around_template k a head).home
+unfolding around_template
+template_direct k a (Program p) direct = refl
+template_direct k a (Compool p) direct = direct
+template_direct k a (Task p) direct = refl
+template_direct k a (Procedure p inputs outputs mode) direct = refl
+template_direct k a (Function p inputs returns mode) direct = refl
+
+template_no_unit : (d : List Phrase) (a : Around) (name : Naming) (head own : Head) (declarations : List Declaration) → NoUnit a d
+    → NoUnit (around_template (length d) a head) (gathered_head (add d a (OfTemplate name own declarations)) (opened (length d) a) own)
+unfolding around_template
+template_no_unit d a name head own declarations none = by head where
+  begun : Step [] d (gathered_head (add d a (OfTemplate name own declarations)) (opened (length d) a) own)
+  begun = template_begun d a name own declarations
+
+  itself : NoUnit (opened (length d) a) (gathered_head (add d a (OfTemplate name own declarations)) (opened (length d) a) own)
+  itself ps begins =
+      let named = head_step (add d a (OfTemplate name own declarations)) (opened (length d) a) own in
+      no_unit_at d a (opened (length d) a) (OfTemplate name own declarations) refl refl ps
+      (begins_on (add d a (OfTemplate name own declarations)) (gathered_head (add d a (OfTemplate name own declarations)) (opened (length d) a) own) ps named.later named.whole begins)
+
+  by : (h : Head) → NoUnit (around_template (length d) a h) (gathered_head (add d a (OfTemplate name own declarations)) (opened (length d) a) own)
+  by (Program p) = itself
+  by (Compool p) = no_unit_on a begun none
+  by (Task p) = itself
+  by (Procedure p inputs outputs mode) = itself
+  by (Function p inputs returns mode) = itself
+
+-- the declarations of a template, and what stands behind them
+template_declared : (d : List Phrase) (a : Around) (t : Template) → a.block ≡ a.home → NoUnit a d
+    → Step [] (gathered_head (add d a (OfTemplate t.name t.head t.declarations)) (opened (length d) a) t.head) (gathered_template d a t)
 unfolding gathered_template
-template_told d a t =
-    then_ (template_begun d a t.name t.head t.declarations)
-    (then_ (declarations_told (around_template (length d) a t.head) (gathered_head (add d a (OfTemplate t.name t.head t.declarations)) (opened (length d) a) t.head) t.declarations)
-    (close_told d (gathered_each (gathered_declaration (around_template (length d) a t.head)) (gathered_head (add d a (OfTemplate t.name t.head t.declarations)) (opened (length d) a) t.head) t.declarations) a t.close))
+template_declared d a t direct none =
+    then_ (declarations_told (around_template (length d) a t.head) (gathered_head (add d a (OfTemplate t.name t.head t.declarations)) (opened (length d) a) t.head) t.declarations
+    (template_direct (length d) a t.head direct) (none_declares (around_template (length d) a t.head) (gathered_head (add d a (OfTemplate t.name t.head t.declarations)) (opened (length d) a) t.head) t.declarations (template_no_unit d a t.name t.head t.head t.declarations none)))
+    (close_told d (gathered_each (gathered_declaration (around_template (length d) a t.head)) (gathered_head (add d a (OfTemplate t.name t.head t.declarations)) (opened (length d) a) t.head) t.declarations) a t.close)
 
-preface_told : (d : List Phrase) (a : Around) (x : Preface) → Step [] d (gathered_preface d a x)
+template_told : (d : List Phrase) (a : Around) (t : Template) → a.block ≡ a.home → NoUnit a d → Step [] d (gathered_template d a t)
+template_told d a t direct none = then_ (template_begun d a t.name t.head t.declarations) (template_declared d a t direct none)
+
+-- a template is there
+template_there : (d : List Phrase) (a : Around) (t : Template) → a.block ≡ a.home → NoUnit a d → (ps : List Phrase) → Begins (gathered_template d a t) ps → HasTemplate ps a.home t
+template_there d a t direct none ps begins =
+    let node = OfTemplate t.name t.head t.declarations in
+    let named = head_step (add d a node) (opened (length d) a) t.head in
+    let declared = template_declared d a t direct none in
+    let e = gathered_head (add d a node) (opened (length d) a) t.head in
+    record {
+      phrase = phrase (length d) a node;
+      among = among ps d a node (begins_on (add d a node) e ps named.later named.whole (begins_on e (gathered_template d a t) ps declared.later declared.whole begins));
+      is = refl;
+      its = refl;
+    }
+
+preface_told : (d : List Phrase) (a : Around) (x : Preface) → a.block ≡ a.home → NoUnit a d → Step [] d (gathered_preface d a x)
 unfolding gathered_preface
-preface_told d a (Include p name) = of_plain (plain.one d a (OfInclude name) refl)
-preface_told d a (Templates template) = template_told d a template
+preface_told d a (Include p name) direct none = of_plain (plain.one d a (OfInclude name) refl)
+preface_told d a (Templates template) direct none = template_told d a template direct none
 
-prefaces_told : (d : List Phrase) (a : Around) (n : ℕ) (xs : List Preface) → Step [] d (gathered_prefaces d a n xs)
+prefaces_told : (d : List Phrase) (a : Around) (n : ℕ) (xs : List Preface) → a.block ≡ a.home → NoUnit a d → Step [] d (gathered_prefaces d a n xs)
 unfolding gathered_prefaces
-prefaces_told d a n [] = no_step d
-prefaces_told d a n (x ∷ xs) = then_ (preface_told d (behind n a) x) (prefaces_told (gathered_preface d (behind n a) x) a (suc n) xs)
+prefaces_told d a n [] direct none = no_step d
+prefaces_told d a n (x ∷ xs) direct none =
+    let first = preface_told d (behind n a) x direct none in
+    then_ first (prefaces_told (gathered_preface d (behind n a) x) a (suc n) xs direct (no_unit_on a first none))
+
+-- and so is each before a unit
+prefaces_there : (d : List Phrase) (a : Around) (n : ℕ) (xs : List Preface) → a.block ≡ a.home → NoUnit a d → (ps : List Phrase) → Begins (gathered_prefaces d a n xs) ps → (t : Template)
+    → IsAmong (Templates t) xs → HasTemplate ps a.home t
+unfolding gathered_prefaces gathered_preface
+prefaces_there d a n [] direct none ps begins t within = absurd within
+prefaces_there d a n (x ∷ xs) direct none ps begins t (inr later) =
+    let first = preface_told d (behind n a) x direct none in prefaces_there (gathered_preface d (behind n a) x) a (suc n) xs direct (no_unit_on a first none) ps begins t later
+prefaces_there d a n (Include p name ∷ xs) direct none ps begins t (inl same) = absurd (cc)
+prefaces_there d a n (Templates own ∷ xs) direct none ps begins t (inl same) =
+    let first = template_told d (behind n a) own direct none in
+    let rest = prefaces_told (gathered_template d (behind n a) own) a (suc n) xs direct (no_unit_on a first none) in
+    subst (HasTemplate ps a.home) (let one : own ≡ t = cc in one)
+    (template_there d (behind n a) own direct none ps (begins_on (gathered_template d (behind n a) own) (gathered_prefaces (gathered_template d (behind n a) own) a (suc n) xs) ps rest.later rest.whole begins))
+
+-- a file and what stands before its unit
+file_begun : (d : List Phrase) (prefaces : List Preface) (name : Naming) → Step [] d (gathered_prefaces (add d (in_file (length d)) (OfFile prefaces name)) (in_file (length d)) 0 prefaces)
+file_begun d prefaces name =
+    let a : Around = in_file (length d) in
+    let none = no_unit_at d a a (OfFile prefaces name) refl refl in
+    let rest = prefaces_told (add d a (OfFile prefaces name)) a 0 prefaces refl none in
+    record {
+      later = phrase (length d) a (OfFile prefaces name) ∷ rest.later;
+      whole = rest.whole ∙ append_assoc d (phrase (length d) a (OfFile prefaces name) ∷ []) rest.later;
+      told = λ ps begins. (prefaces_there (add d a (OfFile prefaces name)) a 0 prefaces refl none ps begins, rest.told ps begins);
+      heads = rest.heads;
+    }
 
 file_told : (d : List Phrase) (f : File) → Step (units_from f.block) d (gathered_file d f)
 unfolding gathered_file
 file_told d f =
     let a : Around = in_file (length d) in
-    then_ (of_plain (plain.one d a (OfFile f.prefaces (name_of_block f.block)) refl))
-    (then_ (prefaces_told (add d a (OfFile f.prefaces (name_of_block f.block))) a 0 f.prefaces)
-    (block_told (gathered_prefaces (add d a (OfFile f.prefaces (name_of_block f.block))) a 0 f.prefaces) (behind (length f.prefaces) a) f.block))
+    then_ (file_begun d f.prefaces (name_of_block f.block)) (block_told (gathered_prefaces (add d a (OfFile f.prefaces (name_of_block f.block))) a 0 f.prefaces) (behind (length f.prefaces) a) f.block)
 
 files_told : (d : List Phrase) (files : List File) → Step (flat_map (λ (f : File). units_from f.block) files) d (gathered_each gathered_file d files)
 files_told d [] = no_step d

@@ -1,3 +1,4 @@
 pub mod Parts
 pub mod Purposes
 pub mod Homes
+pub mod Nested

@@ -3,6 +3,7 @@ mod SpelledExpressions
 mod SpelledDeclarations
 mod SpelledStatements
 mod SpelledFiles
+mod SpelledUnits
 mod Fitting
 mod Chosen
 mod RightNumbers

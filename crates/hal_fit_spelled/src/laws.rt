@@ -8,14 +8,16 @@ ghost use Rattle.hal_grammar.specs.Units.{File};
 ghost use Rattle.hal_phrases.specs.GatheredUnits.{phrases_of};
 ghost use Rattle.hal_fit_names.specs.Spelled.{AreSpelled};
 ghost use Rattle.hal_fit_names.specs.Suited.{HasFitLiterals};
+ghost use Rattle.hal_fit_rows.specs.Nested.{AllNested};
 ghost use Rattle.hal_fit_rows.specs.Parts.{HaveParts};
 ghost use Rattle.hal_fit_spelled.specs.Words.{AreAllSpelled, AreRightWords, IsSpelled};
 
-/// The phrases of files that right words spell have literals that values can be, lists that aren't empty, decimals that are times, and structures with parts (language
-/// document, Words and Grammar).
+/// The phrases of files that right words spell have literals that values can be, lists that aren't empty, decimals that are times, and structures with parts; and units stand in units that may
+/// hold them (language document, Words and Grammar).
 pub fn what_right_words_spell_is_spelled()
     ensures literals { (files : List File) → AreAllSpelled files → HasFitLiterals (phrases_of files) }
     ensures lists { (files : List File) → AreAllSpelled files → AreSpelled (phrases_of files) }
+    ensures nested { (files : List File) → AreAllSpelled files → AllNested files }
     ensures parts { (files : List File) → AreAllSpelled files → HaveParts (phrases_of files) }
 {}
 

@@ -71,7 +71,7 @@ within_copy path (c ∷ cs) i some low = by (leads path c.path) refl some low (w
         low = (let all = size in let less_so = rest.low in omega (arith, sum, all, less_so));
       }
 
-copy_long : (cs : List Component) → length (flat_map kinds_of_component cs) ≡ copy_size cs
+pub copy_long : (cs : List Component) → length (flat_map kinds_of_component cs) ≡ copy_size cs
 copy_long [] = refl
 copy_long (c ∷ cs) =
     let first = length-replicate (count c) c.kind in
@@ -81,7 +81,7 @@ copy_long (c ∷ cs) =
     omega (arith, first, rest, all, both)
 
 -- and in any copy
-in_copy : {X : Type 0} (n j m : ℕ) (xs : List X) (x : X) → j < n → slice_get xs m ≡ Some x → slice_get (times n xs) (j * length xs + m) ≡ Some x
+pub in_copy : {X : Type 0} (n j m : ℕ) (xs : List X) (x : X) → j < n → slice_get xs m ≡ Some x → slice_get (times n xs) (j * length xs + m) ≡ Some x
 in_copy zero j m xs x low there = absurd (omega (arith, low))
 in_copy (suc n) zero m xs x low there = let same : zero * length xs + m ≡ m = omega arith in ap (slice_get (xs ++ times n xs)) same ∙ get_first xs (times n xs) m x there
 in_copy (suc n) (suc j) m xs x low there =
@@ -108,12 +108,12 @@ mapped_among f (n ∷ ns) o (inl same) = record { member = n; among = inl refl; 
 mapped_among f (n ∷ ns) o (inr later) = let rest = mapped_among f ns o later in record { member = rest.member; among = inr rest.among; is = rest.is }
 
 -- the places of a dimension and of those behind it
-record IsChosen (d : Row) (ds : List Row) (o : ℕ) : Type 0 where
-  place : ℕ
-  low : place < d.size
-  rest : ℕ
-  among : IsAmong rest (offsets ds)
-  is : o ≡ place * d.stride + rest
+pub record IsChosen (d : Row) (ds : List Row) (o : ℕ) : Type 0 where
+  pub place : ℕ
+  pub low : place < d.size
+  pub rest : ℕ
+  pub among : IsAmong rest (offsets ds)
+  pub is : o ≡ place * d.stride + rest
 
 chosen_from : (d : Row) (ds : List Row) (from n o : ℕ) → IsAmong o (flat_map (λ i. map (λ r. i * d.stride + r) (offsets ds)) (range_with_len from n)) → from + n ≤ d.size → IsChosen d ds o
 chosen_from d ds from zero o is low = absurd is
@@ -126,18 +126,18 @@ chosen_from d ds from (suc n) o is low =
     by (inl first) rest = let one = mapped_among (λ r. from * d.stride + r) (offsets ds) o first in record { place = from; low = omega (arith, low); rest = one.member; among = one.among; is = one.is }
     by (inr later) rest = rest later
 
-chosen_place : (d : Row) (ds : List Row) (o : ℕ) → IsAmong o (offsets (d ∷ ds)) → IsChosen d ds o
+pub chosen_place : (d : Row) (ds : List Row) (o : ℕ) → IsAmong o (offsets (d ∷ ds)) → IsChosen d ds o
 chosen_place d ds o is = chosen_from d ds 0 d.size o is (omega arith)
 
-only_first : (o : ℕ) → IsAmong o (offsets []) → o ≡ 0
+pub only_first : (o : ℕ) → IsAmong o (offsets []) → o ≡ 0
 only_first o (inl is) = is
 only_first o (inr none) = absurd none
 
 -- several places of a dimension begin at one of its places
-record IsPlace (n stride skipped : ℕ) : Type 0 where
-  place : ℕ
-  low : place < n
-  is : skipped ≡ place * stride
+pub record IsPlace (n stride skipped : ℕ) : Type 0 where
+  pub place : ℕ
+  pub low : place < n
+  pub is : skipped ≡ place * stride
 
 nearest_low : (size : ℕ) (place : ℤ) → 1 ≤ size → before_nearest size place < size
 nearest_low size place some = grind (arith, ints)
@@ -145,7 +145,7 @@ nearest_low size place some = grind (arith, ints)
 first_place_is : (n stride : ℕ) → 0 < n → IsPlace n stride 0
 first_place_is n stride some = record { place = 0; low = some; is = omega arith }
 
-skipped_is : (site : Site) (n stride : ℕ) (sub : Sub) → 0 < n → IsPlace n stride (elements_behind stride (places_skipped site n sub))
+pub skipped_is : (site : Site) (n stride : ℕ) (sub : Sub) → 0 < n → IsPlace n stride (elements_behind stride (places_skipped site n sub))
 skipped_is site n stride sub some = by (span_of site n sub) where
   with_span : (span : Span) (b : Bool) → IsPlace n stride (elements_behind stride (if b then Some (before_nearest n span.first) else None))
   with_span span true = record { place = before_nearest n span.first; low = nearest_low n span.first some; is = refl }
@@ -156,14 +156,14 @@ skipped_is site n stride sub some = by (span_of site n sub) where
   by (Some span) = with_span span (is_inside n span.first && is_inside n span.last)
 
 -- a place of a dimension, and fewer elements than it has in steps
-step_low : (place stride rest n : ℕ) → place < n → rest < stride → place * stride + rest < n * stride
+pub step_low : (place stride rest n : ℕ) → place < n → rest < stride → place * stride + rest < n * stride
 step_low place stride rest n low less = let all = mul-add-lt place stride rest n low less in let turned : stride * n ≡ n * stride = mul_comm stride n in omega (arith, all, turned)
 
-no_single : (list : Subscripts) → single_dimensions [] list ≡ []
+pub no_single : (list : Subscripts) → single_dimensions [] list ≡ []
 no_single NoSubscripts = refl
 no_single (MoreSubscripts first others) = refl
 
-no_skips : (site : Site) (list : Subscripts) → skips site list [] ≡ 0
+pub no_skips : (site : Site) (list : Subscripts) → skips site list [] ≡ 0
 no_skips site NoSubscripts = refl
 no_skips site (MoreSubscripts first others) = refl
 
@@ -205,15 +205,15 @@ full_low (n ∷ ns) some o is =
     omega (arith, less, all, place)
 
 -- the copy that a subscript chooses, and the element in it
-abbrev copies_in : ℕ → Option ℕ → List Dimension
+abbrev pub copies_in : ℕ → Option ℕ → List Dimension
 copies_in size copies = elim copies [ None ↦ [] | Some n ↦ dimension n size ∷ [] ]
 
-record InCopy (copies : Option ℕ) (size bound place : ℕ) : Type 0 where
-  copy : ℕ
-  element : ℕ
-  copy_low : copy < unwrap_or copies 1
-  element_low : element < bound
-  is : place ≡ copy * size + element
+pub record InCopy (copies : Option ℕ) (size bound place : ℕ) : Type 0 where
+  pub copy : ℕ
+  pub element : ℕ
+  pub copy_low : copy < unwrap_or copies 1
+  pub element_low : element < bound
+  pub is : place ≡ copy * size + element
 
 module _ (site : Site) (size bound skipped : ℕ) (rows : List Row) (few : size ≤ most) (low : (r : ℕ) → IsAmong r (offsets rows) → skipped + r < bound) where
   first_copy : (copies : Option ℕ) (before o : ℕ) → AreCopies copies → before ≡ 0 → IsAmong o (offsets rows) → InCopy copies size bound ((before + skipped) + o)
@@ -230,7 +230,7 @@ module _ (site : Site) (size bound skipped : ℕ) (rows : List Row) (few : size 
       let none = no_skips site others in
       record { copy = at.place; element = skipped + o; copy_low = at.low; element_low = low o is; is = omega (arith, place, none) }
 
-  in_copies : (copies : Option ℕ) → AreCopies copies → (xs : Subscripts) (o : ℕ) → IsAmong o (offsets (map row_of (single_dimensions (copies_in size copies) xs) ++ rows))
+  pub in_copies : (copies : Option ℕ) → AreCopies copies → (xs : Subscripts) (o : ℕ) → IsAmong o (offsets (map row_of (single_dimensions (copies_in size copies) xs) ++ rows))
       → InCopy copies size bound ((skips site xs (copies_in size copies) + skipped) + o)
   in_copies None some xs o is = first_copy None (skips site xs []) o some (no_skips site xs) (subst (λ ds. IsAmong o (offsets (map row_of ds ++ rows))) (no_single xs) is)
   in_copies (Some n) some NoSubscripts o is = first_copy (Some n) 0 o some refl is
@@ -249,16 +249,16 @@ module _ (site : Site) (size bound skipped : ℕ) (rows : List Row) (few : size 
 
 -- the elements among which a subscript chooses
 module _ (site : Site) (l : Led) (formed : IsFormed l.shape) (some : LeadSomewhere (chosen l.path l.shape.components)) (few : copy_size l.shape.components ≤ most) where
-  abbrev cs : List Component
+  abbrev pub cs : List Component
   cs = l.shape.components
 
-  abbrev first : ℕ
+  abbrev pub first : ℕ
   first = offset l.path cs
 
-  sizes_some : Each IsSome (sizes_led l)
+  pub sizes_some : Each IsSome (sizes_led l)
   sizes_some = first_sizes (chosen l.path cs) (each_kept HasSizes (λ (c : Component). leads l.path c.path) cs formed.sizes)
 
-  at_copy : (place : ℕ) → InCopy l.shape.copies (copy_size cs) (product (sizes_led l)) place → slice_get (kinds_of l.shape) (place + first) ≡ Some (kind_of_first (chosen l.path cs))
+  pub at_copy : (place : ℕ) → InCopy l.shape.copies (copy_size cs) (product (sizes_led l)) place → slice_get (kinds_of l.shape) (place + first) ≡ Some (kind_of_first (chosen l.path cs))
   at_copy place one =
       let within = within_copy l.path cs one.element some one.element_low in
       let long = copy_long cs in
@@ -268,7 +268,7 @@ module _ (site : Site) (l : Led) (formed : IsFormed l.shape) (some : LeadSomewhe
       let same : one.copy * length (flat_map kinds_of_component cs) + (first + one.element) ≡ place + first = omega (arith, is, size) in
       subst (λ m. slice_get (kinds_of l.shape) m ≡ Some (kind_of_first (chosen l.path cs))) same there
 
-  one_copy : (element : ℕ) → element < product (sizes_led l) → InCopy l.shape.copies (copy_size cs) (product (sizes_led l)) element
+  pub one_copy : (element : ℕ) → element < product (sizes_led l) → InCopy l.shape.copies (copy_size cs) (product (sizes_led l)) element
   one_copy element low = record { copy = 0; element = element; copy_low = copies_some l.shape.copies formed.copies; element_low = low; is = (let nothing : 0 * copy_size cs ≡ 0 = omega arith in omega (arith, nothing)) } where
     copies_some : (c : Option ℕ) → AreCopies c → 0 < unwrap_or c 1
     copies_some None is = omega arith

@@ -8,12 +8,13 @@ use Rattle.hal_base.specs.declared.refusal.Place.{Place}
 use Rattle.hal_grammar.specs.Units.{Program, Task, File}
 use Rattle.hal_phrases.specs.Phrases.{Node, Phrase, OfUnit}
 use Rattle.hal_phrases.specs.GatheredUnits.{phrases_of}
+use Rattle.hal_names.specs.Tasks.{is_task, is_task_in}
 use Rattle.hal_scope.specs.Rules.{IsAmong, IsSound, rows, ruled}
 use Rattle.hal_scope.specs.Uses.{unless}
 use Rattle.hal_constants.specs.Known.{Known}
 use Rattle.hal_types.specs.Rules.{type_rows}
 use Rattle.hal_meaning.specs.Bodies.{is_called, is_process, is_unit, processes_of}
-use Rattle.hal_meaning.specs.Places.{is_task, is_task_in, shares_at, storing}
+use Rattle.hal_meaning.specs.Places.{shares_at, storing}
 use Rattle.hal_meaning.specs.Sets.{is_program, is_program_at}
 use Rattle.hal_reach.specs.Places.{is_among}
 use Rattle.hal_calls.specs.Placed.{misplaced, task_at, task_head}

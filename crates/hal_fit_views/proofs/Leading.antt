@@ -1,7 +1,6 @@
--- Each name leads to elements, where each path that is told does.
-use Rattle.std.specs.Prelude.{◌≡◌, ℕ, ◌==◌, zero, suc, Bool, true, false, List, [], ◌∷◌, Option, Some, None, slice_get, flat_map, unwrap_or}
-use Rattle.std.proofs.Common.{refl, sym, ap, subst, ◌∙◌}
-use Rattle.std.proofs.lemmas.Bool.{eqb-true, eq-eqb}
+-- Each name leads to elements, where names of parts do.
+use Rattle.std.specs.Prelude.{◌≡◌, ℕ, zero, suc, true, false, List, [], ◌∷◌, Some, slice_get, flat_map, unwrap_or}
+use Rattle.std.proofs.Common.{refl, sym, ap, subst}
 use Rattle.hal_base.specs.declared.refusal.Place.{Place}
 use Rattle.hal_grammar.specs.Leaves.{Naming}
 use Rattle.hal_grammar.specs.Expressions.{Refers, Subscript}
@@ -9,9 +8,7 @@ use Rattle.hal_grammar.specs.Units.{File}
 use Rattle.hal_phrases.specs.declared.role.Role.{Role}
 use Rattle.hal_phrases.specs.Phrases.{OfReference, Phrase}
 use Rattle.hal_phrases.specs.GatheredUnits.{phrases_of}
-use Rattle.hal_names.specs.Means.{means}
 use Rattle.hal_scope.specs.Rules.{IsSound, rows}
-use Rattle.hal_meaning.specs.Bodies.{standing_for}
 use Rattle.hal_meaning.specs.Elements.{Component, Shape, chosen, kinds_of, kinds_of_component, shape_of, times}
 use Rattle.hal_meaning.specs.Places.{Storing}
 use Rattle.hal_meaning.specs.Sets.{Set, set_of}
@@ -21,10 +18,10 @@ use Rattle.hal_gen_expr.specs.Led.{Led, led_by, led_to}
 use Rattle.hal_gen_expr.specs.Referents.{referent}
 use Rattle.hal_fit_layout.specs.Owned.{has_one}
 use Rattle.hal_fit_rows.specs.Parts.{HaveParts}
-use Rattle.hal_fit_rows.specs.Purposes.{IsSite, Says}
+use Rattle.hal_fit_rows.specs.Purposes.{Says}
 use Rattle.hal_fit_rows.proofs.LookingUp.{LooksUp}
 use Rattle.hal_fit_rows.proofs.Stored.{item_some}
-use Rattle.hal_fit_views.specs.Left.{AllLead, LeadSomewhere, PathsLead}
+use Rattle.hal_fit_views.specs.Left.{AllLead, LeadSomewhere}
 use Rattle.hal_fit_views.proofs.ChosenViews.{led_is}
 use Rattle.hal_fit_views.proofs.Laying.{IsDataAt, OfAnItem, OfAGroup, data_is}
 
@@ -55,31 +52,14 @@ module _ (files : List File) (looks : LooksUp (phrases_of files)) (sound : IsSou
   data_some k p there _ _ _ (OfAnItem common item node) = some_first (shape_of s.phrases s.constants p common item) (item_some files looks sound parts k p there common item node)
   data_some k p there _ _ _ (OfAGroup labels variable node) = tt
 
-  -- names of parts lead where what the name means stands for itself
-  abbrev pub OwnLead : Type 0
-  OwnLead =
-      (site : Site) (role : Role) (place : Place) (name : List ℕ) (first : Naming) (others : List Naming) (subscript : Subscript) (led : Led) → IsSound rows (phrases_of files) → site.set ≡ set_of turns files
-      → ((k : ℕ) → means (phrases_of files) site.block name ≡ Some k → standing_for (phrases_of files) k ≡ k)
+  -- names of parts lead to components of what the name means
+  abbrev pub PartsLead : Type 0
+  PartsLead =
+      (site : Site) (role : Role) (place : Place) (name : List ℕ) (first : Naming) (others : List Naming) (subscript : Subscript) (led : Led) → site.set ≡ set_of turns files
       → Says site (OfReference role (Refers place name (first ∷ others) subscript)) → led_by (first ∷ others) (referent site name) ≡ Some led → LeadSomewhere (chosen led.path led.shape.components)
 
-  lead_parts : PathsLead s → OwnLead → (process : ℕ) (site : Site) (role : Role) (place : Place) (name : List ℕ) (first : Naming) (others : List Naming) (subscript : Subscript) (led : Led) → IsSite s process site
-      → Says site (OfReference role (Refers place name (first ∷ others) subscript)) → led_by (first ∷ others) (referent site name) ≡ Some led → LeadSomewhere (chosen led.path led.shape.components)
-  lead_parts paths own_lead process site role place name first others subscript led at says leads = by (means s.phrases site.block name) refl where
-    itself_or : (k : ℕ) → means s.phrases site.block name ≡ Some k → (b : Bool) → (standing_for s.phrases k == k) ≡ b → LeadSomewhere (chosen led.path led.shape.components)
-    itself_or k is false other = paths process site role place name first others subscript led k is (λ same. absurd (let so = sym other ∙ eq-eqb (standing_for s.phrases k) k same in cc)) at says leads
-    itself_or k is true itself =
-        own_lead site role place name first others subscript led sound (ap (λ (x : Site). x.set) at.is)
-        (λ m also. subst (λ n. standing_for s.phrases n ≡ n) (let numbers : Some k ≡ Some m = sym is ∙ also in cc) (eqb-true (standing_for s.phrases k) k itself)) says leads
-
-    by : (o : Option ℕ) → means s.phrases site.block name ≡ o → LeadSomewhere (chosen led.path led.shape.components)
-    by None none =
-        let one = data_is s site name led.declared led.stored led.shape (ap (λ (x : Site). x.set) at.is) (led_is (first ∷ others) (referent site name) led leads) in
-        let so = ap (λ (o : Option ℕ). elim o [ None ↦ None | Some k ↦ Some (standing_for s.phrases k) ]) (sym none) ∙ one.means_it in
-        absurd (cc)
-    by (Some k) is = itself_or k is (standing_for s.phrases k == k) refl
-
-  pub lead_all : PathsLead s → OwnLead → AllLead s
-  lead_all paths own_lead process site role place name (first ∷ others) subscript led at says leads = lead_parts paths own_lead process site role place name first others subscript led at says leads
-  lead_all paths own_lead process site role place name [] subscript led at says leads =
+  pub lead_all : PartsLead → AllLead s
+  lead_all parts_lead process site role place name (first ∷ others) subscript led at says leads = parts_lead site role place name first others subscript led (ap (λ (x : Site). x.set) at.is) says leads
+  lead_all parts_lead process site role place name [] subscript led at says leads =
       let one = data_is s site name led.declared led.stored led.shape (ap (λ (x : Site). x.set) at.is) (led_is [] (referent site name) led leads) in
       subst (λ path. LeadSomewhere (chosen path led.shape.components)) (sym (led_path [] (referent site name) led leads)) (data_some one.place one.phrase one.there led.declared led.stored led.shape one.is)

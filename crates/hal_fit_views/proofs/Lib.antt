@@ -1,5 +1,5 @@
 mod Adding
-mod Bases
+pub mod Bases
 mod Leaves
 mod Calling
 mod Expressions
@@ -9,16 +9,20 @@ mod Units
 mod Linked
 mod Together
 mod Seen
-mod Held
+pub mod Held
 pub mod Reached
-mod Laying
+pub mod Laying
 mod OwnPlaces
-mod Choosing
-mod ChosenViews
+pub mod Choosing
+pub mod ChosenViews
 mod Referring
-mod Limits
+pub mod Limits
 mod Outside
 mod Inner
-mod Leading
+pub mod Leading
 mod Standing
 mod PathsLeading
+mod Pools
+mod Nested
+mod SameParts
+mod TemplatesLeading

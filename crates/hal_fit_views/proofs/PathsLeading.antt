@@ -1,7 +1,8 @@
--- Names of parts lead to components of the data that a name means, where no rule of names is broken and what the name means stands for itself.
-use Rattle.std.specs.Prelude.{◌≡◌, ◌<◌, ℕ, Bool, true, false, not, ◌||◌, List, [], ◌∷◌, ◌++◌, length, map, Option, Some, None, slice_get}
+-- Names of parts lead to components of the data that a name means, where no rule of names is broken and they do for data that stand for others.
+use Rattle.std.specs.Prelude.{◌≡◌, ◌<◌, ◌==◌, ℕ, Bool, true, false, not, ◌||◌, List, [], ◌∷◌, ◌++◌, length, map, Option, Some, None, slice_get}
 use Rattle.std.specs.Option.{option_and_then, is_some}
 use Rattle.std.proofs.Common.{refl, sym, ap, subst, ◌∙◌, arith, inl, inr}
+use Rattle.std.proofs.lemmas.Bool.{eqb-true, eq-eqb}
 use Rattle.hal_base.specs.declared.refusal.Place.{Place}
 use Rattle.hal_grammar.specs.Leaves.{Naming}
 use Rattle.hal_grammar.specs.Expressions.{Refers, Subscript}
@@ -81,17 +82,26 @@ module _ (ps : List Phrase) (vs : Known) (knows : KnowsParts ps) where
   unfolding is_structure
   structure_is node name parts is = ap is_structure is
 
+  -- of the structure that a type names
+  pub found_leads : (block : ℕ) (template : List ℕ) (n : Naming) (ns : List Naming) (named : NamesStructure ps block template) → template_has ps block template (n ∷ ns) ≡ true
+      → LeadSomewhere (chosen (n ∷ ns) (components_at ps vs named.phrase named.phrase.node))
+  found_leads block template n ns named has =
+      let so : structure_has ps named.number (n ∷ ns) ≡ true = ap (λ (o : Option ℕ). elim o [ None ↦ true | Some k ↦ structure_has ps k (n ∷ ns) ]) (sym named.meant) ∙ has in
+      let there = path_there named.phrase.node named.number (n ∷ ns) (structure_is named.phrase.node named.structure.name named.structure.parts named.structure.is)
+      (ap (λ (o : Option Phrase). elim o [ None ↦ true | Some q ↦ not (is_structure q.node) || has_path ps named.number (n ∷ ns) ]) (sym named.there) ∙ so) in
+      structure_leads named.number named.phrase named.structure.name named.structure.parts n ns named.there named.structure.is there
+
+  -- its components are those of data of the type
+  pub components_found : (block : ℕ) (template : List ℕ) (named : NamesStructure ps block template) → components_named ps vs block template ≡ components_at ps vs named.phrase named.phrase.node
+  components_found block template named =
+      ap (λ (o : Option ℕ). elim (option_and_then (slice_get ps) o) [ None ↦ [] | Some x ↦ components_at ps vs x x.node ]) named.meant
+      ∙ ap (λ (o : Option Phrase). elim o [ None ↦ [] | Some x ↦ components_at ps vs x x.node ]) named.there
+
   -- of data of a structure type
   template_leads : (block : ℕ) (template : List ℕ) (n : Naming) (ns : List Naming) → NamesStructure ps block template → template_has ps block template (n ∷ ns) ≡ true
       → LeadSomewhere (chosen (n ∷ ns) (components_named ps vs block template))
   template_leads block template n ns named has =
-      let so : structure_has ps named.number (n ∷ ns) ≡ true = ap (λ (o : Option ℕ). elim o [ None ↦ true | Some k ↦ structure_has ps k (n ∷ ns) ]) (sym named.meant) ∙ has in
-      let there = path_there named.phrase.node named.number (n ∷ ns) (structure_is named.phrase.node named.structure.name named.structure.parts named.structure.is)
-      (ap (λ (o : Option Phrase). elim o [ None ↦ true | Some q ↦ not (is_structure q.node) || has_path ps named.number (n ∷ ns) ]) (sym named.there) ∙ so) in
-      let cs : components_named ps vs block template ≡ components_at ps vs named.phrase named.phrase.node =
-      ap (λ (o : Option ℕ). elim (option_and_then (slice_get ps) o) [ None ↦ [] | Some x ↦ components_at ps vs x x.node ]) named.meant
-      ∙ ap (λ (o : Option Phrase). elim o [ None ↦ [] | Some x ↦ components_at ps vs x x.node ]) named.there in
-      subst (λ (zs : List Component). LeadSomewhere (chosen (n ∷ ns) zs)) (sym cs) (structure_leads named.number named.phrase named.structure.name named.structure.parts n ns named.there named.structure.is there)
+      subst (λ (zs : List Component). LeadSomewhere (chosen (n ∷ ns) zs)) (sym (components_found block template named)) (found_leads block template n ns named has)
 
   -- of an item
   item_leads : (k : ℕ) (p : Phrase) (common : List Attribute) (item : Declared) (n : Naming) (ns : List Naming) → slice_get ps k ≡ Some p → p.node ≡ OfItem common item
@@ -104,7 +114,7 @@ module _ (ps : List Phrase) (vs : Known) (knows : KnowsParts ps) where
 
         by : (t : Option Kind) → type_of common item ≡ t → type_has ps p.around.block (n ∷ ns) t ≡ true → LeadSomewhere (chosen (n ∷ ns) (shape_of_type ps vs p (item.attributes ++ common) t).components)
         by (Some (StructureKind place template copies)) typed so =
-            let type = told place template copies typed in
+            let type = told.1 place template copies typed in
             let named = names_structure ps knows.meant knows.sound type.phrase type.among type.place template type.is in
             template_leads p.around.block template n ns (subst (λ block. NamesStructure ps block template) type.its named) so
         by None typed so = absurd (cc)
@@ -135,10 +145,15 @@ data_leads s knows k p n ns there has _ _ _ (OfAnItem common item node) =
     item_leads s.phrases s.constants knows k p common item n ns there node (ap (has_component s.phrases p (n ∷ ns)) (sym node) ∙ has)
 data_leads s knows k p n ns there has _ _ _ (OfAGroup labels variable node) = let not_ = ap (has_component s.phrases p (n ∷ ns)) (sym node) ∙ has in absurd (cc)
 
-pub name_leads : (s : Set) → KnowsParts s.phrases → (site : Site) (role : Role) (place : Place) (name : List ℕ) (n : Naming) (ns : List Naming) (subscript : Subscript) (led : Led) → site.set ≡ s
-    → ((k : ℕ) → means s.phrases site.block name ≡ Some k → standing_for s.phrases k ≡ k)
+-- names of parts that a declaration has lead to components of what it stands for, where that is another one
+abbrev pub StandingLead : Set → Type 0
+StandingLead s =
+    (k : ℕ) (p q : Phrase) (n : Naming) (ns : List Naming) → slice_get s.phrases k ≡ Some p → (standing_for s.phrases k ≡ k → ⊥) → slice_get s.phrases (standing_for s.phrases k) ≡ Some q
+    → has_component s.phrases p (n ∷ ns) p.node ≡ true → (declared : ℕ) (way : Storing) (shape : Shape) → IsDataAt s q declared way shape → LeadSomewhere (chosen (n ∷ ns) shape.components)
+
+pub name_leads : (s : Set) → KnowsParts s.phrases → StandingLead s → (site : Site) (role : Role) (place : Place) (name : List ℕ) (n : Naming) (ns : List Naming) (subscript : Subscript) (led : Led) → site.set ≡ s
     → Says site (OfReference role (Refers place name (n ∷ ns) subscript)) → led_by (n ∷ ns) (referent site name) ≡ Some led → LeadSomewhere (chosen led.path led.shape.components)
-name_leads s knows site role place name n ns subscript led same own says leads =
+name_leads s knows standing site role place name n ns subscript led same says leads =
     subst (λ path. LeadSomewhere (chosen path led.shape.components)) (sym (led_path (n ∷ ns) (referent site name) led leads)) (by (means s.phrases site.block name) refl meaning.means_it) where
       meaning : IsData s site.block name led.declared led.stored led.shape
       meaning = data_is s site name led.declared led.stored led.shape same (led_is (n ∷ ns) (referent site name) led leads)
@@ -148,10 +163,19 @@ name_leads s knows site role place name n ns subscript led same own says leads =
           subst (λ block. meaning_has s.phrases block name (n ∷ ns) ≡ true) says.block
           (has_so s.phrases s.constants knows says.phrase (subst (λ (x : Set). IsAmong says.phrase x.phrases) same says.among) role place name n ns subscript says.is)
 
+      -- where the name means this declaration
+      declared_leads : (k : ℕ) (p : Phrase) → means s.phrases site.block name ≡ Some k → slice_get s.phrases k ≡ Some p → standing_for s.phrases k ≡ meaning.place → (b : Bool) → (standing_for s.phrases k == k) ≡ b
+          → LeadSomewhere (chosen (n ∷ ns) led.shape.components)
+      declared_leads k p is there placed true itself =
+          let at : slice_get s.phrases k ≡ Some meaning.phrase = ap (slice_get s.phrases) (sym (eqb-true (standing_for s.phrases k) k itself) ∙ placed) ∙ meaning.there in
+          data_leads s knows k meaning.phrase n ns at (component_so s.phrases s.constants knows site.block k meaning.phrase name (n ∷ ns) is at has) led.declared led.stored led.shape meaning.is
+      declared_leads k p is there placed false other =
+          standing k p meaning.phrase n ns there (λ itself. absurd (let so = sym other ∙ eq-eqb (standing_for s.phrases k) k itself in cc)) (ap (slice_get s.phrases) placed ∙ meaning.there)
+          (component_so s.phrases s.constants knows site.block k p name (n ∷ ns) is there has) led.declared led.stored led.shape meaning.is
+
       by : (o : Option ℕ) → means s.phrases site.block name ≡ o → elim o [ None ↦ None | Some k ↦ Some (standing_for s.phrases k) ] ≡ Some meaning.place → LeadSomewhere (chosen (n ∷ ns) led.shape.components)
       by None none so = absurd (cc)
       by (Some k) is so =
-          let places : Some k ≡ Some meaning.place = ap Some (sym (own k is)) ∙ so in
-          let placed : k ≡ meaning.place = cc in
-          let at : slice_get s.phrases k ≡ Some meaning.phrase = ap (slice_get s.phrases) placed ∙ meaning.there in
-          data_leads s knows k meaning.phrase n ns at (component_so s.phrases s.constants knows site.block k meaning.phrase name (n ∷ ns) is at has) led.declared led.stored led.shape meaning.is
+          let placed : standing_for s.phrases k ≡ meaning.place = cc in
+          let declared = knows.meant site.block name k is in
+          declared_leads k declared.1.declaring is declared.1.there placed (standing_for s.phrases k == k) refl

@@ -4,7 +4,7 @@ use Rattle.hal_names.specs.Laws.{IsCounted}
 use Rattle.hal_scope.specs.Rules.{IsAmong, IsSound, rows}
 use Rattle.hal_types.specs.Rules.{type_rows}
 use Rattle.hal_fit_names.specs.Suited.{AreDeclared, HasFitLiterals}
-use Rattle.hal_fit_names.proofs.MeantNames.{receiver_agrees, output_agrees, variable_agrees}
+use Rattle.hal_fit_names.proofs.MeantCells.{receiver_agrees, output_agrees, variable_agrees}
 use Rattle.hal_fit_names.proofs.Placing.{NodePlaced, items_are_placed}
 use Rattle.hal_fit_names.proofs.laws.names_of_receivers_agree.Goals as goal
 

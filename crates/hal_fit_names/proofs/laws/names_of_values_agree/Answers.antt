@@ -4,7 +4,7 @@ use Rattle.hal_names.specs.Laws.{IsCounted}
 use Rattle.hal_scope.specs.Rules.{IsAmong, IsSound, rows}
 use Rattle.hal_types.specs.Rules.{type_rows}
 use Rattle.hal_fit_names.specs.Suited.{AreDeclared, HasFitLiterals}
-use Rattle.hal_fit_names.proofs.MeantNames.{value_agrees, subscript_agrees}
+use Rattle.hal_fit_names.proofs.MeantValues.{value_agrees, subscript_agrees}
 use Rattle.hal_fit_names.proofs.Placing.{NodePlaced, items_are_placed}
 use Rattle.hal_fit_names.proofs.laws.names_of_values_agree.Goals as goal
 

@@ -1,4 +1,4 @@
-use Rattle.std.proofs.Common.{◌≡◌, ◌⊎◌, ℕ, true, false, List, Some, slice_get, sym, ap, ◌∙◌, subst}
+use Rattle.std.proofs.Common.{◌≡◌, ◌⊎◌, ℕ, true, List, Some, slice_get, sym, ap, ◌∙◌, subst}
 use Rattle.hal_grammar.specs.Leaves.{Naming}
 use Rattle.hal_grammar.specs.Declarations.{Attribute, Declaration, Declared}
 use Rattle.hal_grammar.specs.Units.{Head}
@@ -28,11 +28,11 @@ use Rattle.hal_fit_names.proofs.Processes.{stands_for_process}
 use Rattle.hal_fit_names.proofs.laws.units_are_known_where_what_is_left_is.Goals as goal
 
 pub returns : goal.returns
-returns c image g u files site home whole bodies has serves owned stands events given named sound literals spelled rest =
+returns c image g u files site home whole bodies has serves stands events given named sound literals spelled rest =
     let counted = c.phrases_are_counted.ensures files in
     let each_counted = subst IsCounted (sym whole) counted in
     unit_known image g u site home (subst (IsSound rows) (sym whole) named) (subst (IsSound type_rows) (sym whole) sound) each_counted (subst AreDeclared (sym whole) (c.what_is_meant_declares_the_name.ensures files))
-    (subst HasFitLiterals (sym whole) literals) (subst AreSpelled (sym whole) spelled) has serves owned
+    (subst HasFitLiterals (sym whole) literals) (subst AreSpelled (sym whole) spelled) has serves
     (subst (λ (ps : List Phrase). (k : ℕ) (p : Phrase) (template : Naming) (head : Head) (declarations : List Declaration) → slice_get ps k ≡ Some p → p.node ≡ OfTemplate template head declarations → is_process_head head ≡ true → StandsForProcess ps k) (sym whole)
     (λ k p template head declarations there is process. stands_for_process files k p template head declarations there is process (c.a_written_template_gives_what_its_unit_shows.ensures files given named p template head declarations (at_among (phrases_of files) k p there) is)))
     (subst (λ (ps : List Phrase). (k : ℕ) (p : Phrase) (common : List Attribute) (item : Declared) → slice_get ps k ≡ Some p → p.node ≡ OfItem common item → StandsForData ps k p common item ⊎ StandsForItself ps k p common item) (sym whole)

@@ -3,6 +3,7 @@ use Rattle.hal_phrases.specs.GatheredUnits.{phrases_of}
 use Rattle.hal_fit_spelled.proofs.Adding.{NodeSpelled}
 use Rattle.hal_fit_spelled.proofs.Fitting.{at_among, node_fits}
 use Rattle.hal_fit_spelled.proofs.SpelledFiles.{phrases_spelled}
+use Rattle.hal_fit_spelled.proofs.SpelledUnits.{files_nested}
 use Rattle.hal_fit_spelled.proofs.laws.what_right_words_spell_is_spelled.Goals as goal
 
 pub returns-clause-literals : goal.returns-clause-literals
@@ -16,6 +17,9 @@ returns-clause-lists c files are =
       times = λ p r place number within is. subst NodeSpelled is (phrases_spelled files are p within);
       initials = λ p place count sign spot literal within is. subst NodeSpelled is (phrases_spelled files are p within);
     }
+
+pub returns-clause-nested : goal.returns-clause-nested
+returns-clause-nested c files are = files_nested files are
 
 pub returns-clause-parts : goal.returns-clause-parts
 returns-clause-parts c files are = λ k p name parts there is. subst NodeSpelled is (phrases_spelled files are p (at_among (phrases_of files) k p there))

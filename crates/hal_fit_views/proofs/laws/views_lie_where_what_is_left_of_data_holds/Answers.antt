@@ -4,6 +4,7 @@ use Rattle.std.proofs.Common.{sym, ap, subst, ◌∙◌}
 use Rattle.std.proofs.lemmas.Bool.{and_parts, leb-true}
 use Rattle.hal_values.specs.declared.value.Kind.{Kind}
 use Rattle.hal_values.specs.declared.tables.Tables.{Tables}
+use Rattle.hal_phrases.specs.Phrases.{Phrase}
 use Rattle.hal_code.specs.declared.image.ImageParts.{ImageParts}
 use Rattle.hal_code.specs.declared.row.View.{View}
 use Rattle.hal_code.specs.declared.row.Run.{Run}
@@ -28,13 +29,19 @@ use Rattle.hal_fit_rows.proofs.GroupingFiles.{all_grouped}
 use Rattle.hal_fit_rows.proofs.HomingFiles.{all_home}
 use Rattle.hal_fit_rows.proofs.LookingUp.{LooksUp}
 use Rattle.hal_fit_rows.proofs.Made.{image_is}
+use Rattle.hal_fit_rows.proofs.Nesting.{StandsNested, all_nested}
+use Rattle.hal_fit_rows.proofs.Stored.{each_at}
+use Rattle.hal_fit_rows.proofs.Told.{IsTold}
+use Rattle.hal_fit_rows.proofs.ToldUnits.{set_told}
 use Rattle.hal_fit_views.specs.Holding.{DataHold, ReferencesHold}
-use Rattle.hal_fit_views.specs.Placed.{AreWellPlaced}
+use Rattle.hal_fit_views.specs.Placed.{AreWellPlaced, PoolsMatch}
 use Rattle.hal_fit_views.proofs.ChosenViews.{chosen_lie}
 use Rattle.hal_fit_views.proofs.Held.{elements_lie}
 use Rattle.hal_fit_views.proofs.Inner.{stands_inner}
 use Rattle.hal_fit_views.proofs.Laying.{all_hold}
 use Rattle.hal_fit_views.proofs.Leading.{lead_all}
+use Rattle.hal_fit_views.proofs.Nested.{pools_hold_none, programs_alone}
+use Rattle.hal_fit_views.proofs.Pools.{pools_match}
 use Rattle.hal_fit_views.proofs.Standing.{items_stand, stands_alone}
 use Rattle.hal_fit_views.proofs.Referring.{references_hold}
 use Rattle.hal_fit_views.proofs.Outside.{stands_outside}
@@ -48,7 +55,7 @@ mapped_at f (y ∷ xs) zero x is = ap (λ z. Some (f z)) (let same : y ≡ x = c
 mapped_at f (y ∷ xs) (suc n) x is = mapped_at f xs n x is
 
 pub returns : goal.returns
-returns c turns files image is sound typed called parts kept limits left =
+returns c turns files image is given sound typed called parts in_units kept limits areas =
     let s : Set = set_of turns files in
     let views : List View = views_of s in
     let made = image_is s views image is in
@@ -72,11 +79,14 @@ returns c turns files image is sound typed called parts kept limits left =
     (λ home b found.
     let one = body_is files looks.counted turns home b found in
     placed (unit_numbers s.phrases) home (subst (λ k. is_among (unit_numbers s.phrases) k ≡ true) (looks.counted home one.phrase one.there) (has_unit s.phrases home one.phrase one.there (head_unit one.phrase.node b.head one.head)))) in
-    let items = items_stand s.phrases looks left.pools left.hold in
+    let pools : PoolsMatch s.phrases =
+    pools_match s.phrases (λ k p there. each_at (IsTold s.phrases) s.phrases k p (set_told files) there) (c.a_written_template_gives_what_its_unit_shows.ensures files given sound) in
+    let nested : (k : ℕ) (p : Phrase) → slice_get s.phrases k ≡ Some p → StandsNested s.phrases p = (λ k p there. each_at (StandsNested s.phrases) s.phrases k p (all_nested files in_units) there) in
+    let items = items_stand s.phrases looks pools (pools_hold_none s.phrases nested) in
     let well : AreWellPlaced s.phrases s.constants = record {
-      stand = record { items = items; alone = stands_alone files looks sound typed left.pools s.constants };
+      stand = record { items = items; alone = stands_alone files looks sound typed pools s.constants };
       outside = stands_outside files looks sound typed s.constants;
-      inner = stands_inner files looks sound typed called items left.programs s.constants;
+      inner = stands_inner files looks sound typed called items (programs_alone s.phrases nested) s.constants;
     } in
     let hold : DataHold s image =
     all_hold s looks (all_home files) (all_grouped files) well image cells laid references
@@ -85,8 +95,9 @@ returns c turns files image is sound typed called parts kept limits left =
     c.views_lie_where_all_that_they_are_for_does.ensures turns files image is
     (record {
       elements = elements_lie image s hold;
-      chosen = chosen_lie s image limits few hold (lead_all files looks sound parts turns left.lead (c.names_of_parts_lead_to_components.ensures turns files));
+      chosen = chosen_lie s image limits few hold (lead_all files looks sound parts turns (λ site role place name first others subscript led same says leads.
+          c.names_of_parts_lead_to_components.ensures turns files site role place name first others subscript led given sound same says leads));
       places = places_lie s looks.counted image laid (all_grouped files);
       parameters = parameters_lie s looks.counted image laid (stored.inputs turns files sound parts);
-      areas = left.areas;
+      areas = areas hold;
     })
