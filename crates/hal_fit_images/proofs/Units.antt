@@ -1,4 +1,4 @@
--- What the phrases of units name is known where what is left of it is.
+-- What the phrases of units name is known where references with a path are.
 use Rattle.std.specs.Prelude.{◌≡◌, ℕ, ◌+◌, Bool, true, false, List, Some, None, slice_get, if◌then◌else◌}
 use Rattle.std.proofs.Common.{refl, sym, ap, subst, ◌∙◌}
 use Rattle.hal_grammar.specs.Units.{Head, Program, Compool, Task, Procedure, Function}
@@ -25,7 +25,6 @@ use Rattle.hal_link.specs.Outlines.{Outline, own_block, outlines_of}
 use Rattle.hal_fit_layout.proofs.Called.{from_member}
 use Rattle.hal_fit_layout.proofs.Outlining.{unit_is}
 use Rattle.hal_fit_images.specs.Blocks.{ground_of}
-use Rattle.hal_fit_images.specs.Left.{AreLeft}
 
 -- what the phrases of a unit name is known in the block with this number and row, by all that serves the unit
 abbrev pub UnitIsKnown : Set → ImageParts → ℕ → Block → Body → Type 0
@@ -62,7 +61,9 @@ process_there ps counted n k is p there =
     cc in
     subst (λ (q : Phrase). is_process q.node ≡ true) same at.1
 
-module _ (s : Set) (image : ImageParts) (counted : IsCounted s.phrases) (left : AreLeft s image) (united : (unit : ℕ) (b : Body) → body_at s unit ≡ Some b → IsUnitOf s.phrases unit b)
+module _ (s : Set) (image : ImageParts) (counted : IsCounted s.phrases)
+    (paths : (g : Ground) (u : Bool → Uses) (places : List Place) (b : Body) (q : Phrase) → IsAmong q s.phrases → is_left_node q.node ≡ true → PhraseKnown image g u (unit_site s places b) q)
+    (united : (unit : ℕ) (b : Body) → body_at s unit ≡ Some b → IsUnitOf s.phrases unit b)
     (by_names : (g : Ground) (u : Bool → Uses) (places : List Place) (b : Body) → ServesUnit s image u b.number → IsHome g (unit_site s places b) b.number
     → ((q : Phrase) → IsAmong q s.phrases → q.around.home ≡ b.number → is_left_node q.node ≡ true → PhraseKnown image g u (unit_site s places b) q) → UnitKnown image g u (unit_site s places b) b.number) where
   -- a unit is known in a block that gives back what it does
@@ -70,7 +71,7 @@ module _ (s : Set) (image : ImageParts) (counted : IsCounted s.phrases) (left : 
       → UnitIsKnown s image number row b
   known_in number unit row b there found gives = λ u serves.
       by_names (ground_of image number row) u (places_of_process s row.process) b serves
-      (record { body = b; found = ap (body_at s) (united unit b found).number ∙ found; unit = refl; gives = gives }) (left.known number unit row b there found u serves)
+      (record { body = b; found = ap (body_at s) (united unit b found).number ∙ found; unit = refl; gives = gives }) (λ q within here left. paths (ground_of image number row) u (places_of_process s row.process) b q within left)
 
   -- the unit of a process gives nothing back
   no_function : (row : Block) (o : Outline) (b : Body) → slice_get (outlines_of s) row.process ≡ Some o → body_at s o.unit ≡ Some b → is_function b.head ≡ false

@@ -13,8 +13,10 @@ ghost use Rattle.hal_fit_images.specs.Accepted.{IsAccepted};
 ghost use Rattle.hal_fit_images.specs.Blocks.{AllFit};
 ghost use Rattle.hal_fit_images.specs.Left.{AreLeft};
 
+use hal_fit_areas::arguments_have_the_cells_of_their_parameters;
 use hal_fit_calls::what_update_blocks_call_is_harmless;
 use hal_fit_names::{units_are_known_where_what_is_left_is, units_have_bodies};
+use hal_fit_paths::references_with_a_path_are_known;
 use hal_fit_rows::{
     a_set_that_breaks_no_rule_of_calls_has_no_cycles, a_set_within_its_limits_is_small,
     parameters_of_units_are_stored, references_of_processes_are_to_shapes,
@@ -37,8 +39,7 @@ pub fn an_image_of_blocks_that_fit_is_right()
 }
 
 /// An image of a set of files that right words spell and that breaks no rule of templates, names, types, locks, calls or limits meets V1 to V8 where all holds of it that is
-/// left to be known: that names mean no written templates of FUNCTIONs, what references with a path name, and that views lie in memory (image
-/// document, When an image is right).
+/// left to be known: that areas of some arguments lie in memory (image document, When an image is right).
 pub fn an_image_is_right_where_what_is_left_holds()
     ensures { (turns : ℕ) (files : List File) (image : ImageParts) → image_of (set_of turns files) (views_of (set_of turns files)) ≡ Ok image → IsAccepted files image → turns ≤ turn_limit
         → AreLeft (set_of turns files) image → IsRight image }
@@ -49,6 +50,7 @@ pub fn an_image_is_right_where_what_is_left_holds()
     what_right_words_spell_is_spelled();
     units_have_bodies();
     units_are_known_where_what_is_left_is();
+    references_with_a_path_are_known();
     a_set_is_a_load();
     a_set_that_breaks_no_rule_of_calls_has_no_cycles();
     a_set_within_its_limits_is_small();
@@ -57,6 +59,7 @@ pub fn an_image_is_right_where_what_is_left_holds()
     the_names_of_an_image_are_right();
     the_shapes_of_an_image_are_right();
     views_of_an_image_are_formed();
+    arguments_have_the_cells_of_their_parameters();
     views_lie_where_what_is_left_of_data_holds();
     each_block_of_a_linked_image_is_of_a_process_or_a_unit();
     an_image_of_blocks_that_fit_is_right();

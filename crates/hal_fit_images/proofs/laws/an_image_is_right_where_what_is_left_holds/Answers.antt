@@ -58,9 +58,12 @@ returns c turns files image is accepted few_turns left =
     let long = length-map (processes_of (phrases_of files)) (path_of (phrases_of files)) in
     let cells = cells_of_image s views image is refl long counted reentrant accepted.within.cells in
     let units : UnitsAreKnown s image =
-    units_are_known s image counted left (λ unit b found. c.units_have_bodies.ensures.unit files s unit b refl refl found)
+    units_are_known s image counted
+    (λ g u places b q within path.
+    c.references_with_a_path_are_known.ensures image g u files (unit_site s places b) q refl refl accepted.given accepted.named accepted.typed (words.literals files accepted.spelled) within path)
+    (λ unit b found. c.units_have_bodies.ensures.unit files s unit b refl refl found)
     (λ g u places b serves stands rest.
-    c.units_are_known_where_what_is_left_is.ensures image g u files (unit_site s places b) b.number refl refl refl serves left.owned stands
+    c.units_are_known_where_what_is_left_is.ensures image g u files (unit_site s places b) b.number refl refl refl serves stands
     (record { tables = (image_placed turns files views image is).tables; processes = long; events = refl }) accepted.given accepted.named accepted.typed
     (words.literals files accepted.spelled) (words.lists files accepted.spelled) rest) in
     let shapes : shapes_of s ≡ image.shapes = ap (λ (x : ImageParts). x.shapes) (image_is s views image is).1 in
@@ -72,6 +75,7 @@ returns c turns files image is accepted few_turns left =
       shapes = c.the_shapes_of_an_image_are_right.ensures s views image is accepted.few;
       views = and_from (list_all (form_right image) image.views && nat_le (sum_by (spread_of image) image.views) spread_limit) (views_lie image 0 image.views)
           (and_from (list_all (form_right image) image.views) (nat_le (sum_by (spread_of image) image.views) spread_limit) (c.views_of_an_image_are_formed.ensures turns files image is)
-          (and_parts (nat_le (sum_by (λ (runs : List (Run Kind)). row_count runs) image.shapes) spread_limit) (nat_le (sum_by (spread_of image) image.views) spread_limit) accepted.few).1) (c.views_lie_where_what_is_left_of_data_holds.ensures turns files image is accepted.named accepted.typed accepted.called parts accepted.few cells left.views);
+          (and_parts (nat_le (sum_by (λ (runs : List (Run Kind)). row_count runs) image.shapes) spread_limit) (nat_le (sum_by (spread_of image) image.views) spread_limit) accepted.few).1) (c.views_lie_where_what_is_left_of_data_holds.ensures turns files image is accepted.given accepted.named accepted.typed accepted.called parts (words.nested files accepted.spelled) accepted.few cells
+          (c.arguments_have_the_cells_of_their_parameters.ensures turns files image is accepted.given accepted.named accepted.typed (words.literals files accepted.spelled) (words.lists files accepted.spelled) accepted.few cells left.areas));
       names = c.the_names_of_an_image_are_right.ensures turns files views image is accepted.within accepted.program;
     }))
