@@ -1,8 +1,7 @@
 -- Areas of arguments without names of parts lie where the data do that are passed.
-use Rattle.std.specs.Prelude.{◌≡◌, ◌≤◌, ◌⊎◌, ◌+◌, ◌==◌, ◌&&◌, ℕ, Bool, true, false, List, [], ◌∷◌, map, Option, Some, None, slice_get, if◌then◌else◌}
+use Rattle.std.specs.Prelude.{◌≡◌, ◌≤◌, ◌⊎◌, ◌+◌, ℕ, Bool, true, false, List, [], ◌∷◌, map, Option, Some, None, slice_get, if◌then◌else◌}
 use Rattle.std.specs.List.{position, sum_by}
 use Rattle.std.proofs.Common.{refl, sym, ap, subst, ◌∙◌, inl, inr}
-use Rattle.std.proofs.lemmas.Bool.{and_parts, eqb-true}
 use Rattle.hal_base.specs.declared.limits.TheConstants.{CELL_LIMIT}
 use Rattle.hal_base.specs.declared.refusal.Place.{Place}
 use Rattle.hal_grammar.specs.Leaves.{Naming}
@@ -29,7 +28,6 @@ use Rattle.hal_code.specs.declared.row.Target.TheVariants as target
 use Rattle.hal_code.specs.Images as images
 use Rattle.hal_code.specs.Images.{expanded, row_count}
 use Rattle.hal_code.specs.Right.{cell_count}
-use Rattle.hal_meaning.specs.Bodies.{standing_for}
 use Rattle.hal_meaning.specs.Calls.{parameter_named}
 use Rattle.hal_meaning.specs.Elements.{Shape, copy_size, kinds_of, offset, shape_of}
 use Rattle.hal_meaning.specs.Sets.{Set, set_of}
@@ -56,16 +54,16 @@ use Rattle.hal_fit_views.specs.Lying.{lies_in, AreasLie}
 use Rattle.hal_fit_views.proofs.Bases.{base_low}
 use Rattle.hal_fit_views.proofs.ChosenViews.{led_is, moved_is}
 use Rattle.hal_fit_views.proofs.Held.{Chooses, StandFrom, held_lies}
+use Rattle.hal_fit_views.proofs.Laying.{data_is}
 use Rattle.hal_fit_views.proofs.Leading.{led_path}
 use Rattle.hal_fit_views.proofs.Limits.{copy_few}
-use Rattle.hal_fit_areas.specs.Left.{AreasLeft, is_plain_area, is_structured, passes_itself, stands_itself}
-use Rattle.hal_fit_areas.specs.Passed.{called_by}
+use Rattle.hal_fit_areas.specs.Left.{AreasLeft, is_plain_area, is_structured}
 use Rattle.hal_fit_areas.specs.Sized.{AreKnown}
 use Rattle.hal_fit_areas.proofs.Agreeing.{KnowsConstants}
 use Rattle.hal_fit_areas.proofs.Arrays.{group_stands, item_stands}
-use Rattle.hal_fit_areas.proofs.Calls.{Passes, passes, passes_called}
+use Rattle.hal_fit_areas.proofs.Calls.{Passes, passes}
 use Rattle.hal_fit_areas.proofs.Classes.{item_typed}
-use Rattle.hal_fit_areas.proofs.Meaning.{IsGiven, IsGroupFor, IsItemFor, IsOwnItem, KnowsTemplates, given_is, own_is}
+use Rattle.hal_fit_areas.proofs.Meaning.{IsGiven, IsGroupFor, IsItemFor, IsOwnItem, KnowsTemplates, given_is}
 use Rattle.hal_fit_areas.proofs.Parametered.{IsParameterFor, empty_shape, parameter_for}
 use Rattle.hal_fit_areas.proofs.Parameters.{KindsKnown, kind_known}
 use Rattle.hal_fit_areas.proofs.PartAreas.{named_part_stands}
@@ -73,15 +71,13 @@ use Rattle.hal_fit_areas.proofs.Parting.{PartsKnown}
 use Rattle.hal_fit_areas.proofs.Ranges.{choice_reached, item_extent_at}
 use Rattle.hal_fit_areas.proofs.Sizes.{item_extent}
 use Rattle.hal_fit_areas.proofs.Standing.{Stands, none_stand}
+use Rattle.hal_fit_areas.proofs.TwinParameters.{IsStructureFor, structure_for}
+use Rattle.hal_fit_areas.proofs.TwinStructures.{given_item}
 use Rattle.hal_fit_areas.proofs.Wholes.{no_group, whole_stands}
 
 nil_is : {X : Type 0} (xs : List X) → is_nil xs ≡ true → xs ≡ []
 nil_is [] is = refl
 nil_is (x ∷ xs) is = absurd (cc)
-
--- what stands for itself
-itself : (ps : List Phrase) (block : ℕ) (name : List ℕ) → stands_itself ps block name ≡ true → (k : ℕ) → means ps block name ≡ Some k → standing_for ps k ≡ k
-itself ps block name is k meant_ = eqb-true (standing_for ps k) k (ap (λ (o : Option ℕ). elim o [ None ↦ true | Some n ↦ standing_for ps n == n ]) (sym meant_) ∙ is)
 
 module _ (files : List File) (turns : ℕ) (looks : LooksUp (phrases_of files)) (named : IsSound rows (phrases_of files)) (typed : IsSound type_rows (phrases_of files)) (literals : HasFitLiterals (phrases_of files)) (known_kinds : KindsKnown (phrases_of files))
     (templates : KnowsTemplates (phrases_of files)) (dimensioned : HaveSizes (phrases_of files)) (worths : KnowsConstants (set_of turns files)) (parts_known : PartsKnown (phrases_of files))
@@ -192,39 +188,40 @@ module _ (files : List File) (turns : ℕ) (looks : LooksUp (phrases_of files)) 
       led_here : one.led.path ≡ []
       led_here = led_path one.path (referent site one.name) one.led one.leads ∙ path
 
+      -- what declares the data
+      given_here : IsGiven ps site.block one.name one.led
+      given_here = given_is files turns looks templates known_kinds (item_typed ps typed) sized site set one.name one.led are_data
+
+      own_item : IsItemFor ps given_here.phrase one.led → IsOwnItem ps site.block one.name one.led
+      own_item =
+          given_item files turns looks named typed literals known_kinds templates outward site.block one.name one.led (data_is s site one.name one.led.declared one.led.stored one.led.shape set are_data) given_here
+
       -- an array, or one value
       array_here : is_structured ps one.unit one.parameter ≡ false → Stands site one.led one.subscript (kinds_of (parameter_named s one.unit one.parameter).shape)
       array_here unstructured =
           argument_stands site set one.place one.name one.subscript one.unit one.parameter (subst (λ p. Passes s site one.unit one.parameter (Refers one.place one.name p one.subscript)) path pass) unstructured one.led
           (referent_formed site.set.phrases site.set.constants site.block one.name one.led.declared one.led.stored one.led.shape are_data) few led_here
-          (given_is files turns looks templates known_kinds (item_typed ps typed) sized site set one.name one.led are_data)
-
-      -- the unit that is called by its own name
-      own_unit : stands_itself ps site.block (called_by one.passed) ≡ true → pass.callee.declared ≡ one.unit
-      own_unit is =
-          let called = passes_called files turns looks templates named typed site set one.unit one.parameter (Refers one.place one.name one.path one.subscript) one.passed in
-          let meant_here : means ps site.block (called_by one.passed) ≡ Some pass.callee.declared = ap (means ps site.block) (sym called.0) ∙ (ap (λ b. means ps b pass.called) (sym called.1) ∙ pass.callee.means_it) in
-          sym (itself ps site.block (called_by one.passed) is pass.callee.declared meant_here) ∙ pass.callee.stands
+          given_here
 
       -- a structure, or copies of it
-      structure_here : is_structured ps one.unit one.parameter ≡ true → passes_itself s one ≡ true → Stands site one.led one.subscript (kinds_of (parameter_named s one.unit one.parameter).shape)
-      structure_here structured all =
-          let both = and_parts (stands_itself ps site.block (called_by one.passed)) (stands_itself ps site.block one.name) all in
-          with_path one.path path pass (own_unit both.0) (own_is files turns looks templates known_kinds (item_typed ps typed) sized site set one.name one.led are_data (itself ps site.block one.name both.1))
+      structure_here : is_structured ps one.unit one.parameter ≡ true → Stands site one.led one.subscript (kinds_of (parameter_named s one.unit one.parameter).shape)
+      structure_here structured = with_path one.path path pass given_here.is
         where
-          with_path : (p : List Naming) → p ≡ [] → (x : Passes s site one.unit one.parameter (Refers one.place one.name p one.subscript)) → x.callee.declared ≡ one.unit
-              → IsOwnItem ps site.block one.name one.led ⊎ ((q : Phrase) × (k : ℕ) × IsGroupFor q one.led × (means ps site.block one.name ≡ Some k) × (slice_get ps k ≡ Some q))
-              → Stands site one.led one.subscript (kinds_of (parameter_named s one.unit one.parameter).shape)
-          with_path [] none x so (inl mine) =
-              whole_stands files turns looks named typed literals site one.place one.name one.unit one.parameter one.subscript x so structured one.led led_here mine
-              (referent_formed site.set.phrases site.set.constants site.block one.name one.led.declared one.led.stored one.led.shape are_data) few (worths site set x.phrase x.block)
-          with_path [] none x so (inr group) =
-              absurd (no_group files turns looks named typed literals site one.place one.name one.unit one.parameter one.subscript x so structured group.1 group.0 group.2.labels group.2.variable group.3 group.4 group.2.node)
-          with_path (n ∷ ns) none x so mine = absurd (cc)
+          for_it : {p : List Naming} (x : Passes s site one.unit one.parameter (Refers one.place one.name p one.subscript)) → IsStructureFor s one.unit x.callee.declared one.parameter
+          for_it x = structure_for files turns looks named typed literals known_kinds dimensioned templates outward x.inside x.called one.unit one.parameter x.callee x.listed structured
 
-      area_stands : (b : Bool) → is_structured ps one.unit one.parameter ≡ b → (if b then passes_itself s one else true) ≡ true → Stands site one.led one.subscript (kinds_of (parameter_named s one.unit one.parameter).shape)
-      area_stands true is all = structure_here is all
-      area_stands false is plain = array_here is
+          with_path : (p : List Naming) → p ≡ [] → (x : Passes s site one.unit one.parameter (Refers one.place one.name p one.subscript)) → IsItemFor ps given_here.phrase one.led ⊎ IsGroupFor given_here.phrase one.led
+              → Stands site one.led one.subscript (kinds_of (parameter_named s one.unit one.parameter).shape)
+          with_path [] none x (inl mine) =
+              whole_stands files turns looks named typed literals site one.place one.name one.unit one.parameter one.subscript x (for_it x) one.led led_here (own_item mine)
+              (referent_formed site.set.phrases site.set.constants site.block one.name one.led.declared one.led.stored one.led.shape are_data) few (worths site set x.phrase x.block)
+          with_path [] none x (inr group) =
+              absurd (no_group files turns looks named typed literals site one.place one.name one.unit one.parameter one.subscript x (for_it x) given_here.number given_here.phrase group.labels group.variable given_here.means_it given_here.there group.node)
+          with_path (n ∷ ns) none x mine = absurd (cc)
+
+      area_stands : (b : Bool) → is_structured ps one.unit one.parameter ≡ b → Stands site one.led one.subscript (kinds_of (parameter_named s one.unit one.parameter).shape)
+      area_stands true is = structure_here is
+      area_stands false is = array_here is
 
     -- a part that is passed
     module _ (process : ℕ) (site : Site) (rows_ : List Dimension) (shape : ℕ) (from : Base) (at : IsSite s process site) (one : IsAreaFor (shapes_of s) site rows_ shape from) (few : copy_size one.led.shape.components ≤ most) where
@@ -247,9 +244,9 @@ module _ (files : List File) (turns : ℕ) (looks : LooksUp (phrases_of files)) 
               (given_is files turns looks templates known_kinds (item_typed ps typed) sized site set_here one.name one.led data_here)
 
       -- what is passed, with names of parts or without
-      named_stands : (b c : Bool) → is_nil one.path ≡ b → is_structured ps one.unit one.parameter ≡ c → (if c then b && passes_itself s one else true) ≡ true → Stands site one.led one.subscript (kinds_of (parameter_named s one.unit one.parameter).shape)
-      named_stands true true none is plain = area_stands process site rows_ shape from at one few (nil_is one.path none) true is plain
-      named_stands true false none is plain = area_stands process site rows_ shape from at one few (nil_is one.path none) false is refl
+      named_stands : (b c : Bool) → is_nil one.path ≡ b → is_structured ps one.unit one.parameter ≡ c → (if c then b else true) ≡ true → Stands site one.led one.subscript (kinds_of (parameter_named s one.unit one.parameter).shape)
+      named_stands true true none is plain = area_stands process site rows_ shape from at one few (nil_is one.path none) true is
+      named_stands true false none is plain = area_stands process site rows_ shape from at one few (nil_is one.path none) false is
       named_stands false false some is plain = part_here some is
       named_stands false true some is plain = absurd (cc)
 

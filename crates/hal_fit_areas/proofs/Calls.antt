@@ -41,7 +41,6 @@ use Rattle.hal_fit_rows.proofs.LookingUp.{LooksUp}
 use Rattle.hal_fit_rows.proofs.Told.{HasParameter, IsTold, IsToldNode, names_of, unit_head}
 use Rattle.hal_fit_rows.proofs.ToldUnits.{set_told}
 use Rattle.hal_fit_rows.proofs.Rules.{among_at}
-use Rattle.hal_fit_areas.specs.Passed.{called_by, name_called}
 use Rattle.hal_fit_areas.specs.Said.{SaysReference, SaysTree, SaysTrees, SaysOutputs, SaysArguments, IsSaid}
 use Rattle.hal_fit_areas.proofs.ArguingFiles.{all_said}
 use Rattle.hal_fit_areas.proofs.Callees.{IsCallee, callee_is}
@@ -342,13 +341,6 @@ module _ (files : List File) (turns : ℕ) (looks : LooksUp (phrases_of files)) 
           fits = inl (input_fit ps vs call.1.phrase c.declared (inputs_of c.head) (inputs_at s unit) arguments parameter given (inputs_so site.block call.0.name unit c) all.0 names, whole_here unit parameter whole);
         }
 
-    input_called : (unit : ℕ) (parameter : Naming) (given : Reference) (arguments : Expressions) (receivers : List Reference) (calls : ByForm site unit arguments ⊎ ByCall site unit arguments receivers)
-        (passed : IsInput (inputs_at site.set unit) arguments parameter given) (whole : is_whole (parameter_named site.set unit parameter).shape ≡ true)
-        → ((input_passes unit parameter given arguments receivers calls passed whole).called ≡ name_called calls) × ((input_passes unit parameter given arguments receivers calls passed whole).inside ≡ site.block)
-    unfolding form_passes input_passes
-    input_called unit parameter given arguments receivers (inl form) passed whole = (refl, refl)
-    input_called unit parameter given arguments receivers (inr call) passed whole = (refl, refl)
-
     -- an argument of a call
     pub passes : (unit : ℕ) (parameter : Naming) (given : Reference) → IsPassed site unit parameter given → Passes s site unit parameter given
     passes unit parameter given (inl one) = input_passes unit parameter given one.arguments one.receivers one.calls one.passed one.whole
@@ -368,10 +360,3 @@ module _ (files : List File) (turns : ℕ) (looks : LooksUp (phrases_of files)) 
           callee = c;
           fits = inr (output_fit ps vs call.1.phrase c.declared (outputs_of c.head) (outputs_at s unit) one.receivers parameter given (outputs_so site.block call.0.name unit c) all.1 names, refl);
         }
-
-    -- it is of the call by this name in this block
-    pub passes_called : (unit : ℕ) (parameter : Naming) (given : Reference) (passed : IsPassed site unit parameter given)
-        → ((passes unit parameter given passed).called ≡ called_by passed) × ((passes unit parameter given passed).inside ≡ site.block)
-    unfolding passes
-    passes_called unit parameter given (inl one) = input_called unit parameter given one.arguments one.receivers one.calls one.passed one.whole
-    passes_called unit parameter given (inr one) = (refl, refl)

@@ -26,11 +26,13 @@ mod Unarrayed
 mod Copies
 mod SizedParts
 mod SameParts
-mod Wholes
 mod Ends
 mod Inner
 mod Components
 mod Parting
 mod TwinParts
+mod TwinStructures
+mod TwinParameters
+mod Wholes
 mod PartAreas
 mod Areas

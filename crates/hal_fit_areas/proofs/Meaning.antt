@@ -70,7 +70,7 @@ pub record IsGiven (ps : List Phrase) (block : ℕ) (name : List ℕ) (l : Led) 
   pub there : slice_get ps number ≡ Some phrase
   pub is : IsItemFor ps phrase l ⊎ IsGroupFor phrase l
 
--- data that stand for themselves
+-- data whose declaration has their shape
 pub record IsOwnItem (ps : List Phrase) (block : ℕ) (name : List ℕ) (l : Led) : Type 0 where
   pub number : ℕ
   pub means_it : means ps block name ≡ Some number
@@ -127,21 +127,6 @@ module _ (files : List File) (turns : ℕ) (looks : LooksUp (phrases_of files)) 
       by _ _ _ (OfAnItem common item node) shape =
           inl (record { common = common; item = item; node = node; shape = λ plain. shape; stored = item_stored_so ps vs its.phrase common item l.declared l.stored l.shape (ap (node_referent ps vs its.phrase) (sym node) ∙ refers) })
       by _ _ _ (OfAGroup labels variable node) shape = inr (record { labels = labels; variable = variable; node = node; shape = shape })
-
-    -- where the name means what stands for itself
-    itself_so : ((k : ℕ) → means ps site.block name ≡ Some k → standing_for ps k ≡ k) → means ps site.block name ≡ Some its.place
-    itself_so itself = by (means ps site.block name) refl its.means_it where
-      by : (o : Option ℕ) → means ps site.block name ≡ o → elim o [ None ↦ None | Some k ↦ Some (standing_for ps k) ] ≡ Some its.place → means ps site.block name ≡ Some its.place
-      by None none so = absurd (cc)
-      by (Some k) is so = is ∙ (ap Some (sym (itself k is)) ∙ so)
-
-    pub own_is : ((k : ℕ) → means ps site.block name ≡ Some k → standing_for ps k ≡ k) → IsOwnItem ps site.block name l ⊎ ((q : Phrase) × (k : ℕ) × IsGroupFor q l × (means ps site.block name ≡ Some k) × (slice_get ps k ≡ Some q))
-    own_is itself = by l.declared l.stored l.shape its.is refl where
-      by : (declared : ℕ) (way : Storing) (shape : Shape) → IsDataAt s its.phrase declared way shape → l.shape ≡ shape
-          → IsOwnItem ps site.block name l ⊎ ((q : Phrase) × (k : ℕ) × IsGroupFor q l × (means ps site.block name ≡ Some k) × (slice_get ps k ≡ Some q))
-      by _ _ _ (OfAnItem common item node) shape =
-          inl (record { number = its.place; means_it = itself_so itself; phrase = its.phrase; there = its.there; common = common; item = item; node = node; shape = shape })
-      by _ _ _ (OfAGroup labels variable node) shape = inr (its.phrase, its.place, record { labels = labels; variable = variable; node = node; shape = shape }, itself_so itself, its.there)
 
     -- through a template
     module _ (k : ℕ) (p : Phrase) (meant_so : means ps site.block name ≡ Some k) (there : slice_get ps k ≡ Some p) (stands : standing_for ps k ≡ its.place) where

@@ -61,7 +61,7 @@ abbrev pub empty_shape : Shape
 empty_shape = record { copies = None; components = [] }
 
 -- what is found by a key
-found_own : (ps : List Phrase) (block : ℕ) (name : Naming) (p : Phrase) → IsOwn ps block name.name p → parameter_of ps block name ≡ Some p
+pub found_own : (ps : List Phrase) (block : ℕ) (name : Naming) (p : Phrase) → IsOwn ps block name.name p → parameter_of ps block name ≡ Some p
 unfolding parameter_of
 found_own ps block name p is = ap (option_and_then (λ j. slice_get ps j)) is.found ∙ is.there
 

@@ -53,7 +53,7 @@ use Rattle.hal_fit_areas.proofs.Parting.{IsParted, PartsKnown, component_of_it, 
 use Rattle.hal_fit_areas.proofs.Plainly.{item_shape, plain_with}
 use Rattle.hal_fit_areas.proofs.Ranges.{IsLow, choice_reached, copies_reached}
 use Rattle.hal_fit_areas.proofs.Sizes.{item_extent}
-use Rattle.hal_fit_areas.proofs.TwinParts.{parted_is}
+use Rattle.hal_fit_areas.proofs.TwinStructures.{parted_is}
 use Rattle.hal_fit_areas.proofs.Structures.{of_type}
 use Rattle.hal_fit_areas.proofs.Meaning.{IsGiven, IsGroupFor, IsItemFor, KnowsTemplates}
 use Rattle.hal_fit_areas.proofs.Standing.{Stands, none_stand}

@@ -1,13 +1,12 @@
 -- Data of a written template that are structures have the components of those that they stand for.
 use Rattle.std.specs.Prelude.{◌≡◌, ◌⊎◌, ℕ, Bool, true, false, List, [], ◌∷◌, ◌++◌, length, map, Option, Some, None, slice_get, if◌then◌else◌}
-use Rattle.std.specs.Option.{option_and_then}
 use Rattle.std.proofs.Common.{refl, sym, ap, subst, ◌∙◌, inl, inr}
 use Rattle.hal_base.specs.declared.refusal.Place.{Place}
 use Rattle.hal_grammar.specs.Leaves.{Naming}
 use Rattle.hal_grammar.specs.Expressions.{Expression, Expressions}
 use Rattle.hal_grammar.specs.Declarations.{Attribute, Declared, StructureKind, Part}
-use Rattle.hal_grammar.specs.Units.{File, Preface}
-use Rattle.hal_phrases.specs.Phrases.{Node, Phrase, phrase, OfFile, OfItem, OfPart, OfStructure, OfTemplate, OfUnit, OfTemporaryGroup}
+use Rattle.hal_grammar.specs.Units.{File}
+use Rattle.hal_phrases.specs.Phrases.{Phrase, phrase, OfItem, OfPart, OfStructure}
 use Rattle.hal_phrases.specs.GatheredUnits.{phrases_of}
 use Rattle.hal_phrases.specs.GatheredDeclarations.{is_bottom}
 use Rattle.hal_names.specs.declared.key.Key.{Key}
@@ -22,26 +21,16 @@ use Rattle.hal_types.specs.Rules.{type_rows}
 use Rattle.hal_values.specs.declared.value.Kind as values
 use Rattle.hal_constants.specs.Known.{Known, known}
 use Rattle.hal_templates.specs.Agreeing.{HaveSameParts, IsSamePart, NamesTheSame}
-use Rattle.hal_templates.specs.Own.{template_of}
 use Rattle.hal_templates.specs.Traits as given
-use Rattle.hal_meaning.specs.Bodies.{meant_at, pooled_at, standing_for}
-use Rattle.hal_meaning.specs.Elements.{Above, Component, Shape, component, components_at, components_from, lower, path_to, shape_of, sizes_given}
-use Rattle.hal_meaning.specs.Places.{Storing}
-use Rattle.hal_meaning.specs.Sets.{set_of}
-use Rattle.hal_gen_expr.specs.Led.{Led}
-use Rattle.hal_fit_names.specs.Standing.{StandsForData}
+use Rattle.hal_meaning.specs.Elements.{Above, Component, component, components_at, components_from, lower, path_to, sizes_given}
 use Rattle.hal_fit_names.specs.Suited.{HasFitLiterals}
-use Rattle.hal_fit_names.proofs.Pooling.{AreHeld, HoldsData, IsPooled, NodeHeld, data_are_held}
 use Rattle.hal_fit_names.proofs.Sizing.{is_valued}
-use Rattle.hal_fit_names.proofs.Standing.{data_stand}
-use Rattle.hal_fit_parts.proofs.Alike.{shaped_so}
 use Rattle.hal_fit_parts.proofs.Belonging.{Region}
 use Rattle.hal_fit_parts.proofs.Standing.{parts_stand}
 use Rattle.hal_fit_paths.specs.Known.{IsKnownPart}
 use Rattle.hal_fit_paths.proofs.Kinded.{AreKnownParts, parts_known}
 use Rattle.hal_fit_paths.proofs.Placed.{ArePlacedParts, listed_placed, same_there}
-use Rattle.hal_fit_paths.proofs.SameStructures.{declared_same}
-use Rattle.hal_fit_paths.proofs.Shapes.{IsOfStructure, named_so, of_template, parts_so}
+use Rattle.hal_fit_paths.proofs.Shapes.{named_so, parts_so}
 use Rattle.hal_fit_paths.proofs.Twins.{bottoms, or_nothing, part_twins}
 use Rattle.hal_fit_rows.proofs.LookingUp.{LooksUp}
 use Rattle.hal_fit_rows.proofs.Rules.{among_at}
@@ -49,11 +38,9 @@ use Rattle.hal_fit_rows.proofs.Stored.{each_at}
 use Rattle.hal_fit_rows.proofs.Templates.{NamesStructure, names_structure}
 use Rattle.hal_fit_rows.proofs.Told.{IsTold, IsToldNode}
 use Rattle.hal_fit_rows.proofs.ToldUnits.{set_told}
-use Rattle.hal_fit_views.proofs.Laying.{IsData, IsDataAt, OfAGroup, OfAnItem}
 use Rattle.hal_fit_areas.specs.Sized.{AreKnown}
-use Rattle.hal_fit_areas.proofs.Meaning.{KnowsTemplates, same_at}
+use Rattle.hal_fit_areas.proofs.Meaning.{KnowsTemplates}
 use Rattle.hal_fit_areas.proofs.Parameters.{KindsKnown}
-use Rattle.hal_fit_areas.proofs.Parting.{IsParted}
 use Rattle.hal_fit_areas.proofs.Sizes.{part_extent}
 use Rattle.hal_fit_areas.proofs.Twins.{given_same}
 
@@ -150,7 +137,7 @@ module _ (files : List File) (turns : ℕ) (looks : LooksUp (phrases_of files)) 
       ap (components_at ps vs r) is ∙ (parts_same ps kinds r s [] [] xs ys refl same mine theirs (parts_sized k r name xs there is) (parts_sized j s other ys at so) ∙ sym (ap (components_at ps vs s) so))
 
   -- so have those that a name means for a template and for its unit
-  named_same : (p q : Phrase) (template : List ℕ) (mine : NamesStructure ps p.around.block template) (theirs : NamesStructure ps q.around.block template) → NamesTheSame ps vs p q template
+  pub named_same : (p q : Phrase) (template : List ℕ) (mine : NamesStructure ps p.around.block template) (theirs : NamesStructure ps q.around.block template) → NamesTheSame ps vs p q template
       → (theirs.phrase.around.home ≡ q.around.home → HaveSameParts ps vs mine.phrase mine.structure.parts theirs.phrase theirs.structure.parts)
       → components_at ps vs mine.phrase mine.phrase.node ≡ components_at ps vs theirs.phrase theirs.phrase.node
   named_same p q template mine theirs same own_ =
@@ -169,7 +156,7 @@ module _ (files : List File) (turns : ℕ) (looks : LooksUp (phrases_of files)) 
             ap (λ (x : Phrase). components_at ps vs x x.node) one
 
   -- the structure that the type of data names
-  structure_of : (k : ℕ) (x : Phrase) (common : List Attribute) (item : Declared) (place : Place) (template : List ℕ) (copies : Option Expression) → slice_get ps k ≡ Some x → x.node ≡ OfItem common item
+  pub structure_of : (k : ℕ) (x : Phrase) (common : List Attribute) (item : Declared) (place : Place) (template : List ℕ) (copies : Option Expression) → slice_get ps k ≡ Some x → x.node ≡ OfItem common item
       → type_of common item ≡ Some (StructureKind place template copies) → NamesStructure ps x.around.block template
   structure_of k x common item place template copies there is type =
       let of_node : IsToldNode ps x (OfItem common item) = subst (IsToldNode ps x) is (each_at (IsTold ps) ps k x (set_told files) there) in
@@ -177,7 +164,7 @@ module _ (files : List File) (turns : ℕ) (looks : LooksUp (phrases_of files)) 
       subst (λ block. NamesStructure ps block template) type_.its (names_structure ps looks.meant named type_.phrase type_.among type_.place template type_.is)
 
   -- structures are spelled as they are meant
-  spelled_so : (block : ℕ) (template : List ℕ) (names : NamesStructure ps block template) → names.structure.name.name ≡ template
+  pub spelled_so : (block : ℕ) (template : List ℕ) (names : NamesStructure ps block template) → names.structure.name.name ≡ template
   unfolding declared_at
   spelled_so block template names =
       let declaration = looks.meant block template names.number names.meant in
@@ -187,67 +174,3 @@ module _ (files : List File) (turns : ℕ) (looks : LooksUp (phrases_of files)) 
       let keyed : Some (key space.Declared names.phrase.around.home names.structure.name.name) ≡ Some (key space.Declared declaration.0 template) =
       ap (declared_at names.phrase.number names.phrase.around) (sym names.structure.is) ∙ (ap declared_by (sym one) ∙ first.declares) in
       ap (λ (o : Option Key). elim o [ None ↦ [] | Some w ↦ w.name ]) keyed
-
-  module _ (block : ℕ) (name : List ℕ) (l : Led) (its : IsData (set_of turns files) block name l.declared l.stored l.shape) (k : ℕ) (means_it : means ps block name ≡ Some k) (p : Phrase) (there : slice_get ps k ≡ Some p)
-      (common : List Attribute) (item : Declared) (is : p.node ≡ OfItem common item) (place : Place) (template : List ℕ) (copies : Option Expression) (type : type_of common item ≡ Some (StructureKind place template copies)) where
-    placed : standing_for ps k ≡ its.place
-    placed = let so : Some (standing_for ps k) ≡ Some its.place = ap (λ (o : Option ℕ). elim o [ None ↦ None | Some n ↦ Some (standing_for ps n) ]) (sym means_it) ∙ its.means_it in cc
-
-    -- the components of what stands there
-    shape_at : (q : Phrase) (other_common : List Attribute) (other : Declared) → its.phrase ≡ q → q.node ≡ OfItem other_common other → l.shape ≡ shape_of ps vs q other_common other
-    shape_at q other_common other same node = by l.declared l.stored l.shape its.is refl where
-      by : (declared : ℕ) (way : Storing) (shape : Shape) → IsDataAt (set_of turns files) its.phrase declared way shape → l.shape ≡ shape → l.shape ≡ shape_of ps vs q other_common other
-      by _ _ _ (OfAnItem own_common own own_node) shape =
-          let nodes : OfItem own_common own ≡ OfItem other_common other = sym own_node ∙ (ap (λ (x : Phrase). x.node) same ∙ node) in
-          let commons : own_common ≡ other_common = cc in
-          let items : own ≡ other = cc in
-          shape ∙ (ap (λ (x : Phrase). shape_of ps vs x own_common own) same ∙ (ap (λ c. shape_of ps vs q c own) commons ∙ ap (shape_of ps vs q other_common) items))
-      by _ _ _ (OfAGroup labels variable own_node) shape = absurd (let nodes : OfTemporaryGroup labels variable ≡ OfItem other_common other = sym own_node ∙ (ap (λ (x : Phrase). x.node) same ∙ node) in cc)
-
-    abbrev Parted : Type 0
-    Parted = IsParted ps block name l
-
-    made_of : l.shape.components ≡ (shape_of ps vs p common item).components → Parted
-    made_of same = record { number = k; means_it = means_it; phrase = p; there = there; common = common; item = item; node = is; components = same }
-
-    -- data that stand for themselves
-    itself : standing_for ps k ≡ k → Parted
-    itself own_ =
-        let here : slice_get ps its.place ≡ Some p = ap (slice_get ps) (sym placed ∙ own_) ∙ there in
-        made_of (ap (λ (x : Shape). x.components) (shape_at p common item (let both : Some its.phrase ≡ Some p = sym its.there ∙ here in cc) is))
-
-    -- data of a written template of a COMPOOL
-    pooled_so : (f : Phrase) (prefaces : List Preface) (unit : Naming) → slice_get ps p.around.home ≡ Some f → f.node ≡ OfFile prefaces unit → IsPooled ps p.around.home prefaces item.name.name → StandsForData ps k p common item → Parted
-    unfolding template_of
-    pooled_so f prefaces unit home file pool stands =
-        let q : Phrase = stands.phrase in
-        let type_ : IsOfStructure template (type_of stands.other_common stands.other) =
-        of_template (type_of stands.other_common stands.other) template (sym stands.same.attributes.template ∙ ap template_of type) in
-        let theirs : NamesStructure ps q.around.block template = structure_of q.number q stands.other_common stands.other type_.place template type_.copies stands.there stands.declares type_.is in
-        let mine : NamesStructure ps p.around.block template = structure_of k p common item place template copies there is type in
-        let same = named_same p q template mine theirs (stands.same.structures template (ap template_of type))
-        (λ same_home. declared_same files named looks.counted templates.gives looks.found outward k p common item there is stands f prefaces unit home file pool template mine.number theirs.number mine.phrase theirs.phrase mine.structure.name
-        theirs.structure.name mine.structure.parts theirs.structure.parts mine.meant mine.there mine.structure.is theirs.meant theirs.there theirs.structure.is (spelled_so q.around.block template theirs) same_home) in
-        let at : its.phrase ≡ q = same_at ps its.place q.number its.phrase q its.there stands.there (sym placed ∙ stands.stands) in
-        made_of
-        (ap (λ (x : Shape). x.components) (shape_at q stands.other_common stands.other at stands.declares)
-        ∙ (shaped_so ps vs theirs.number q theirs.phrase stands.other_common stands.other type_.place template type_.copies type_.is theirs.meant theirs.there
-        ∙ (sym same ∙ sym (shaped_so ps vs mine.number p mine.phrase common item place template copies type mine.meant mine.there))))
-
-    -- either of them
-    pub parted_is : IsParted ps block name l
-    parted_is = by held.phrase.node refl held.holds where
-      held : AreHeld ps p.around.home item.name.name
-      held = subst (NodeHeld ps p) is (data_are_held files p (among_at ps k p there))
-
-      none : (m : Node) → held.phrase.node ≡ m → pooled_at ps item.name.name m ≡ None → standing_for ps k ≡ k
-      none m node is_none =
-          ap (λ (o : Option ℕ). elim o [ None ↦ k | Some other ↦ other ])
-          (ap (option_and_then (λ (r : Phrase). meant_at ps r r.node)) there
-          ∙ (ap (meant_at ps p) is ∙ (ap (option_and_then (λ (h : Phrase). pooled_at ps item.name.name h.node)) held.there ∙ (ap (pooled_at ps item.name.name) node ∙ is_none))))
-
-      by : (m : Node) → held.phrase.node ≡ m → HoldsData ps p.around.home m item.name.name → Parted
-      by (OfFile prefaces unit) node holds = pooled_so held.phrase prefaces unit held.there node holds (data_stand files named templates.gives k p common item there is held.phrase prefaces unit held.there node)
-      by (OfUnit unit head declarations) node holds = itself (none (OfUnit unit head declarations) node refl)
-      by (OfTemplate unit head declarations) node holds = itself (none (OfTemplate unit head declarations) node refl)
-      by other node holds = absurd holds

@@ -21,7 +21,7 @@ use Rattle.hal_fit_areas.proofs.Parameters.{KindsKnown, kind_known}
 use Rattle.hal_fit_areas.proofs.Plainly.{item_shape, plain_with}
 
 -- what agrees is equal where both are known
-agree_so : {X : Type 0} (o p : Option X) (x y : X) → Agree o p → o ≡ Some x → p ≡ Some y → x ≡ y
+pub agree_so : {X : Type 0} (o p : Option X) (x y : X) → Agree o p → o ≡ Some x → p ≡ Some y → x ≡ y
 agree_so {X} o p x y agree one other = by (subst (λ q. Agree (Some x) q) other (subst (λ q. Agree q p) one agree)) where
   by : Agree (Some x) (Some y) → x ≡ y
   by same = same

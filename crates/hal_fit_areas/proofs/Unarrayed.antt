@@ -51,7 +51,7 @@ structure_clashes (LockAny at_) place sizes is = absurd (cc)
 structure_clashes (InitialValues at_ values) place sizes is = absurd (cc)
 structure_clashes (ConstantValues at_ values) place sizes is = absurd (cc)
 
-any_there : {X : Type 0} (test : X → Bool) (xs : List X) (x : X) → IsAmong x xs → test x ≡ true → list_any test xs ≡ true
+pub any_there : {X : Type 0} (test : X → Bool) (xs : List X) (x : X) → IsAmong x xs → test x ≡ true → list_any test xs ≡ true
 any_there test [] x within is = absurd within
 any_there test (y ∷ ys) x (inl same) is = first_true (test y) (list_any test ys) (ap test (sym same) ∙ is) where
   first_true : (a b : Bool) → a ≡ true → (a || b) ≡ true

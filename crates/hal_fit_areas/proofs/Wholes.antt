@@ -9,10 +9,8 @@ use Rattle.hal_grammar.specs.Expressions.{Expression, Referred, Refers, Subscrip
 use Rattle.hal_grammar.specs.Declarations.{Kind, IntegerKind, BooleanKind, EventKind, BitKind, CharacterKind, StructureKind, Attribute, Declared, Part}
 use Rattle.hal_grammar.specs.Units.{File}
 use Rattle.hal_phrases.specs.declared.role.Role.TheVariants as roles
-use Rattle.hal_phrases.specs.Phrases.{Node, Phrase, OfItem, OfStructure, OfTemporaryGroup}
+use Rattle.hal_phrases.specs.Phrases.{Phrase, OfItem, OfStructure, OfTemporaryGroup}
 use Rattle.hal_phrases.specs.GatheredUnits.{phrases_of}
-use Rattle.hal_names.specs.declared.key.Space.TheVariants as space
-use Rattle.hal_names.specs.Keys.{key, own}
 use Rattle.hal_names.specs.Means.{means}
 use Rattle.hal_scope.specs.Rules.{IsAmong, IsSound, rows}
 use Rattle.hal_scope.specs.Sorts.{type_of}
@@ -32,9 +30,9 @@ use Rattle.hal_shapes.specs.Arguments as arguments
 use Rattle.hal_shapes.specs.Arguments.{fits_parts, input_fits, input_named, output_fits, output_named, parameter_of}
 use Rattle.hal_shapes.specs.Selections.{copies_left, copy_subs, declared_for, reference_in, structure_of}
 use Rattle.hal_shapes.specs.Shapes.{is_excused, is_whole_structure, may_count, structure_argument}
-use Rattle.hal_meaning.specs.Calls.{Parameter, parameter_named, parameter_shape}
+use Rattle.hal_meaning.specs.Calls.{parameter_named}
 use Rattle.hal_sizes.specs.Sizes.{copies_by, copies_of, size_in}
-use Rattle.hal_meaning.specs.Elements.{Component, Shape, components_at, copy_size, kinds_of, kinds_of_component, size_given, times}
+use Rattle.hal_meaning.specs.Elements.{Component, Shape, components_at, copy_size, kinds_of, kinds_of_component, shape_of, size_given, times}
 use Rattle.hal_meaning.specs.Sets.{Set, set_of}
 use Rattle.hal_meaning.specs.Variables.{is_whole}
 use Rattle.hal_agreement.specs.Sites.{Site}
@@ -51,29 +49,20 @@ use Rattle.hal_fit_rows.proofs.Rules.{among_at}
 use Rattle.hal_fit_rows.proofs.Templates.{NamesStructure, names_structure}
 use Rattle.hal_fit_rows.proofs.Told.{IsTold, IsToldNode}
 use Rattle.hal_fit_rows.proofs.ToldUnits.{set_told}
-use Rattle.hal_fit_areas.specs.Left.{is_structured, is_structured_node}
 use Rattle.hal_fit_areas.proofs.Calls.{Passes}
 use Rattle.hal_fit_areas.proofs.Classes.{chosen_calm, class_structured, group_class, group_counted, item_class, item_counted, item_typed, structure_single, typed_data, whole_structured}
 use Rattle.hal_fit_areas.proofs.Copies.{alone_in, copies_for, several_left, several_reached, several_stands, whole_copies_left, whole_copies_stand}
 use Rattle.hal_fit_areas.proofs.Meaning.{IsOwnItem}
-use Rattle.hal_fit_areas.proofs.Parametered.{parameter_from, parameter_is}
 use Rattle.hal_fit_areas.proofs.Ranges.{size_low}
 use Rattle.hal_fit_areas.proofs.SameParts.{structures_cells}
 use Rattle.hal_fit_areas.proofs.Standing.{Stands}
 use Rattle.hal_fit_areas.proofs.Structures.{IsOf, alike, all_left, all_stands, copies_known, copies_same, copies_there, copy_stands, counted_copies, counts, none_for, one_left, structured_shape}
+use Rattle.hal_fit_areas.proofs.TwinParameters.{IsStructureFor}
 use Rattle.hal_fit_areas.proofs.Unarrayed.{form_of, unarrayed}
 
 calm_fits : (a b : Bool) → a ≡ false → (a || b) ≡ true → b ≡ true
 calm_fits false b calm is = is
 calm_fits true b calm is = absurd (cc)
-
--- what is found by a key is among all
-found_among : (ps : List Phrase) (unit : ℕ) (name : Naming) (r : Phrase) → parameter_of ps unit name ≡ Some r → IsAmong r ps
-unfolding parameter_of
-found_among ps unit name r is = by (own ps (key space.Declared unit name.name)) is where
-  by : (o : Option ℕ) → option_and_then (λ j. slice_get ps j) o ≡ Some r → IsAmong r ps
-  by None so = absurd (cc)
-  by (Some j) so = among_at ps j r so
 
 module _ (files : List File) (turns : ℕ) (looks : LooksUp (phrases_of files)) (named : IsSound rows (phrases_of files)) (typed : IsSound type_rows (phrases_of files)) (literals : HasFitLiterals (phrases_of files)) where
   abbrev s : Set
@@ -124,36 +113,35 @@ module _ (files : List File) (turns : ℕ) (looks : LooksUp (phrases_of files)) 
     by (Some (CharacterKind place size)) type is = absurd (cc)
 
   -- a parameter that is one
-  record IsStructured (unit : ℕ) (name : Naming) : Type 0 where
+  record IsStructured (unit declared : ℕ) (name : Naming) : Type 0 where
     phrase : Phrase
-    found : parameter_of ps unit name ≡ Some phrase
+    found : parameter_of ps declared name ≡ Some phrase
     common : List Attribute
     item : Declared
     node : phrase.node ≡ OfItem common item
+    within : IsAmong phrase ps
     has : HasStructure phrase common item
+    shape : (parameter_named s unit name).shape ≡ shape_of ps vs phrase common item
 
-  structured_parameter : (unit : ℕ) (name : Naming) → is_structured ps unit name ≡ true → IsStructured unit name
-  structured_parameter unit name = by (parameter_of ps unit name) refl where
-    by_node : (r : Phrase) → parameter_of ps unit name ≡ Some r → (node : Node) → r.node ≡ node → is_structured_node node ≡ true → IsStructured unit name
-    by_node r found (OfItem common item) node is =
-        record { phrase = r; found = found; common = common; item = item; node = node; has = structured_has r common item (found_among ps unit name r found) node is }
-    by_node r found other node is = absurd (cc)
-
-    by : (o : Option Phrase) → parameter_of ps unit name ≡ o → elim o [ None ↦ false | Some p ↦ is_structured_node p.node ] ≡ true → IsStructured unit name
-    by None none is = absurd (cc)
-    by (Some r) found is = by_node r found r.node refl is
+  structured_parameter : (unit declared : ℕ) (name : Naming) → IsStructureFor s unit declared name → IsStructured unit declared name
+  structured_parameter unit declared name one = record {
+    phrase = one.phrase;
+    found = one.found;
+    common = one.common;
+    item = one.item;
+    node = one.node;
+    within = one.within;
+    has = structured_has one.phrase one.common one.item one.within one.node one.structured;
+    shape = one.shape;
+  }
 
   -- what is passed to a parameter that is a structure
-  module _ (site : Site) (place : Place) (name : List ℕ) (unit : ℕ) (parameter : Naming) (x : Subscript) (pass : Passes s site unit parameter (Refers place name [] x)) (own_unit : pass.callee.declared ≡ unit)
-      (structured : is_structured ps unit parameter ≡ true) where
-    its : IsStructured unit parameter
-    its = structured_parameter unit parameter structured
+  module _ (site : Site) (place : Place) (name : List ℕ) (unit : ℕ) (parameter : Naming) (x : Subscript) (pass : Passes s site unit parameter (Refers place name [] x)) (for_it : IsStructureFor s unit pass.callee.declared parameter) where
+    its : IsStructured unit pass.callee.declared parameter
+    its = structured_parameter unit pass.callee.declared parameter for_it
 
     abbrev its_kind : Kind
     its_kind = StructureKind its.has.of.place its.has.of.template its.has.of.copies
-
-    found : parameter_of ps pass.callee.declared parameter ≡ Some its.phrase
-    found = ap (λ k. parameter_of ps k parameter) own_unit ∙ its.found
 
     abbrev Fits : Option Class → Type 0
     Fits c = fits_parts ps vs pass.phrase its.phrase its.common its.item c (Some (Refers place name [] x)) ≡ true
@@ -187,11 +175,11 @@ module _ (files : List File) (turns : ℕ) (looks : LooksUp (phrases_of files)) 
           ⊎ ((output_named ps vs pass.phrase pass.callee.declared parameter (Refers place name [] x) ≡ true) × (pass.role ≡ roles.Output)) → Fits c
       by (inl fit) =
           input_parts c is calm
-          (sym (ap (λ (o : Option Phrase). elim o [ None ↦ true | Some y ↦ input_fits ps vs pass.phrase y (Referred (Refers place name [] x)) y.node ]) found
+          (sym (ap (λ (o : Option Phrase). elim o [ None ↦ true | Some y ↦ input_fits ps vs pass.phrase y (Referred (Refers place name [] x)) y.node ]) its.found
           ∙ ap (input_fits ps vs pass.phrase its.phrase (Referred (Refers place name [] x))) its.node) ∙ fit.0)
       by (inr fit) =
           output_parts c is calm
-          (sym (ap (λ (o : Option Phrase). elim o [ None ↦ true | Some y ↦ output_fits ps vs pass.phrase y (Refers place name [] x) y.node ]) found
+          (sym (ap (λ (o : Option Phrase). elim o [ None ↦ true | Some y ↦ output_fits ps vs pass.phrase y (Refers place name [] x) y.node ]) its.found
           ∙ ap (output_fits ps vs pass.phrase its.phrase (Refers place name [] x)) its.node) ∙ fit.0)
 
     -- no TEMPORARY variable is
@@ -270,7 +258,7 @@ module _ (files : List File) (turns : ℕ) (looks : LooksUp (phrases_of files)) 
       second_known : (t : Expression) → its.has.of.copies ≡ Some t → size_in ps vs its.phrase t ≡ Some (size_given ps vs its.phrase t)
       second_known t is =
           copies_known ps named typed looks.counted looks.meant literals its.phrase its.common its.item its.has.of.place its.has.of.template t its.node (its.has.of.typed ∙ ap (λ c. Some (StructureKind its.has.of.place its.has.of.template c)) is)
-          (items_are_placed files looks.counted its.phrase (found_among ps unit parameter its.phrase its.found))
+          (items_are_placed files looks.counted its.phrase its.within)
 
       -- as many copies are left as are wanted
       count : may_count (option_and_then (λ size. copies_left ps vs pass.phrase size (copy_subs x)) (copies_by ps vs mine.phrase owns.of.copies)) (copies_by ps vs its.phrase its.has.of.copies) ≡ true
@@ -279,8 +267,7 @@ module _ (files : List File) (turns : ℕ) (looks : LooksUp (phrases_of files)) 
 
       shape_is : (parameter_named s unit parameter).shape ≡ record { copies = option_map (size_given ps vs its.phrase) its.has.of.copies; components = its_cs }
       shape_is =
-          ap (λ (q : Parameter). q.shape) (parameter_is s unit parameter ∙ ap (parameter_from s) its.found) ∙ (ap (parameter_shape s its.phrase) its.node
-          ∙ structured_shape ps vs its.phrase its.common its.item its.has.number its.has.of its.has.template its.has.there)
+          its.shape ∙ structured_shape ps vs its.phrase its.common its.item its.has.number its.has.of its.has.template its.has.there
 
       shape_kinds : kinds_of (parameter_named s unit parameter).shape ≡ kinds_of (record { copies = option_map (size_given ps vs its.phrase) its.has.of.copies; components = cs })
       shape_kinds = ap kinds_of shape_is ∙ ap (λ (ks : List values.Kind). times (unwrap_or (option_map (size_given ps vs its.phrase) its.has.of.copies) 1) ks) (sym cells_so)

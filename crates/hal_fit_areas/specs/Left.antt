@@ -1,15 +1,13 @@
 -- Arguments of which no law says yet that they have the cells of their parameters.
-use Rattle.std.specs.Prelude.{◌≡◌, ◌==◌, ◌&&◌, ℕ, Bool, true, false, List, Some, None, if◌then◌else◌}
+use Rattle.std.specs.Prelude.{◌≡◌, ℕ, Bool, true, false, List, Some, None, if◌then◌else◌}
 use Rattle.hal_grammar.specs.Leaves.{Naming}
 use Rattle.hal_phrases.specs.Phrases.{Node, Phrase, OfItem}
-use Rattle.hal_names.specs.Means.{means}
 use Rattle.hal_scope.specs.Sorts.{type_of}
 use Rattle.hal_kinds.specs.Data.{is_structure_type}
 use Rattle.hal_shapes.specs.Arguments.{parameter_of}
 use Rattle.hal_code.specs.declared.image.ImageParts.{ImageParts}
 use Rattle.hal_code.specs.declared.row.Base.{Base}
 use Rattle.hal_code.specs.declared.row.Dimension.{Dimension}
-use Rattle.hal_meaning.specs.Bodies.{standing_for}
 use Rattle.hal_meaning.specs.Sets.{Set}
 use Rattle.hal_meaning.specs.Variables.{is_nil}
 use Rattle.hal_agreement.specs.Sites.{Site}
@@ -17,7 +15,6 @@ use Rattle.hal_gen_expr.specs.Numbering.{area_view}
 use Rattle.hal_link.specs.Shapes.{Shapes, shapes_of}
 use Rattle.hal_fit_rows.specs.Purposes.{IsSite, IsAreaFor}
 use Rattle.hal_fit_views.specs.Lying.{lies_in}
-use Rattle.hal_fit_areas.specs.Passed.{called_by}
 
 -- whether the parameter of this name is a structure
 abbrev pub is_structured_node : Node → Bool
@@ -27,17 +24,9 @@ is_structured_node other = false
 abbrev pub is_structured : List Phrase → ℕ → Naming → Bool
 is_structured ps unit name = elim (parameter_of ps unit name) [ None ↦ false | Some p ↦ is_structured_node p.node ]
 
--- whether what a name means in a block stands for itself, as all does that is of no written template
-abbrev pub stands_itself : List Phrase → ℕ → List ℕ → Bool
-stands_itself ps block name = elim (means ps block name) [ None ↦ true | Some k ↦ standing_for ps k == k ]
-
--- whether what is passed, and the unit that is called, stand for themselves
-abbrev pub passes_itself : (s : Set) {shapes : Shapes} {site : Site} {rows : List Dimension} {shape : ℕ} {from : Base} → IsAreaFor shapes site rows shape from → Bool
-passes_itself s {site = site} one = stands_itself s.phrases site.block (called_by one.passed) && stands_itself s.phrases site.block one.name
-
--- whether this is passed for an array or one value, or it is a structure that is so
+-- whether this is passed for an array or one value, or it is a structure without names of parts
 abbrev pub is_plain_area : (s : Set) {shapes : Shapes} {site : Site} {rows : List Dimension} {shape : ℕ} {from : Base} → IsAreaFor shapes site rows shape from → Bool
-is_plain_area s one = if is_structured s.phrases one.unit one.parameter then is_nil one.path && passes_itself s one else true
+is_plain_area s one = if is_structured s.phrases one.unit one.parameter then is_nil one.path else true
 
 -- the others lie
 abbrev pub AreasLeft : Set → ImageParts → Type 0

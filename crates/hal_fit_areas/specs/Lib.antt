@@ -2,5 +2,4 @@ pub mod Blocks
 pub mod Said
 pub mod Sized
 pub mod Reached
-pub mod Passed
 pub mod Left

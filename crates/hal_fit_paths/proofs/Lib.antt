@@ -1,7 +1,7 @@
 pub mod Placed
 pub mod Kinded
 pub mod Twins
-mod Held
+pub mod Held
 pub mod SameStructures
 pub mod Ends
 pub mod Shapes

@@ -108,6 +108,53 @@ file_no_unit n prefaces unit is other = let so : false ≡ true = sym (ap is_uni
 parts_same : (a b : Naming) (xs ys : List Part) → OfStructure a xs ≡ OfStructure b ys → xs ≡ ys
 parts_same a b xs ys is = cc
 
+-- data that a block declares belong to it
+pub own_home : (ps : List Phrase) → ((q : Key) (n : ℕ) → own ps q ≡ Some n → IsFirst ps q n) → (q : Phrase) (u : ℕ) (x : List ℕ) (common : List Attribute) (item : Declared) → q.node ≡ OfItem common item → IsOwn ps u x q → q.around.home ≡ u
+unfolding declared_at
+own_home ps found q u x common item node owned =
+    let first = found (key space.Declared u x) q.number owned.found in
+    let one : first.declaring ≡ q = same_there first.declaring q (sym first.there ∙ owned.there) in
+    let keyed : Some (key space.Declared q.around.home item.name.name) ≡ Some (key space.Declared u x) = ap (declared_at q.number q.around) (sym node) ∙ (ap declared_by (sym one) ∙ first.declares) in
+    ap (λ (o : Option Key). elim o [ None ↦ 0 | Some w ↦ w.owner ]) keyed
+
+-- a structure that a unit and a template of it declare, where both say the same of all that the unit shows
+module _ (files : List File) (named : IsSound rows (phrases_of files)) (outward : (block : ℕ) (name : List ℕ) → means (phrases_of files) block name ≡ declared_or_around (phrases_of files) block name)
+    (h u : ℕ) (mine_all theirs_all : List Node) (meanings : AreSameNames (phrases_of files) (known (phrases_of files)) h mine_all u theirs_all)
+    (p : Phrase) (common : List Attribute) (item : Declared) (within : IsAmong p (phrases_of files)) (is : p.node ≡ OfItem common item) (home : p.around.home ≡ h)
+    (template : List ℕ) (m n : ℕ) (r s : Phrase) (own_name other_name : Naming) (xs ys : List Part) (meant : means (phrases_of files) p.around.block template ≡ Some m) (at : slice_get (phrases_of files) m ≡ Some r) (node : r.node ≡ OfStructure own_name xs)
+    (other_at : slice_get (phrases_of files) n ≡ Some s) (other_node : s.node ≡ OfStructure other_name ys) (spelled : other_name.name ≡ template) (other_home : s.around.home ≡ u) (listed : IsAmong (OfStructure other_name ys) theirs_all) where
+  abbrev whole : List Phrase
+  whole = phrases_of files
+
+  partner : IsSameStructure whole h u other_name ys
+  partner =
+      let one = partner_of whole h mine_all u theirs_all meanings (OfStructure other_name ys) listed in
+      structure_same one.same other_name ys refl
+
+  -- it is the one
+  theirs_is : partner.q ≡ s
+  unfolding declared_at given
+  theirs_is =
+      let mine : IsOwn whole u other_name.name s = subst (λ k. IsOwn whole k other_name.name s) other_home (is_own files named s (OfStructure other_name ys) other_name s.around.home (at_among whole n s other_at) other_node refl refl refl) in
+      same_there partner.q s (sym partner.theirs.there ∙ (ap (slice_get whole) (some_same (sym partner.theirs.found ∙ mine.found)) ∙ mine.there))
+
+  -- and the template's is the other one
+  mine_is : partner.p ≡ r
+  mine_is =
+      let around : p.around.block ≡ h = subst (NodeHeld whole p) is (all_held files p within) ∙ home in
+      let owned : own whole (key space.Declared h template) ≡ Some partner.p.number = subst (λ x. own whole (key space.Declared h x) ≡ Some partner.p.number) (partner.named ∙ spelled) partner.mine.found in
+      let means_it : means whole p.around.block template ≡ Some partner.p.number =
+      ap (λ b. means whole b template) around
+      ∙ (outward h template
+      ∙ ap (λ (o : Option ℕ). option_or o (elim (slice_get whole h) [ None ↦ None | Some f ↦ elim (prefaces_of f.node) [ None ↦ means whole f.around.block template | Some before ↦ included whole before template ] ])) owned) in
+      same_there partner.p r (sym partner.mine.there ∙ (ap (slice_get whole) (some_same (sym means_it ∙ meant)) ∙ at))
+
+  pub own_same : HaveSameParts whole (known whole) r xs s ys
+  own_same =
+      let parts : partner.own_parts ≡ xs = parts_same partner.own_name own_name partner.own_parts xs (sym partner.node ∙ (ap (λ (k : Phrase). k.node) mine_is ∙ node)) in
+      subst (λ (k : Phrase). HaveSameParts whole (known whole) k xs s ys) mine_is
+      (subst (λ (zs : List Part). HaveSameParts whole (known whole) partner.p zs s ys) parts (subst (λ (k : Phrase). HaveSameParts whole (known whole) partner.p partner.own_parts k ys) theirs_is partner.same))
+
 module _ (files : List File) (named : IsSound rows (phrases_of files)) (counted : IsCounted (phrases_of files))
     (gives : (p : Phrase) (name : Naming) (head : Head) (declarations : List Declaration) → IsAmong p (phrases_of files) → p.node ≡ OfTemplate name head declarations → GivesItsUnit (phrases_of files) p name head declarations)
     (found : (q : Key) (n : ℕ) → own (phrases_of files) q ≡ Some n → IsFirst (phrases_of files) q n)
@@ -119,20 +166,6 @@ module _ (files : List File) (named : IsSound rows (phrases_of files)) (counted 
 
   abbrev name : List ℕ
   name = item.name.name
-
-  -- the phrase that declares a name of a block belongs to it
-  owner_is : (q : Phrase) (u : ℕ) (x : List ℕ) → own ps (key space.Declared u x) ≡ Some q.number → slice_get ps q.number ≡ Some q → declared_by q ≡ Some (key space.Declared u x)
-  owner_is q u x owned at =
-      let first = found (key space.Declared u x) q.number owned in
-      let one : first.declaring ≡ q = same_there first.declaring q (sym first.there ∙ at) in
-      ap declared_by (sym one) ∙ first.declares
-
-  -- so data do
-  item_home : (q : Phrase) (u : ℕ) (x : List ℕ) (other_common : List Attribute) (other : Declared) → q.node ≡ OfItem other_common other → declared_by q ≡ Some (key space.Declared u x) → q.around.home ≡ u
-  unfolding declared_at
-  item_home q u x other_common other node declares =
-      let keyed : Some (key space.Declared q.around.home other.name.name) ≡ Some (key space.Declared u x) = ap (declared_at q.number q.around) (sym node) ∙ declares in
-      ap (λ (o : Option Key). elim o [ None ↦ 0 | Some w ↦ w.owner ]) keyed
 
   module _ (f : Phrase) (prefaces : List Preface) (unit : Naming) (home : slice_get ps p.around.home ≡ Some f) (file : f.node ≡ OfFile prefaces unit) (pool : IsPooled ps p.around.home prefaces name) where
     given_ : GivesItsUnit ps pool.phrase pool.template pool.head pool.declarations
@@ -172,7 +205,7 @@ module _ (files : List File) (named : IsSound rows (phrases_of files)) (counted 
           (sym (ap (λ (o : Option Phrase). elim o [ None ↦ false | Some h ↦ is_unit h.node ]) home) ∙ (ap (λ (r : Phrase). is_in_unit ps r.around.home) (sym same) ∙ stands.within)))
       by (Some m) some =
           let number : m ≡ stands.phrase.number = sym (standing_so ∙ ap (λ (o : Option ℕ). elim o [ None ↦ k | Some other ↦ other ]) some) ∙ stands.stands in
-          item_home stands.phrase u name stands.other_common stands.other stands.declares (owner_is stands.phrase u name (some ∙ ap Some number) stands.there)
+          own_home ps found stands.phrase u name stands.other_common stands.other stands.declares (record { found = some ∙ ap Some number; there = stands.there })
 
     module _ (template : List ℕ) (m n : ℕ) (r s : Phrase) (own_name other_name : Naming) (xs ys : List Part) (meant : means ps p.around.block template ≡ Some m) (at : slice_get ps m ≡ Some r) (node : r.node ≡ OfStructure own_name xs)
         (other_meant : means ps stands.phrase.around.block template ≡ Some n) (other_at : slice_get ps n ≡ Some s) (other_node : s.node ≡ OfStructure other_name ys)
@@ -183,31 +216,7 @@ module _ (files : List File) (named : IsSound rows (phrases_of files)) (counted 
           let held : IsDeclaredBy ps s.around.home (OfStructure other_name ys) = subst (NodeHeld ps s) other_node (all_held files s (at_among ps n s other_at)) in
           held given_.unit given_.is_unit.naming given_.unit_head given_.unit_declarations (ap (slice_get ps) (same_home ∙ stands_in) ∙ given_.is_unit.there) given_.is_unit.is
 
-      partner : IsSameStructure ps p.around.home u other_name ys
-      partner =
-          let one = partner_of ps p.around.home (entries pool.declarations) u (entries given_.unit_declarations) meanings (OfStructure other_name ys) listed in
-          structure_same one.same other_name ys refl
-
-      -- it is the one
-      theirs_is : partner.q ≡ s
-      unfolding declared_at given
-      theirs_is =
-          let mine : IsOwn ps u other_name.name s = subst (λ h. IsOwn ps h other_name.name s) (same_home ∙ stands_in) (is_own files named s (OfStructure other_name ys) other_name s.around.home (at_among ps n s other_at) other_node refl refl refl) in
-          same_there partner.q s (sym partner.theirs.there ∙ (ap (slice_get ps) (some_same (sym partner.theirs.found ∙ mine.found)) ∙ mine.there))
-
-      -- and the template's is the other one
-      mine_is : partner.p ≡ r
-      mine_is =
-          let around : p.around.block ≡ p.around.home = subst (NodeHeld ps p) is (all_held files p (at_among ps k p there)) in
-          let owned : own ps (key space.Declared p.around.home template) ≡ Some partner.p.number = subst (λ x. own ps (key space.Declared p.around.home x) ≡ Some partner.p.number) (partner.named ∙ spelled) partner.mine.found in
-          let means_it : means ps p.around.block template ≡ Some partner.p.number =
-          ap (λ b. means ps b template) around
-          ∙ (outward p.around.home template
-          ∙ ap (λ (o : Option ℕ). option_or o (elim (slice_get ps p.around.home) [ None ↦ None | Some h ↦ elim (prefaces_of h.node) [ None ↦ means ps h.around.block template | Some before ↦ included ps before template ] ])) owned) in
-          same_there partner.p r (sym partner.mine.there ∙ (ap (slice_get ps) (some_same (sym means_it ∙ meant)) ∙ at))
-
       pub declared_same : HaveSameParts ps (known ps) r xs s ys
       declared_same =
-          let parts : partner.own_parts ≡ xs = parts_same partner.own_name own_name partner.own_parts xs (sym partner.node ∙ (ap (λ (h : Phrase). h.node) mine_is ∙ node)) in
-          subst (λ (h : Phrase). HaveSameParts ps (known ps) h xs s ys) mine_is
-          (subst (λ (zs : List Part). HaveSameParts ps (known ps) partner.p zs s ys) parts (subst (λ (h : Phrase). HaveSameParts ps (known ps) partner.p partner.own_parts h ys) theirs_is partner.same))
+          own_same files named outward p.around.home u (entries pool.declarations) (entries given_.unit_declarations) meanings p common item (at_among ps k p there) is refl template m n r s own_name other_name xs ys meant at node
+          other_at other_node spelled (same_home ∙ stands_in) listed
