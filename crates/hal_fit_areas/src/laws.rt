@@ -28,8 +28,9 @@ use hal_names::{
 };
 use hal_templates::a_written_template_gives_what_its_unit_shows;
 
-/// Where no rule of templates, names or types is broken, whole arguments and ASSIGN arguments have the cells of their parameters, so that the areas of a linked image lie where the data do
-/// that are passed: those of arrays and of single values, which may be parts of data, of structures and their copies, which are no parts of data and of no written template, and those that are left (language document, Calls; image document, When an image is right).
+/// Where no rule of templates, names or types is broken, whole arguments and ASSIGN arguments have the cells of their parameters, so that the areas of a linked image lie where
+/// the data do that are passed: those of arrays and of single values, which may be parts of data, of structures and their copies, and those that are left: structures that names of
+/// parts lead to (language document, Calls; image document, When an image is right).
 pub fn arguments_have_the_cells_of_their_parameters()
     ensures { (turns : ℕ) (files : List File) (image : ImageParts) → image_of (set_of turns files) (views_of (set_of turns files)) ≡ Ok image → IsSound template_rows (phrases_of files) → IsSound rows (phrases_of files) → IsSound type_rows (phrases_of files)
         → HasFitLiterals (phrases_of files) → AreSpelled (phrases_of files) → spread_kept image ≡ true → cell_count image ≤ CELL_LIMIT → AreasLeft (set_of turns files) image → DataHold (set_of turns files) image
