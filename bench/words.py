@@ -21,7 +21,8 @@ TIMES = 20
 LEAST = 20
 
 # Kinds of text that define names again.
-AGAIN = ('same', 'turns', 'wide', 'mixed', 'many', 'fours', 'fives', 'fresh', 'pair', 'fifty', 'scattered', 'beside', 'late', 'leaves')
+AGAIN = ('same', 'turns', 'wide', 'mixed', 'many', 'fours', 'fives', 'fresh', 'pair', 'fifty', 'scattered', 'beside', 'late', 'leaves',
+         'shuffled', 'unneeded')
 WHOLE = 1_048_576
 MOST = 10
 

@@ -9,8 +9,8 @@ ghost use Rattle.hal_lexer.specs.Summary.{IsHeld, IsKept, child_of, list_of, tol
 /// was summed up as the one with this number, which has at least two of them.
 #[derive(Clone, Copy)]
 pub(crate) enum Given {
-    Word(usize),
-    Name(usize),
+    Word(u32),
+    Name(u32),
 }
 
 /// What a word comes to: that isn't known, or to nothing, or to one part.
@@ -44,7 +44,7 @@ impl Parts {
 }
 
 /// What a name with these parts comes to, which is summed up as the one with this number.
-pub(crate) fn comes_of(list: &[Given], number: usize) -> Comes
+pub(crate) fn comes_of(list: &[Given], number: u32) -> Comes
     ensures told { (words : List Word) → told words (Some result) ≡ Some (as_child number (map (child_of words) list.now)) }
     ensures held { (words : List Word) → All (IsHeld words) list.now → IsKept words result }
 {

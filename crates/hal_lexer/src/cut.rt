@@ -7,6 +7,7 @@ ghost use Rattle.hal_lexer.specs.Sound.{IsSound};
 ghost use Rattle.hal_lexer.specs.Summary.{IsCut, IsTextOf, Keeps, Numbered};
 ghost use Rattle.hal_lexer.specs.Texts.{IsText};
 
+use crate::number_list::{NumberList, Numbers};
 use crate::summary::{Cut, Summary};
 use crate::text::words_of;
 use crate::text_words::is_replace;
@@ -24,7 +25,10 @@ pub(crate) fn cut_of(alloc: Global, summary: &mut Summary, text: &[u8]) -> Resul
         return Ok(Cut::Broken);
     };
     match numbers_of(alloc, summary, words.as_slice())? {
-        Some(numbers) => Ok(cut_from(numbers)),
+        Some(numbers) => {
+            let cut = cut_from(alloc, numbers)?;
+            Ok(cut)
+        }
         None => Ok(Cut::Broken),
     }
 }
@@ -34,7 +38,7 @@ fn numbers_of(
     alloc: Global,
     summary: &mut Summary,
     words: &[Word],
-) -> Result<Option<Vec<usize>>, AllocError>
+) -> Result<Option<Vec<u32>>, AllocError>
     ensures numbers { IfOk result (λ found. IfSome found (λ numbers. (definitions : Definitions) → IsSound definitions summary.old → Numbered summary.new.words.items words.now numbers.items)) }
     ensures sound { OnOk result ((definitions : Definitions) → IsSound definitions summary.old → IsSound definitions summary.new) }
     ensures keeps { OnOk result (Keeps summary.old.words.items summary.new.words.items) }
@@ -53,11 +57,12 @@ fn numbers_of(
 }
 
 /// What is kept of a text whose words have these numbers: of one word, no list.
-fn cut_from(numbers: Vec<usize>) -> Cut
-    ensures { (all : List words.Word) (text : List ℕ) → IsTextOf all text numbers.items → IsCut all result (Some text) }
+fn cut_from(alloc: Global, numbers: Vec<u32>) -> Result<Cut, AllocError>
+    ensures { IfOk result (λ cut. (all : List words.Word) (text : List ℕ) → IsTextOf all text numbers.items → IsCut all cut (Some text)) }
 {
     if let [one] = numbers.as_slice() {
-        return Cut::Word(*one);
+        return Ok(Cut::Word(*one));
     }
-    Cut::Words(numbers)
+    let items = NumberList::new(alloc, numbers)?;
+    Ok(Cut::Words(Numbers { items }))
 }

@@ -13,6 +13,7 @@ mod frames;
 mod fronts;
 mod given_walk;
 mod laws;
+mod number_list;
 mod order;
 mod plan;
 mod replacing;

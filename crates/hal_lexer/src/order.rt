@@ -3,13 +3,14 @@
 ghost use Rattle.std.specs.Prelude.{◌≡◌, ◌++◌, ◌∷◌, [], OnOk};
 
 use crate::comes::Parts;
+use crate::plan::Plan;
 use std::alloc::{AllocError, Global};
 use std::marker::Model;
 
 /// A name that is summed up: its number, and the parts that stand in its place.
 #[derive(Drop)]
 pub(crate) struct Entry {
-    pub(crate) number: usize,
+    pub(crate) number: u32,
     pub(crate) parts: Parts,
 }
 
@@ -19,9 +20,9 @@ pub(crate) struct Entry {
 pub(crate) struct Order {
     list: Vec<Entry>,
     /// Those that were summed up, the first one last.
-    left: Vec<usize>,
+    left: Vec<u32>,
     /// Those of them that couldn't be summed up again when that was tried.
-    aside: Vec<usize>,
+    aside: Vec<u32>,
 }
 
 impl Model for Order {
@@ -63,6 +64,7 @@ impl Order {
     }
 
     /// Adds a name.
+    #[inline(always)]
     pub(crate) fn push(&mut self, entry: Entry) -> Result<(), AllocError>
         ensures { OnOk result (self.new ≡ self.old ++ entry ∷ []) }
     {
@@ -73,7 +75,7 @@ impl Order {
     }
 
     /// Takes the last name away, and tells its number.
-    pub(crate) fn pop(&mut self) -> Option<usize>
+    pub(crate) fn pop(&mut self) -> Option<u32>
         ensures some { IfSome result (λ number. (last : Entry) × (self.old ≡ self.new ++ last ∷ []) × (last.number ≡ number)) }
         ensures less { IfSome result (λ number. length self.new < length self.old) }
         ensures none { IfNone result (self.new ≡ []) }
@@ -87,20 +89,27 @@ impl Order {
         Some(number)
     }
 
-    /// How many names were summed up, and aren't any more.
-    pub(crate) fn left(&self) -> usize {
-        self.left.len()
+    /// The names that were summed up, and aren't any more, the first one last.
+    pub(crate) fn left(&self) -> &[u32] {
+        self.left.as_slice()
+    }
+
+    /// Leaves out those of them that aren't needed.
+    pub(crate) fn leave_needed(&mut self, plan: &Plan)
+        ensures { self.new ≡ self.old }
+    {
+        leave_needed(&mut self.left, plan);
     }
 
     /// The number of the next name that was summed up, and isn't any more.
-    pub(crate) fn next(&mut self) -> Option<usize>
+    pub(crate) fn next(&mut self) -> Option<u32>
         ensures { self.new ≡ self.old }
     {
         self.left.pop()
     }
 
     /// Leaves the name with this number for later, which can't be summed up now.
-    pub(crate) fn put_aside(&mut self, number: usize)
+    pub(crate) fn put_aside(&mut self, number: u32)
         ensures { self.new ≡ self.old }
     {
         leave(&mut self.aside, number);
@@ -116,17 +125,45 @@ impl Order {
 
 /// Leaves a name for later. Where memory is wanting for that, it is found again by the texts that it stands in.
 #[inline(always)]
-fn leave(names: &mut Vec<usize>, number: usize) {
+fn leave(names: &mut Vec<u32>, number: u32) {
     if names.push(number).is_err() {
         names.clear();
     }
 }
 
 /// Leaves all of these names for later, the last one as the deepest.
-fn take_back(aside: &mut Vec<usize>, left: &mut Vec<usize>) {
+fn take_back(aside: &mut Vec<u32>, left: &mut Vec<u32>) {
     'name: for _ in 0..aside.len() {
         if let Some(number) = aside.pop() {
             leave(left, number);
         }
+    }
+}
+
+/// Leaves out the names that aren't needed.
+fn leave_needed(names: &mut Vec<u32>, plan: &Plan) {
+    let mut count = 0usize;
+    'name: for at in 0..names.len() {
+        if let Some(number) = needed_at(names.as_slice(), at, plan) {
+            put(names, count, number);
+            count = count.saturating_add(1);
+        }
+    }
+    names.truncate(count);
+}
+
+/// The number at this place, of a name that is needed.
+fn needed_at(names: &[u32], at: usize, plan: &Plan) -> Option<u32> {
+    let number = *names.get(at)?;
+    if plan.is_needed(number) {
+        return Some(number);
+    }
+    None
+}
+
+/// Puts a number at this place.
+fn put(names: &mut Vec<u32>, at: usize, number: u32) {
+    if let Some(there) = names.get_mut(at) {
+        *there = number;
     }
 }

@@ -164,7 +164,7 @@ fn summarize(
 }
 
 /// Sums up the name with this number, if that is possible.
-fn raise(alloc: Global, summary: &mut Summary, number: usize) -> Result<(), Fault>
+fn raise(alloc: Global, summary: &mut Summary, number: u32) -> Result<(), Fault>
     ensures sound { OnOk result ((definitions : replacing.Definitions) → IsSound definitions summary.old → IsSound definitions summary.new) }
     ensures words { summary.new.words.items ≡ summary.old.words.items }
     ensures memory { IfErr result IsMemory }

@@ -12,6 +12,7 @@ ghost use Rattle.hal_lexer.specs.Texts.{IsText};
 
 use crate::comes::{Comes, Given, Parts, comes_of};
 use crate::cut::cut_of;
+use crate::number_list::Numbers;
 use crate::order::{Entry, Order};
 use crate::plan::Plan;
 use crate::token_list::Tokens;
@@ -30,15 +31,15 @@ const FEW: usize = 64;
 pub(crate) enum Cut {
     Undefined,
     Broken,
-    Word(usize),
-    Words(Vec<usize>),
+    Word(u32),
+    Words(Numbers),
 }
 
 /// The words with what they come to, and the names that are summed up, each behind those in its text.
 #[derive(Drop)]
 pub(crate) struct Summary {
     words: Vec<Word>,
-    numbers: IndexMap<Name, usize>,
+    numbers: IndexMap<Name, u32>,
     comes: Vec<Comes>,
     cuts: Vec<Cut>,
     done: Order,
@@ -71,17 +72,17 @@ impl Summary {
     }
 
     /// What the word with this number comes to.
-    pub(crate) fn comes(&self, number: usize) -> Comes
+    pub(crate) fn comes(&self, number: u32) -> Comes
         ensures { given_of (Some result) ≡ given_of (slice_get self.now.comes.items number) }
     {
         known_at(self.comes.as_slice(), number)
     }
 
     /// Whether it is known what the word with this number comes to.
-    fn is_known(&self, number: usize) -> bool
+    fn is_known(&self, number: u32) -> bool
         ensures { result ≡ is_some (given_of (slice_get self.now.comes.items number)) }
     {
-        match self.comes.get(number) {
+        match self.comes.get(number as usize) {
             Some(Comes::Nothing) => true,
             Some(Comes::One(_)) => true,
             _ => false,
@@ -89,7 +90,7 @@ impl Summary {
     }
 
     /// The number of a name that stood in a text or has one.
-    pub(crate) fn find(&self, name: &Name) -> Option<usize>
+    pub(crate) fn find(&self, name: &Name) -> Option<u32>
         ensures { result ≡ found self.now.numbers.entries name.now }
     {
         match self.numbers.get(name) {
@@ -99,7 +100,7 @@ impl Summary {
     }
 
     /// A number for one more word, which comes to this.
-    fn add(&mut self, word: Word, known: Comes) -> Result<usize, AllocError>
+    fn add(&mut self, word: Word, known: Comes) -> Result<u32, AllocError>
         ensures last { IfOk result (λ n. n ≡ length self.old.words.items) }
         ensures words { OnOk result (self.new.words.items ≡ self.old.words.items ++ word ∷ []) }
         ensures comes { OnOk result (self.new.comes.items ≡ self.old.comes.items ++ known ∷ []) }
@@ -107,7 +108,7 @@ impl Summary {
         ensures done { self.new.done ≡ self.old.done }
         ensures numbers { self.new.numbers.entries ≡ self.old.numbers.entries }
     {
-        let number = self.words.len();
+        let number = numbered(self.words.len())?;
         if self.words.push(word).is_err() {
             return Err(AllocError);
         }
@@ -119,7 +120,7 @@ impl Summary {
     }
 
     /// The number of a name, which it gets where it has none.
-    pub(crate) fn number(&mut self, name: Name) -> Result<usize, AllocError>
+    pub(crate) fn number(&mut self, name: Name) -> Result<u32, AllocError>
         ensures named { IfOk result (λ n. (definitions : Definitions) → IsSound definitions self.old → slice_get self.new.words.items n ≡ Some (word.Name name)) }
         ensures sound { OnOk result ((definitions : Definitions) → IsSound definitions self.old → IsSound definitions self.new) }
         ensures keeps { OnOk result (Keeps self.old.words.items self.new.words.items) }
@@ -135,7 +136,7 @@ impl Summary {
     }
 
     /// The number of a word of a text.
-    pub(crate) fn number_of(&mut self, word: Word) -> Result<usize, AllocError>
+    pub(crate) fn number_of(&mut self, word: Word) -> Result<u32, AllocError>
         requires { IsSaid word }
         ensures has { IfOk result (λ n. (definitions : Definitions) → IsSound definitions self.old → slice_get self.new.words.items n ≡ Some word) }
         ensures sound { OnOk result ((definitions : Definitions) → IsSound definitions self.old → IsSound definitions self.new) }
@@ -148,14 +149,14 @@ impl Summary {
     }
 
     /// A number for a word that is no name.
-    fn add_plain(&mut self, word: Word) -> Result<usize, AllocError>
+    fn add_plain(&mut self, word: Word) -> Result<u32, AllocError>
         requires plain { IsPlain word }
         requires said { IsSaid word }
         ensures has { IfOk result (λ n. slice_get self.new.words.items n ≡ Some word) }
         ensures sound { OnOk result ((definitions : Definitions) → IsSound definitions self.old → IsSound definitions self.new) }
         ensures keeps { OnOk result (Keeps self.old.words.items self.new.words.items) }
     {
-        let number = self.words.len();
+        let number = numbered(self.words.len())?;
         self.add(word, Comes::One(Given::Word(number)))?;
         Ok(number)
     }
@@ -179,7 +180,7 @@ impl Summary {
 
     /// Sums up the name with this number no longer, nor those that were summed up behind it.
     #[inline(never)]
-    fn forget(&mut self, number: usize)
+    fn forget(&mut self, number: u32)
         ensures sound { (definitions : Definitions) → IsSound definitions self.old → IsSound definitions self.new }
         ensures forgotten { (given_of (slice_get self.new.comes.items number) ≡ None) ⊎ (self.new.done ≡ []) }
         ensures words { self.new.words.items ≡ self.old.words.items }
@@ -210,38 +211,64 @@ impl Summary {
     }
 
     /// Sums up the name with this number, and before it those that its text needs. Where it isn't known
-    /// afterwards what it comes to, its text breaks a rule, or needs one that does, or itself. Where few
-    /// names are needed they are gone into; else all that were summed up before are tried in their order.
-    pub(crate) fn raise(&mut self, alloc: Global, number: usize) -> Result<(), AllocError>
+    /// afterwards what it comes to, its text breaks a rule, or needs one that does, or itself. Those that were
+    /// summed up before are tried in their order first, and then those that are wanting are gone into.
+    pub(crate) fn raise(&mut self, alloc: Global, number: u32) -> Result<(), AllocError>
         ensures sound { OnOk result ((definitions : Definitions) → IsSound definitions self.old → IsSound definitions self.new) }
         ensures words { self.new.words.items ≡ self.old.words.items }
     {
         if self.is_known(number) {
             return Ok(());
         }
-        let few = self.done.left() / 8;
-        self.raise_within(alloc, number, few)?;
+        self.look_again(number)?;
+        self.raise_again(alloc, number)?;
         self.raise_rest(alloc, number)
     }
 
-    /// Sums up the name with this number, which needs names that aren't few.
-    fn raise_rest(&mut self, alloc: Global, number: usize) -> Result<(), AllocError>
+    /// Looks again which names the one with this number needs, where that is due.
+    fn look_again(&mut self, number: u32) -> Result<(), AllocError>
         ensures sound { OnOk result ((definitions : Definitions) → IsSound definitions self.old → IsSound definitions self.new) }
         ensures words { self.new.words.items ≡ self.old.words.items }
     {
-        self.raise_again(alloc, number)?;
+        if self.plan.is_due(number) {
+            return self.look_through(number);
+        }
+        Ok(())
+    }
+
+    /// Leaves out those names that were summed up, and aren't any more, which the one with this number doesn't need.
+    fn look_through(&mut self, number: u32) -> Result<(), AllocError>
+        ensures sound { OnOk result ((definitions : Definitions) → IsSound definitions self.old → IsSound definitions self.new) }
+        ensures words { self.new.words.items ≡ self.old.words.items }
+    {
+        mark(
+            self.cuts.as_slice(),
+            self.done.left(),
+            number,
+            &mut self.plan,
+        )?;
+        self.done.leave_needed(&self.plan);
+        Ok(())
+    }
+
+    /// Sums up the name with this number, if it isn't, where its text is gone into.
+    fn raise_rest(&mut self, alloc: Global, number: u32) -> Result<(), AllocError>
+        ensures sound { OnOk result ((definitions : Definitions) → IsSound definitions self.old → IsSound definitions self.new) }
+        ensures words { self.new.words.items ≡ self.old.words.items }
+    {
         if self.is_known(number) {
             return Ok(());
         }
-        self.raise_within(alloc, number, usize::MAX)
+        self.plan.renew();
+        self.raise_anew(alloc, number, usize::MAX)
     }
 
     /// Sums up names in the order in which they were, up to the one with this number.
-    fn raise_again(&mut self, alloc: Global, number: usize) -> Result<(), AllocError>
+    fn raise_again(&mut self, alloc: Global, number: u32) -> Result<(), AllocError>
         ensures sound { OnOk result ((definitions : Definitions) → IsSound definitions self.old → IsSound definitions self.new) }
         ensures words { self.new.words.items ≡ self.old.words.items }
     {
-        self.plan.renew(usize::MAX);
+        self.plan.renew();
         self.take_all(alloc, number)?;
         self.done.take_back();
         Ok(())
@@ -249,7 +276,7 @@ impl Summary {
 
     /// Takes names in the order in which they were summed up, up to the one with this number.
     #[inline(never)]
-    fn take_all(&mut self, alloc: Global, number: usize) -> Result<(), AllocError>
+    fn take_all(&mut self, alloc: Global, number: u32) -> Result<(), AllocError>
         ensures sound { OnOk result ((definitions : Definitions) → IsSound definitions self.old → IsSound definitions self.new) }
         ensures words { self.new.words.items ≡ self.old.words.items }
     {
@@ -267,7 +294,7 @@ impl Summary {
 
     /// Sums up the name with this number, which has few parts, and before it those that its text needs now.
     /// Where that isn't possible it is left for later.
-    fn take_again(&mut self, alloc: Global, number: usize) -> Result<(), AllocError>
+    fn take_again(&mut self, alloc: Global, number: u32) -> Result<(), AllocError>
         ensures sound { OnOk result ((definitions : Definitions) → IsSound definitions self.old → IsSound definitions self.new) }
         ensures words { self.new.words.items ≡ self.old.words.items }
     {
@@ -278,12 +305,15 @@ impl Summary {
     }
 
     /// Sums up the name with this number, and before it those that its text needs now. Where that isn't
-    /// possible it is left for later.
+    /// possible it is left for later; one that isn't needed isn't summed up.
     #[inline(never)]
-    fn take_late(&mut self, alloc: Global, number: usize) -> Result<(), AllocError>
+    fn take_late(&mut self, alloc: Global, number: u32) -> Result<(), AllocError>
         ensures sound { OnOk result ((definitions : Definitions) → IsSound definitions self.old → IsSound definitions self.new) }
         ensures words { self.new.words.items ≡ self.old.words.items }
     {
+        if !self.plan.is_needed(number) {
+            return Ok(());
+        }
         self.raise_anew(alloc, number, FEW)?;
         if !self.is_known(number) {
             self.done.put_aside(number);
@@ -291,19 +321,10 @@ impl Summary {
         Ok(())
     }
 
-    /// Sums up the name with this number behind those in its text, where so many names at most are gone into.
-    fn raise_within(&mut self, alloc: Global, number: usize, names: usize) -> Result<(), AllocError>
-        ensures sound { OnOk result ((definitions : Definitions) → IsSound definitions self.old → IsSound definitions self.new) }
-        ensures words { self.new.words.items ≡ self.old.words.items }
-    {
-        self.plan.renew(names);
-        self.raise_anew(alloc, number, usize::MAX)
-    }
-
     /// Sums up the name with this number behind those in its text, which are gone into first. None of them
     /// has many more parts than so many.
     #[inline(never)]
-    fn raise_anew(&mut self, alloc: Global, number: usize, most: usize) -> Result<(), AllocError>
+    fn raise_anew(&mut self, alloc: Global, number: u32, most: usize) -> Result<(), AllocError>
         ensures sound { OnOk result ((definitions : Definitions) → IsSound definitions self.old → IsSound definitions self.new) }
         ensures words { self.new.words.items ≡ self.old.words.items }
     {
@@ -324,8 +345,8 @@ impl Summary {
     fn go_on(
         &mut self,
         alloc: Global,
-        number: usize,
-        from: usize,
+        number: u32,
+        from: u32,
         most: usize,
     ) -> Result<bool, AllocError>
         ensures sound { OnOk result ((definitions : Definitions) → IsSound definitions self.old → IsSound definitions self.new) }
@@ -338,7 +359,7 @@ impl Summary {
     }
 
     /// Goes into a name that stands at this place in the text of another one; false where that needs itself.
-    fn go_into(&mut self, number: usize, at: usize, inner: usize) -> Result<bool, AllocError>
+    fn go_into(&mut self, number: u32, at: u32, inner: u32) -> Result<bool, AllocError>
         ensures sound { (definitions : Definitions) → IsSound definitions self.old → IsSound definitions self.new }
         ensures words { self.new.words.items ≡ self.old.words.items }
     {
@@ -348,8 +369,8 @@ impl Summary {
 
     /// The first word in the text of a name, from this place on, of which it isn't known what it comes to:
     /// its place and its number.
-    fn unknown_from(&self, number: usize, from: usize) -> Option<(usize, usize)> {
-        match self.cuts.get(number) {
+    fn unknown_from(&self, number: u32, from: u32) -> Option<(u32, u32)> {
+        match self.cuts.get(number as usize) {
             Some(Cut::Word(one)) => first_unknown(
                 self.comes.as_slice(),
                 std::slice::from_ref(one),
@@ -357,7 +378,7 @@ impl Summary {
             ),
             Some(Cut::Words(numbers)) => first_unknown(
                 self.comes.as_slice(),
-                numbers.as_slice(),
+                numbers.items.as_slice(),
                 from,
             ),
             _ => None,
@@ -390,13 +411,26 @@ impl Summary {
 
     /// Sums up the name with this number; false where it isn't known of each word in its text what that
     /// comes to, or where there are many more parts than so many, or the name is summed up already.
-    fn sum_up(&mut self, alloc: Global, number: usize, most: usize) -> Result<bool, AllocError>
+    #[inline(always)]
+    fn sum_up(&mut self, alloc: Global, number: u32, most: usize) -> Result<bool, AllocError>
         ensures sound { OnOk result ((definitions : Definitions) → IsSound definitions self.old → IsSound definitions self.new) }
         ensures words { self.new.words.items ≡ self.old.words.items }
     {
         if self.is_known(number) {
             return Ok(false);
         }
+        if let Some(one) = self.only_word(number) {
+            return self.follow(number, one);
+        }
+        self.sum_up_words(alloc, number, most)
+    }
+
+    /// Sums up the name with this number, whose text may have more words than one.
+    #[inline(never)]
+    fn sum_up_words(&mut self, alloc: Global, number: u32, most: usize) -> Result<bool, AllocError>
+        ensures sound { OnOk result ((definitions : Definitions) → IsSound definitions self.old → given_of (slice_get self.old.comes.items number) ≡ None → IsSound definitions self.new) }
+        ensures words { self.new.words.items ≡ self.old.words.items }
+    {
         match self.few(number) {
             Comes::Unknown => self.sum_up_many(alloc, number, most),
             Comes::Nothing => self.keep(number, Parts::Nothing, Comes::Nothing),
@@ -404,12 +438,36 @@ impl Summary {
         }
     }
 
+    /// The number of the word that is the text of the name with this number, where it is one word.
+    fn only_word(&self, number: u32) -> Option<u32>
+        ensures { IfSome result (λ one. slice_get self.now.cuts.items number ≡ Some (cut.Word one)) }
+    {
+        match self.cuts.get(number as usize) {
+            Some(Cut::Word(one)) => Some(*one),
+            _ => None,
+        }
+    }
+
+    /// Sums up the name with this number, whose text is this word; false where it isn't known what that comes to.
+    #[inline(always)]
+    fn follow(&mut self, number: u32, one: u32) -> Result<bool, AllocError>
+        ensures sound { OnOk result ((definitions : Definitions) → IsSound definitions self.old → given_of (slice_get self.old.comes.items number) ≡ None
+            → slice_get self.old.cuts.items number ≡ Some (cut.Word one) → IsSound definitions self.new) }
+        ensures words { self.new.words.items ≡ self.old.words.items }
+    {
+        match known_at(self.comes.as_slice(), one) {
+            Comes::Nothing => self.keep(number, Parts::Nothing, Comes::Nothing),
+            Comes::One(part) => self.keep(number, Parts::One(part), Comes::One(part)),
+            _ => Ok(false),
+        }
+    }
+
     /// What the name with this number comes to, where that is known of each word in its text and there is
     /// at most one part.
-    fn few(&self, number: usize) -> Comes
+    fn few(&self, number: u32) -> Comes
         ensures { (all : List Given) → given_of (Some result) ≡ Some all → IsAmount self.now.comes.items self.now.cuts.items number all }
     {
-        match self.cuts.get(number) {
+        match self.cuts.get(number as usize) {
             Some(cut) => few_at(self.comes.as_slice(), cut, number),
             None => Comes::Unknown,
         }
@@ -417,18 +475,18 @@ impl Summary {
 
     /// Sums up the name with this number, in whose place there may be more parts than one.
     #[inline(never)]
-    fn sum_up_many(&mut self, alloc: Global, number: usize, most: usize) -> Result<bool, AllocError>
+    fn sum_up_many(&mut self, alloc: Global, number: u32, most: usize) -> Result<bool, AllocError>
         ensures sound { OnOk result ((definitions : Definitions) → IsSound definitions self.old → given_of (slice_get self.old.comes.items number) ≡ None → IsSound definitions self.new) }
         ensures words { self.new.words.items ≡ self.old.words.items }
     {
         let mut list = Vec::new(alloc);
-        let Some(cut) = self.cuts.get(number) else {
+        let Some(cut) = self.cuts.get(number as usize) else {
             return Ok(false);
         };
         if !gather(self.comes.as_slice(), cut, number, most, &mut list)? {
             return Ok(false);
         }
-        let count = self.done.len();
+        let count = numbered(self.done.len())?;
         let parts = list.as_slice();
         let known = comes_of(parts, count);
         self.keep(number, Parts::Many(list), known)
@@ -436,7 +494,7 @@ impl Summary {
 
     /// These parts stand in place of the name with this number from now on, which comes to this then.
     #[inline(always)]
-    fn keep(&mut self, number: usize, parts: Parts, known: Comes) -> Result<bool, AllocError>
+    fn keep(&mut self, number: u32, parts: Parts, known: Comes) -> Result<bool, AllocError>
         ensures sound { OnOk result ((definitions : Definitions) → IsSound definitions self.old → given_of (slice_get self.old.comes.items number) ≡ None
             → IsAmount self.old.comes.items self.old.cuts.items number (list_of parts) → Stands known (length self.old.done) (list_of parts) → IsSound definitions self.new) }
         ensures words { self.new.words.items ≡ self.old.words.items }
@@ -447,54 +505,95 @@ impl Summary {
     }
 }
 
+/// The number of the next one behind so many. Memory is wanting where they are too many for numbers of 32 bits.
+fn numbered(count: usize) -> Result<u32, AllocError>
+    ensures { IfOk result (λ number. number ≡ count) }
+{
+    match u32::try_from(count) {
+        Ok(number) => Ok(number),
+        Err(_) => Err(AllocError),
+    }
+}
+
 /// The word with this number comes to this from now on.
 #[tactic(auto, using(crate::proofs::Places::set_past))]
-fn set_comes(comes: &mut Vec<Comes>, number: usize, known: Comes)
+fn set_comes(comes: &mut Vec<Comes>, number: u32, known: Comes)
     ensures { comes.new.items ≡ slice_set comes.old.items number known }
 {
-    if number < comes.len() {
-        comes[number] = known;
+    if (number as usize) < comes.len() {
+        comes[number as usize] = known;
     }
 }
 
 /// This is kept of the text of the name with this number from now on.
 #[tactic(auto, using(crate::proofs::Places::set_past))]
-fn set_cut(cuts: &mut Vec<Cut>, number: usize, cut: Cut)
+fn set_cut(cuts: &mut Vec<Cut>, number: u32, cut: Cut)
     ensures { cuts.new.items ≡ slice_set cuts.old.items number cut }
 {
-    if number < cuts.len() {
-        cuts[number] = cut;
+    if (number as usize) < cuts.len() {
+        cuts[number as usize] = cut;
     }
 }
 
 /// The first of these words, from this place on, of which it isn't known what it comes to.
-fn first_unknown(comes: &[Comes], numbers: &[usize], from: usize) -> Option<(usize, usize)> {
-    'place: for at in from..numbers.len() {
-        let number = *numbers.get(at)?;
-        if matches!(comes.get(number), Some(Comes::Unknown)) {
+fn first_unknown(comes: &[Comes], numbers: &[u32], from: u32) -> Option<(u32, u32)> {
+    'place: for at in from..u32::MAX {
+        let number = *numbers.get(at as usize)?;
+        if matches!(comes.get(number as usize), Some(Comes::Unknown)) {
             return Some((at, number));
         }
     }
     None
 }
 
+/// Marks the name with this number as needed, and of these names those that it needs, where each stands
+/// before those in its text.
+fn mark(cuts: &[Cut], names: &[u32], number: u32, plan: &mut Plan) -> Result<(), AllocError> {
+    plan.look();
+    plan.need(number)?;
+    mark_text(cuts, number, plan)?;
+    'name: for name in names {
+        if *name != number && plan.is_needed(*name) {
+            mark_text(cuts, *name, plan)?;
+        }
+    }
+    Ok(())
+}
+
+/// Marks the words in the text of a name as needed.
+fn mark_text(cuts: &[Cut], name: u32, plan: &mut Plan) -> Result<(), AllocError> {
+    match cuts.get(name as usize) {
+        Some(Cut::Word(one)) => plan.need(*one),
+        Some(Cut::Words(numbers)) => mark_words(numbers.items.as_slice(), plan),
+        _ => Ok(()),
+    }
+}
+
+/// Marks the words with these numbers as needed.
+fn mark_words(numbers: &[u32], plan: &mut Plan) -> Result<(), AllocError> {
+    'word: for number in numbers {
+        plan.need(*number)?;
+    }
+    Ok(())
+}
+
 /// What the name with this number comes to, of whose text this is kept, where that is known of each word
 /// and there is at most one part.
-fn few_at(comes: &[Comes], cut: &Cut, number: usize) -> Comes
+fn few_at(comes: &[Comes], cut: &Cut, number: u32) -> Comes
     ensures { (all : List Given) → given_of (Some result) ≡ Some all → Amounts comes.now cut.now number all }
 {
     match cut {
         Cut::Undefined => Comes::One(Given::Word(number)),
         Cut::Broken => Comes::Unknown,
         Cut::Word(one) => alone(comes, *one, &[]),
-        Cut::Words(numbers) => few_of(comes, numbers.as_slice()),
+        Cut::Words(numbers) => few_of(comes, numbers.items.as_slice()),
     }
 }
 
 /// What the words with these numbers come to, where that is known of each of them and there is at most
 /// one part.
 #[tactic(auto, using(crate::proofs::Summing::nothing_before))]
-fn few_of(comes: &[Comes], numbers: &[usize]) -> Comes
+fn few_of(comes: &[Comes], numbers: &[u32]) -> Comes
     ensures { (all : List Given) → given_of (Some result) ≡ Some all → Gathers comes.now numbers.now all }
 {
     match past_nothing(comes, numbers) {
@@ -505,7 +604,7 @@ fn few_of(comes: &[Comes], numbers: &[usize]) -> Comes
 
 /// What the word with this number comes to, where those behind it come to nothing.
 #[tactic(auto, using(crate::proofs::Summing::alone_gathers))]
-fn alone(comes: &[Comes], one: usize, behind: &[usize]) -> Comes
+fn alone(comes: &[Comes], one: u32, behind: &[u32]) -> Comes
     ensures { (all : List Given) → given_of (Some result) ≡ Some all → Gathers comes.now (one ∷ behind.now) all }
 {
     match past_nothing(comes, behind) {
@@ -515,7 +614,7 @@ fn alone(comes: &[Comes], one: usize, behind: &[usize]) -> Comes
 }
 
 /// These words from the first one on of which it isn't known that it comes to nothing.
-fn past_nothing<'a>(comes: &[Comes], numbers: &'a [usize]) -> &'a [usize]
+fn past_nothing<'a>(comes: &[Comes], numbers: &'a [u32]) -> &'a [u32]
     ensures { (all : List Given) → Gathers comes.now result.now all → Gathers comes.now numbers.now all }
 {
     let mut left = numbers;
@@ -529,10 +628,10 @@ fn past_nothing<'a>(comes: &[Comes], numbers: &'a [usize]) -> &'a [usize]
 }
 
 /// Whether it is known that the word with this number comes to nothing.
-fn is_nothing(comes: &[Comes], number: usize) -> bool
+fn is_nothing(comes: &[Comes], number: u32) -> bool
     ensures { IsTrue result → given_of (slice_get comes.now number) ≡ Some [] }
 {
-    match comes.get(number) {
+    match comes.get(number as usize) {
         Some(Comes::Nothing) => true,
         _ => false,
     }
@@ -543,7 +642,7 @@ fn is_nothing(comes: &[Comes], number: usize) -> bool
 fn gather(
     comes: &[Comes],
     cut: &Cut,
-    number: usize,
+    number: u32,
     most: usize,
     parts: &mut Vec<Given>,
 ) -> Result<bool, AllocError>
@@ -554,7 +653,7 @@ fn gather(
         Cut::Undefined => add(parts, Given::Word(number)),
         Cut::Broken => Ok(false),
         Cut::Word(one) => gather_words(comes, std::slice::from_ref(one), most, parts),
-        Cut::Words(numbers) => gather_words(comes, numbers.as_slice(), most, parts),
+        Cut::Words(numbers) => gather_words(comes, numbers.items.as_slice(), most, parts),
     }
 }
 
@@ -562,7 +661,7 @@ fn gather(
 /// where there are more than so many.
 fn gather_words(
     comes: &[Comes],
-    numbers: &[usize],
+    numbers: &[u32],
     most: usize,
     parts: &mut Vec<Given>,
 ) -> Result<bool, AllocError>
@@ -581,7 +680,7 @@ fn gather_words(
 }
 
 /// Adds the parts that the word with this number comes to; false where that isn't known.
-fn take(comes: &[Comes], number: usize, parts: &mut Vec<Given>) -> Result<bool, AllocError>
+fn take(comes: &[Comes], number: u32, parts: &mut Vec<Given>) -> Result<bool, AllocError>
     ensures { IfOk result (λ known. IsTrue known → (first : List Given) × (given_of (slice_get comes.now number) ≡ Some first) × (parts.new.items ≡ parts.old.items ++ first)) }
 {
     match known_at(comes, number) {
@@ -592,10 +691,10 @@ fn take(comes: &[Comes], number: usize, parts: &mut Vec<Given>) -> Result<bool, 
 }
 
 /// What the word with this number comes to.
-fn known_at(comes: &[Comes], number: usize) -> Comes
+fn known_at(comes: &[Comes], number: u32) -> Comes
     ensures { given_of (Some result) ≡ given_of (slice_get comes.now number) }
 {
-    match comes.get(number) {
+    match comes.get(number as usize) {
         Some(known) => *known,
         None => Comes::Unknown,
     }

@@ -47,7 +47,7 @@ fn write_name(
     words: &[Word],
     entries: &[Entry],
     tokens: &mut Tokens,
-    number: usize,
+    number: u32,
     place: Place,
 ) -> Result<(), Fault>
     requires { IsOrdered (table_of words.now entries.now) }
@@ -99,10 +99,10 @@ fn write_part<'a>(
 }
 
 /// The parts of the name that was summed up as the one with this number.
-fn parts_at(entries: &[Entry], number: usize) -> &[Given]
+fn parts_at(entries: &[Entry], number: u32) -> &[Given]
     ensures { (words : List Word) → map (child_of words) result.now ≡ children_at (table_of words entries.now) number }
 {
-    match entries.get(number) {
+    match entries.get(number as usize) {
         Some(entry) => entry.parts.as_slice(),
         None => &[],
     }
@@ -112,7 +112,7 @@ fn parts_at(entries: &[Entry], number: usize) -> &[Given]
 fn write_word(
     alloc: Global,
     words: &[Word],
-    number: usize,
+    number: u32,
     tokens: &mut Tokens,
     place: Place,
 ) -> Result<(), Fault>
@@ -127,10 +127,10 @@ fn write_word(
 }
 
 /// A copy of the word with this number. There is one; a semicolon stands for none.
-fn copy_at(alloc: Global, words: &[Word], number: usize) -> Result<Word, AllocError>
+fn copy_at(alloc: Global, words: &[Word], number: u32) -> Result<Word, AllocError>
     ensures { IfOk result (λ copy. copy ≡ word_or (slice_get words.now number)) }
 {
-    match words.get(number) {
+    match words.get(number as usize) {
         Some(word) => word.copy(alloc),
         None => Ok(Word::Symbol(Symbol::Semicolon)),
     }

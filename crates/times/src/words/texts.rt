@@ -54,9 +54,15 @@ pub(crate) enum Kind {
     /// A name that stands for as many words as fit, and for one more name, which is defined by other names
     /// and used alone.
     Leaves,
+    /// A chain of names of three and four letters, which are defined in no order and fill half of the bytes.
+    /// Its end is a word and nothing in turn.
+    Shuffled,
+    /// A chain of such names, whose end comes to nothing by two texts in turn, and six times as many names that
+    /// stand for themselves in one text with the end of the chain, which isn't needed where its head is used.
+    Unneeded,
 }
 
-pub(crate) const KINDS: [Kind; 22] = [
+pub(crate) const KINDS: [Kind; 24] = [
     Kind::Ordinary,
     Kind::Comment,
     Kind::Line,
@@ -79,7 +85,61 @@ pub(crate) const KINDS: [Kind; 22] = [
     Kind::Beside,
     Kind::Late,
     Kind::Leaves,
+    Kind::Shuffled,
+    Kind::Unneeded,
 ];
+
+/// What a name of three or four letters ends with, and its first letters.
+const SIGNS: [u8; 36] = *b"ABCDEFGHIJKLMNOPQRSTUVWXYZ0123456789";
+
+/// Adds one of the signs, or none where there is no such one.
+fn add_sign(text: &mut Vec<u8>, number: usize) -> Result<(), AllocError> {
+    match SIGNS.get(number) {
+        Some(sign) => text.extend_from_slice(std::slice::from_ref(sign)),
+        None => Ok(()),
+    }
+}
+
+/// Adds a name of three letters, or four from the 9,360th on: a letter, a digit, which no word of the
+/// language has there, and one or two signs.
+fn add_short(text: &mut Vec<u8>, number: usize) -> Result<(), AllocError> {
+    add_sign(text, number % 26)?;
+    add_sign(text, 26 + number / 26 % 10)?;
+    add_sign(text, number / 260 % 36)?;
+    if number >= 9_360 {
+        add_sign(text, number / 9_360 % 36)?;
+    }
+    Ok(())
+}
+
+/// Adds the definition of a short name as the one before it.
+fn add_link(text: &mut Vec<u8>, from: usize) -> Result<(), AllocError> {
+    text.extend_from_slice(b" REPLACE ")?;
+    add_short(text, from.saturating_add(1))?;
+    text.extend_from_slice(b" BY\"")?;
+    add_short(text, from)?;
+    text.extend_from_slice(b"\";")
+}
+
+/// A chain of short names from Z to H, in no order: the next name is that 7919 places further on, around the end.
+fn add_shuffled(text: &mut Vec<u8>, count: usize) -> Result<(), AllocError> {
+    for number in 0..count {
+        add_link(text, number.saturating_mul(7_919) % count.max(1))?;
+    }
+    text.extend_from_slice(b" REPLACE A0A BY\"Z\"; REPLACE H BY\"")?;
+    add_short(text, count)?;
+    text.extend_from_slice(b"\";\n")
+}
+
+/// A line that defines W as Z and so many short names from this one on, and a use of it.
+fn add_bystanders(text: &mut Vec<u8>, from: usize, count: usize) -> Result<(), AllocError> {
+    text.extend_from_slice(b" REPLACE Z BY\"\"; REPLACE W BY\"Z")?;
+    for number in 0..count {
+        text.extend_from_slice(b" ")?;
+        add_short(text, from.saturating_add(number))?;
+    }
+    text.extend_from_slice(b"\"; W\n")
+}
 
 /// A name that stands for a name, and so on, nine deep.
 const CHAIN: &str =
@@ -259,6 +319,8 @@ impl Kind {
             Kind::Beside => "beside",
             Kind::Late => "late",
             Kind::Leaves => "leaves",
+            Kind::Shuffled => "shuffled",
+            Kind::Unneeded => "unneeded",
         }
     }
 
@@ -345,6 +407,16 @@ impl Kind {
                 repeat: "",
                 end: "",
             },
+            Kind::Shuffled => Parts {
+                begin: "",
+                repeat: " REPLACE Z BY\"\";H\n REPLACE Z BY\"X\";H\n",
+                end: "",
+            },
+            Kind::Unneeded => Parts {
+                begin: "",
+                repeat: " REPLACE Z BY\"\";H\n REPLACE Z BY\" \";H\n",
+                end: "",
+            },
             Kind::Fives => Parts {
                 begin: "",
                 repeat: " REPLACE Z0 BY \"\"; HEAD\n REPLACE Z0 BY \"X\"; HEAD\n REPLACE Z0 BY \"Y\"; HEAD\n REPLACE Z0 BY \"0\"; HEAD\n REPLACE Z0 BY \"1\"; HEAD\n",
@@ -388,6 +460,19 @@ impl Kind {
         }
     }
 
+    /// Adds the definitions of short names that the text begins with.
+    fn add_short_names(self, size: usize, text: &mut Vec<u8>) -> Result<(), AllocError> {
+        match self {
+            Kind::Shuffled => add_shuffled(text, size / 43),
+            Kind::Unneeded => {
+                let count = size / 110;
+                add_bystanders(text, count.saturating_add(1), size / 18)?;
+                add_shuffled(text, count)
+            }
+            _ => Ok(()),
+        }
+    }
+
     /// Adds rounds that say their numbers, up to so many bytes.
     fn add_rounds(self, alloc: Global, size: usize, text: &mut Vec<u8>) -> Result<(), AllocError> {
         for number in 0..size {
@@ -407,6 +492,7 @@ impl Kind {
         text.extend_from_slice(parts.begin.as_bytes())?;
         let definitions = self.definitions(alloc, size)?;
         text.extend_from_slice(definitions.as_bytes())?;
+        self.add_short_names(size, &mut text)?;
         self.add_rounds(alloc, size, &mut text)?;
         let left = size.saturating_sub(text.len());
         for _ in 0..=left / parts.repeat.len().max(1) {

@@ -13,4 +13,4 @@ returns-in-Some-2-clause-cut c = λ definitions sound.
     let same : c.as_slice.result.now ≡ words = search rules in
     let there : (d : Definitions) → IsSound d c.args.summary.now → Numbered c.numbers_of.new.summary.words.items c.as_slice.result.now numbers = rw c.in-Some-2.is at c.in_ok-numbers.ensures.numbers in
     let all : (d : Definitions) → IsSound d c.args.summary.now → Numbered c.numbers_of.new.summary.words.items words numbers = rw same at there in
-    c.cut_from.ensures c.numbers_of.new.summary.words.items c.args.text.now (words, parts, all definitions sound)
+    c.in_ok-cut-in-Some-2.ensures c.numbers_of.new.summary.words.items c.args.text.now (words, parts, all definitions sound)

@@ -13,7 +13,7 @@ pub returns-clause-has : goal.returns-clause-has
 returns-clause-has c =
     let old = c.args.self.now.words.items in
     let more : c.add.new.self.words.items ≡ old ++ c.args.word ∷ [] = search rules in
-    let last : c.len-number.result ≡ length old = search rules in
+    let last : c.in_ok-number.number ≡ length old = search rules in
     rw (more, last) (get_end old c.args.word)
 
 pub returns-clause-keeps : goal.returns-clause-keeps
@@ -27,7 +27,7 @@ returns-clause-sound c = λ definitions sound.
     let self = c.args.self.now in
     let old = self.words.items in
     let one = c.args.word in
-    let n = c.len-number.result in
+    let n = c.in_ok-number.number in
     let last : n ≡ length old = search rules in
     let known = comes.One (given.Word n) in
     let words : c.add.new.self.words.items ≡ old ++ one ∷ [] = search rules in

@@ -1,6 +1,0 @@
-use Rattle.std.proofs.lemmas.Result.{IfOk-weaker}
-use Rattle.hal_lexer.proofs.summary.Summary.raise_rest.Goals as goal
-
-pub returns-clause-sound : goal.returns-clause-sound
-returns-clause-sound c =
-    IfOk-weaker c.raise_within.result _ _ (λ _ next definitions sound. next definitions (c.in_ok-raise_again.ensures.sound definitions sound)) c.raise_within.ensures.sound
