@@ -12,3 +12,5 @@ mod Counting
 mod Tests
 mod Tables
 mod Casing
+mod Counted
+mod Jumped

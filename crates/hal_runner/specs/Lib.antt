@@ -4,5 +4,6 @@ pub mod Replies
 pub mod Ways
 pub mod Runners
 pub mod Quick
+pub mod Turns
 pub mod Prepared
 pub mod Loading

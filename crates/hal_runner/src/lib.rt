@@ -18,6 +18,7 @@ mod reply;
 mod requests;
 mod rooms;
 mod runner;
+mod turning;
 
 pub use cases::Cases;
 pub use loading::{Loaded, cells_of};
