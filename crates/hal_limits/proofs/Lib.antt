@@ -5,3 +5,4 @@ pub mod Chosen
 pub mod Behind
 pub mod Noted
 pub mod Stored
+pub mod Kept

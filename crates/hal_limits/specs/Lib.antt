@@ -5,3 +5,4 @@ pub mod SeenViews
 pub mod Choices
 pub mod Behind
 pub mod Noting
+pub mod Kept

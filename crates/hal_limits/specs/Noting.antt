@@ -1,12 +1,10 @@
 -- The views of phrases, one after another, each of them once.
 use Rattle.std.specs.Prelude.{ℕ, List, [], ◌∷◌, ◌++◌, map, Option, Some, None, slice_get, if◌then◌else◌}
-use Rattle.std.specs.Option.{option_and_then}
 use Rattle.std.specs.List.{list_any}
 use Rattle.hal_grammar.specs.Leaves.{Naming}
 use Rattle.hal_grammar.specs.Expressions.{Subscript, Unsubscripted}
 use Rattle.hal_phrases.specs.Phrases.{Phrase}
 use Rattle.hal_constants.specs.Known.{Known}
-use Rattle.hal_meaning.specs.Bodies.{meant}
 use Rattle.hal_meaning.specs.Places.{is_in_unit}
 use Rattle.hal_views.specs.Views.{View, declares_stored, distinct, same_view, shape_at, view_of, views_at, views_named}
 
@@ -19,13 +17,13 @@ abbrev pub listed : Option View → List View
 listed None = []
 listed (Some v) = v ∷ []
 
--- the view of a phrase that names what another one declares
-abbrev pub views_in : List Phrase → Known → Phrase → List Naming → Subscript → Phrase → List View
-views_in ps vs p path subscript d = if declares_stored ps vs d d.node then view_of ps vs p d.number (shape_at ps vs d d.node) path subscript ∷ [] else []
-
--- the declaration that a name means where a phrase stands
-abbrev pub declaration_of : List Phrase → Phrase → List ℕ → Option Phrase
-declaration_of ps p name = option_and_then (slice_get ps) (meant ps p.around.block name)
+-- the view of a phrase that names what the phrase with this number declares
+abbrev pub views_of_declared : List Phrase → Known → Phrase → List Naming → Subscript → ℕ → List View
+views_of_declared ps vs p path subscript k =
+    elim (slice_get ps k) [
+      | None ↦ []
+      | Some d ↦ if declares_stored ps vs d d.node then view_of ps vs p d.number (shape_at ps vs d d.node) path subscript ∷ [] else []
+    ]
 
 -- the view of a name alone
 abbrev pub views_of_name : List Phrase → Known → Phrase → List ℕ → List View

@@ -7,10 +7,11 @@ ghost use Rattle.hal_constants.specs.SeenKnown.{seen_known};
 ghost use Rattle.hal_storage.specs.elements.SeenComponents.{seen_component, seen_shape};
 ghost use Rattle.hal_views.specs.Views as views;
 ghost use Rattle.hal_limits.specs.Counts.{capped, counted};
+ghost use Rattle.hal_limits.specs.Kept.{AreKept};
 ghost use Rattle.hal_limits.specs.SeenViews.{seen_choice, seen_view};
 
 use crate::components::{size_behind, sole_behind};
-use crate::shapes::shape_at;
+use crate::shapes::{Shapes, shape_at};
 use crate::sizes::capped;
 use crate::view::{Choice, View};
 use crate::views::views_of;
@@ -84,15 +85,19 @@ fn cells_reached(
     alloc: Global,
     names: &Names<'_>,
     known: &Known,
+    shapes: &Shapes,
     view: &View,
 ) -> Result<u32, AllocError>
+    requires kept { AreKept (seen_names names.now) (seen_known known.now) shapes.now }
     ensures { IfOk result (λ count. count ≡ capped (views.cells_reached (seen_names names.now) (seen_known known.now) (seen_view view.now))) }
 {
     let Some(declared) = names.phrase(view.declared) else {
         return Ok(0);
     };
-    let shape = shape_at(alloc, names, known, &declared)?;
-    Ok(cells_in(&shape, view))
+    match shapes.at(view.declared) {
+        Some(shape) => Ok(cells_in(shape, view)),
+        None => Ok(cells_in(&shape_at(alloc, names, known, &declared)?, view)),
+    }
 }
 
 /// How many cells these views reach, each counted by itself.
@@ -101,13 +106,15 @@ fn all_cells_reached(
     alloc: Global,
     names: &Names<'_>,
     known: &Known,
+    shapes: &Shapes,
     list: &[View],
 ) -> Result<u32, AllocError>
+    requires kept { AreKept (seen_names names.now) (seen_known known.now) shapes.now }
     ensures { IfOk result (λ count. count ≡ counted (views.cells_reached (seen_names names.now) (seen_known known.now)) 0 (map seen_view list.now)) }
 {
     let mut count: u32 = 0;
     for view in list {
-        count = count.saturating_add(cells_reached(alloc, names, known, view)?);
+        count = count.saturating_add(cells_reached(alloc, names, known, shapes, view)?);
     }
     Ok(count)
 }
@@ -117,6 +124,7 @@ fn all_cells_reached(
 pub(crate) fn view_cells(alloc: Global, names: &Names<'_>, known: &Known) -> Result<u32, AllocError>
     ensures { IfOk result (λ count. count ≡ capped (views.view_cells (seen_names names.now) (seen_known known.now))) }
 {
-    let list = views_of(alloc, names, known)?;
-    all_cells_reached(alloc, names, known, &list)
+    let shapes = Shapes::of(alloc, names, known)?;
+    let list = views_of(alloc, names, known, &shapes)?;
+    all_cells_reached(alloc, names, known, &shapes, &list)
 }

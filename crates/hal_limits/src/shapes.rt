@@ -1,6 +1,7 @@
 //! The shapes of stored data.
 
 ghost use Rattle.std.specs.Prelude.{◌≡◌, map, IfOk};
+ghost use Rattle.std.specs.Option.{option_map};
 ghost use Rattle.hal_tree.specs.SeenDeclarations.{seen_attribute, seen_declared};
 ghost use Rattle.hal_phrases.specs.Phrases.{OfItem};
 ghost use Rattle.hal_phrases.specs.SeenPhrases.{seen_phrase};
@@ -11,6 +12,7 @@ ghost use Rattle.hal_meaning.specs.Places.{storing};
 ghost use Rattle.hal_storage.specs.elements.SeenComponents.{seen_shape};
 ghost use Rattle.hal_views.specs.Views as views;
 ghost use Rattle.hal_limits.specs.Behind.{one_integer};
+ghost use Rattle.hal_limits.specs.Kept.{AreKept, kept_shape, shape_in};
 
 use hal_constants::{Known, is_value_item};
 use hal_kinds::is_event_type;
@@ -74,7 +76,7 @@ fn stores_item(
 }
 
 /// Whether a phrase declares stored data (language document, Views).
-pub(crate) fn declares_stored(names: &Names<'_>, phrase: &Phrase<'_>) -> bool
+fn declares_stored(names: &Names<'_>, phrase: &Phrase<'_>) -> bool
     ensures { (vs : facts.Known) → result ≡ views.declares_stored (seen_names names.now) vs (seen_phrase phrase.now) (seen_phrase phrase.now).node }
 {
     match phrase.node {
@@ -84,5 +86,50 @@ pub(crate) fn declares_stored(names: &Names<'_>, phrase: &Phrase<'_>) -> bool
             variable: _,
         } => true,
         _ => false,
+    }
+}
+
+/// The shapes of stored data, each made once, by the number of the phrase that declares them.
+#[derive(Drop)]
+pub struct Shapes {
+    list: Vec<Option<Shape>>,
+}
+
+/// The shape of what a phrase declares, where that is stored.
+fn stored_shape(
+    alloc: Global,
+    names: &Names<'_>,
+    known: &Known,
+    phrase: &Phrase<'_>,
+) -> Result<Option<Shape>, AllocError>
+    ensures { IfOk result (λ shape. option_map seen_shape shape ≡ kept_shape (seen_names names.now) (seen_known known.now) (seen_phrase phrase.now)) }
+{
+    if !declares_stored(names, phrase) {
+        return Ok(None);
+    }
+    let shape = shape_at(alloc, names, known, phrase)?;
+    Ok(Some(shape))
+}
+
+impl Shapes {
+    /// The shapes of all stored data of a set.
+    pub(crate) fn of(alloc: Global, names: &Names<'_>, known: &Known) -> Result<Shapes, AllocError>
+        ensures { IfOk result (AreKept (seen_names names.now) (seen_known known.now)) }
+    {
+        let mut list = Vec::new(alloc);
+        for phrase in names.phrases() {
+            list.push(stored_shape(alloc, names, known, phrase)?)?;
+        }
+        Ok(Shapes { list })
+    }
+
+    /// The shape of what the phrase with this number declares, where that is stored.
+    pub(crate) fn at(&self, number: usize) -> Option<&Shape>
+        ensures { option_map (λ shape. seen_shape shape.now) result ≡ shape_in self.now number }
+    {
+        match self.list.get(number) {
+            None => None,
+            Some(shape) => shape.as_ref(),
+        }
     }
 }

@@ -10,13 +10,14 @@ ghost use Rattle.hal_constants.specs.SeenKnown.{seen_known};
 ghost use Rattle.hal_storage.specs.elements.SeenComponents.{seen_component, seen_shape};
 ghost use Rattle.hal_views.specs.Views as views;
 ghost use Rattle.hal_limits.specs.Behind.{sizes_behind};
+ghost use Rattle.hal_limits.specs.Kept.{AreKept};
 ghost use Rattle.hal_limits.specs.Noting as noting;
 ghost use Rattle.hal_limits.specs.SeenViews.{seen_choice, seen_view};
 
 use crate::choices::{copies_chosen, places_chosen};
 use crate::components::sole_behind;
 use crate::equality::is_among;
-use crate::shapes::{declares_stored, shape_at};
+use crate::shapes::Shapes;
 use crate::view::{Choice, View};
 use hal_constants::Known;
 use hal_names::Names;
@@ -91,41 +92,37 @@ fn view_of(
     })
 }
 
-/// The view of a phrase that names what another one declares, where that is stored.
+/// The view of a phrase that names what the phrase with this number declares, where that is stored.
 fn view_in(
     alloc: Global,
     names: &Names<'_>,
     known: &Known,
+    shapes: &Shapes,
     phrase: &Phrase<'_>,
-    declared: &Phrase<'_>,
+    number: usize,
     path: &[Identifier],
     subscript: &Subscript,
 ) -> Result<Option<View>, AllocError>
-    ensures { IfOk result (λ found. noting.listed (option_map seen_view found) ≡ noting.views_in (seen_names names.now) (seen_known known.now) (seen_phrase phrase.now) (map seen_name path.now) (seen_subscript subscript.now) (seen_phrase declared.now)) }
+    requires kept { AreKept (seen_names names.now) (seen_known known.now) shapes.now }
+    ensures { IfOk result (λ found. noting.listed (option_map seen_view found) ≡ noting.views_of_declared (seen_names names.now) (seen_known known.now) (seen_phrase phrase.now) (map seen_name path.now) (seen_subscript subscript.now) number) }
 {
-    if !declares_stored(names, declared) {
+    let Some(declared) = names.phrase(number) else {
         return Ok(None);
-    }
-    let shape = shape_at(alloc, names, known, declared)?;
+    };
+    let Some(shape) = shapes.at(number) else {
+        return Ok(None);
+    };
     let view = view_of(
         alloc,
         names,
         known,
         phrase,
         declared.number,
-        &shape,
+        shape,
         path,
         subscript,
     )?;
     Ok(Some(view))
-}
-
-/// The declaration that a name means where a phrase stands.
-fn declaration_of<'a>(names: &Names<'a>, phrase: &Phrase<'_>, name: &Name) -> Option<Phrase<'a>>
-    ensures { option_map seen_phrase result ≡ noting.declaration_of (seen_names names.now) (seen_phrase phrase.now) name.now }
-{
-    let number = meant(names, phrase.around.block, name)?;
-    names.phrase(number)
 }
 
 /// The view of a name with further names and a subscript, where it means stored data.
@@ -133,16 +130,18 @@ fn view_named(
     alloc: Global,
     names: &Names<'_>,
     known: &Known,
+    shapes: &Shapes,
     phrase: &Phrase<'_>,
     name: &Name,
     path: &[Identifier],
     subscript: &Subscript,
 ) -> Result<Option<View>, AllocError>
+    requires kept { AreKept (seen_names names.now) (seen_known known.now) shapes.now }
     ensures { IfOk result (λ found. noting.listed (option_map seen_view found) ≡ views.views_named (seen_names names.now) (seen_known known.now) (seen_phrase phrase.now) name.now (map seen_name path.now) (seen_subscript subscript.now)) }
 {
-    match declaration_of(names, phrase, name) {
+    match meant(names, phrase.around.block, name) {
         None => Ok(None),
-        Some(declared) => view_in(alloc, names, known, phrase, &declared, path, subscript),
+        Some(number) => view_in(alloc, names, known, shapes, phrase, number, path, subscript),
     }
 }
 
@@ -152,12 +151,23 @@ fn view_of_name(
     alloc: Global,
     names: &Names<'_>,
     known: &Known,
+    shapes: &Shapes,
     phrase: &Phrase<'_>,
     name: &Name,
 ) -> Result<Option<View>, AllocError>
+    requires kept { AreKept (seen_names names.now) (seen_known known.now) shapes.now }
     ensures { IfOk result (λ found. noting.listed (option_map seen_view found) ≡ noting.views_of_name (seen_names names.now) (seen_known known.now) (seen_phrase phrase.now) name.now) }
 {
-    view_named(alloc, names, known, phrase, name, &[], &Subscript::None)
+    view_named(
+        alloc,
+        names,
+        known,
+        shapes,
+        phrase,
+        name,
+        &[],
+        &Subscript::None,
+    )
 }
 
 /// The view of a reference.
@@ -166,15 +176,18 @@ fn view_of_reference(
     alloc: Global,
     names: &Names<'_>,
     known: &Known,
+    shapes: &Shapes,
     phrase: &Phrase<'_>,
     reference: &Reference,
 ) -> Result<Option<View>, AllocError>
+    requires kept { AreKept (seen_names names.now) (seen_known known.now) shapes.now }
     ensures { IfOk result (λ found. noting.listed (option_map seen_view found) ≡ views.views_of_reference (seen_names names.now) (seen_known known.now) (seen_phrase phrase.now) (seen_reference reference.now)) }
 {
     view_named(
         alloc,
         names,
         known,
+        shapes,
         phrase,
         &reference.name,
         &reference.further,
@@ -187,21 +200,25 @@ fn view_at(
     alloc: Global,
     names: &Names<'_>,
     known: &Known,
+    shapes: &Shapes,
     phrase: &Phrase<'_>,
 ) -> Result<Option<View>, AllocError>
+    requires kept { AreKept (seen_names names.now) (seen_known known.now) shapes.now }
     ensures { IfOk result (λ found. noting.listed (option_map seen_view found) ≡ views.views_at (seen_names names.now) (seen_known known.now) (seen_phrase phrase.now) (seen_phrase phrase.now).node) }
 {
     match phrase.node {
         Node::Reference { role: _, reference } => {
-            view_of_reference(alloc, names, known, phrase, reference)
+            view_of_reference(alloc, names, known, shapes, phrase, reference)
         }
-        Node::SubscriptName { name } => view_of_name(alloc, names, known, phrase, &name.name),
+        Node::SubscriptName { name } => view_of_name(
+            alloc, names, known, shapes, phrase, &name.name,
+        ),
         Node::CallForm {
             place: _,
             name,
             arguments: _,
-        } => view_of_name(alloc, names, known, phrase, name),
-        Node::Variable { name } => view_of_name(alloc, names, known, phrase, &name.name),
+        } => view_of_name(alloc, names, known, shapes, phrase, name),
+        Node::Variable { name } => view_of_name(alloc, names, known, shapes, phrase, &name.name),
         _ => Ok(None),
     }
 }
@@ -223,14 +240,16 @@ fn note_phrase(
     found: &mut Vec<View>,
     names: &Names<'_>,
     known: &Known,
+    shapes: &Shapes,
     phrase: &Phrase<'_>,
 ) -> Result<(), AllocError>
+    requires kept { AreKept (seen_names names.now) (seen_known known.now) shapes.now }
     ensures { OnOk result (map seen_view found.new.items ≡ noting.with_phrase (seen_names names.now) (seen_known known.now) (map seen_view found.old.items) (seen_phrase phrase.now)) }
 {
     if !is_in_unit(names, phrase.around.home) {
         return Ok(());
     }
-    match view_at(alloc, names, known, phrase)? {
+    match view_at(alloc, names, known, shapes, phrase)? {
         None => Ok(()),
         Some(view) => note(found, view),
     }
@@ -243,12 +262,14 @@ fn note_phrases(
     found: &mut Vec<View>,
     names: &Names<'_>,
     known: &Known,
+    shapes: &Shapes,
     phrases: &[Phrase<'_>],
 ) -> Result<(), AllocError>
+    requires kept { AreKept (seen_names names.now) (seen_known known.now) shapes.now }
     ensures { OnOk result (map seen_view found.new.items ≡ noting.with_phrases (seen_names names.now) (seen_known known.now) (map seen_view found.old.items) (map seen_phrase phrases.now)) }
 {
     for phrase in phrases {
-        note_phrase(alloc, found, names, known, phrase)?;
+        note_phrase(alloc, found, names, known, shapes, phrase)?;
     }
     Ok(())
 }
@@ -259,10 +280,12 @@ pub(crate) fn views_of(
     alloc: Global,
     names: &Names<'_>,
     known: &Known,
+    shapes: &Shapes,
 ) -> Result<Vec<View>, AllocError>
+    requires kept { AreKept (seen_names names.now) (seen_known known.now) shapes.now }
     ensures { IfOk result (λ list. map seen_view list.items ≡ views.views_of (seen_names names.now) (seen_known known.now)) }
 {
     let mut list = Vec::new(alloc);
-    note_phrases(alloc, &mut list, names, known, names.phrases())?;
+    note_phrases(alloc, &mut list, names, known, shapes, names.phrases())?;
     Ok(list)
 }
