@@ -83,7 +83,7 @@ def named_unit_faults(section, name):
     """Units of this section of docs/LANGUAGE.md that are no row of the file of rows, and rows that it leaves out."""
     table = section.search((ROOT / 'docs/LANGUAGE.md').read_text())[1]
     told = {f'{unit} => {f"rule {rule} {number or 0} {place}" if rule else "right"}' for unit, rule, place, number in NAMED_UNIT.findall(table)}
-    rows = {line for line in (ROOT / 'crates/language_rows/data' / name).read_text().splitlines() if ' => ' in line}
+    rows = {line for line in (ROOT / 'crates/case_rows/data' / name).read_text().splitlines() if ' => ' in line}
     for row in sorted(told ^ rows):
         yield f'{"no row" if row in told else "not told"}: {row}'
 
