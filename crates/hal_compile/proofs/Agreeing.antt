@@ -23,7 +23,8 @@ use Rattle.hal_code.proofs.RightTables.{right_tables}
 use Rattle.hal_agreement.proofs.Agreeing.{files_agree}
 use Rattle.hal_link.proofs.Linked.{image_placed}
 use Rattle.hal_link.specs.CalledViews.{views_of}
-use Rattle.hal_compile.specs.Compiling.{CanRun, Compiles, linked_in, set_in}
+use Rattle.hal_checked.specs.Checking.{linked_in, set_in}
+use Rattle.hal_compile.specs.Compiling.{CanRun, Compiles}
 
 -- the meaning of files and their image agree
 pub agrees : (files : List File) (image : ImageParts) → Compiles files image → Agree (set.load_of (set_in files)) (code.load_of turn_limit image)

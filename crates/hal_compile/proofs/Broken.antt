@@ -21,8 +21,10 @@ use Rattle.hal_calls.specs.Rules.{call_rows}
 use Rattle.hal_calls.specs.Faults.{IsMiscalledBy, IsOfNoProgram}
 use Rattle.hal_limits.specs.Limits.{BreaksLimit, IsBeyondBy, IsWithin}
 use Rattle.hal_code.specs.declared.image.ImageParts.{ImageParts}
-use Rattle.hal_compile.specs.Compiling.{Compiles, ExceedsLimit, FilesBreakBy, IsChecked, IsLawful, IsToldAt, IsToldOfCells, IsUncompiled, Miscalls, Overfills, OversteppedBy}
-use Rattle.hal_compile.specs.Reading.{AreRead, HaveFewWords}
+use Rattle.hal_checked.specs.Checking.{IsChecked, IsLawful}
+use Rattle.hal_compile.specs.Compiling.{Compiles, ExceedsLimit, FilesBreakBy, IsToldAt, IsToldOfCells, IsUncompiled, Miscalls, Overfills, OversteppedBy}
+use Rattle.hal_checked.specs.Reading.{AreRead}
+use Rattle.hal_compile.specs.Reading.{HaveFewWords}
 use Rattle.hal_compile.specs.Texts.{BreakBy, HasMeaning, MakesImage}
 use Rattle.hal_compile.proofs.Meanings.{one_meaning}
 

@@ -1,5 +1,5 @@
 -- An image without a fault is right, and has cells.
-use Rattle.std.proofs.Common.{◌≡◌, ◌↔◌, ◌∙◌, ℕ, Bool, true, false, IsTrue, Option, Some, None, length, refl, sym, if◌then◌else◌}
+use Rattle.std.proofs.Common.{◌≡◌, ◌↔◌, ℕ, Bool, true, false, Option, Some, None, length, refl, if◌then◌else◌}
 use Rattle.hal_code.specs.declared.image.ImageParts.{ImageParts}
 use Rattle.hal_code.specs.Right.{IsRight}
 use Rattle.hal_right_values.specs.Finding.{HaveCells}
@@ -37,13 +37,3 @@ pub without_fault-runs : (image : ImageParts) → image_fault image ≡ None →
 without_fault-runs image none spelled =
     let both = (faultless image).0 none in
     record { right = both.0; cells = both.1; spelled = spelled }
-
-pub runs_spelled : (image : ImageParts) (fault : Option ℕ) (spelled : Bool) → fault ≡ image_fault image → fault ≡ None → IsTrue spelled ↔ IsSpelled image → IsTrue spelled ↔ CanRun image
-runs_spelled image fault spelled is none told = (
-  λ all. without_fault-runs image (sym is ∙ none) (told.0 all),
-  λ runs. told.1 runs.spelled,
-)
-
--- one with a fault can't
-pub runs_not : (image : ImageParts) (fault : Option ℕ) (n : ℕ) → fault ≡ image_fault image → fault ≡ Some n → IsTrue false ↔ CanRun image
-runs_not image fault n is some = ((λ one. absurd (never one)), (λ runs. absurd (something n (sym some ∙ is ∙ runs_without_fault image runs))))

@@ -9,7 +9,8 @@ use Rattle.hal_grammar.specs.Units.{File}
 use Rattle.hal_tree.specs.declared.unit.File as rust-file
 use Rattle.hal_tree.specs.SeenUnits.{seen_file}
 use Rattle.std.proofs.lemmas.List.{drop_more}
-use Rattle.hal_compile.specs.Reading.{AreRead, HaveWords, IsReadIn, TextBreaksBy, TextsBreak, TextsBreakBy, seen_text}
+use Rattle.hal_checked.specs.Reading.{AreRead}
+use Rattle.hal_compile.specs.Reading.{HaveWords, IsReadIn, TextBreaksBy, TextsBreak, TextsBreakBy, seen_text}
 
 -- the next text, and those behind it
 pub next_text : (texts : List (Vec ℕ Global)) (i : ℕ) (text : Vec ℕ Global) → i < length texts → text ≡ get_or texts i text → map seen_text (drop i texts) ≡ seen_text text ∷ map seen_text (drop (i + 1) texts)

@@ -17,7 +17,9 @@ use Rattle.hal_values.specs.Loads.{turn_limit}
 use Rattle.hal_verify.specs.Limits.{spread_kept}
 use Rattle.hal_compile.specs.declared.lacking.Lacking.{Lacking}
 use Rattle.hal_compile.specs.declared.lacking.Lacking.TheVariants as lacking
-use Rattle.hal_compile.specs.Compiling.{CanRun, Fits, IsImageOf, Overfills, Spreads, linked_in, set_in}
+use Rattle.hal_object.specs.Images.{IsSpelled}
+use Rattle.hal_checked.specs.Checking.{IsWhole, LinksWhole, LinksWholeBy, linked_in, set_in}
+use Rattle.hal_compile.specs.Compiling.{CanRun, Fits, IsImageOf, Overfills, Spreads}
 use Rattle.hal_compile.specs.Fitness.{is_narrow}
 use Rattle.hal_compile.proofs.Fitting.{narrow}
 
@@ -33,15 +35,15 @@ missing at = Err (Some at)
 clash : (b : Bool) → b ≡ true → b ≡ false → ⊥
 clash b is not = cc
 
-pub fits : (image : ImageParts) (told : Bool) → IsTrue told ↔ CanRun image → told ≡ true → Fits (Ok image) (Ok image)
-fits image told by is = (refl, by.0 is)
+pub fits : (image : ImageParts) (told : Bool) → IsWhole image → IsTrue told ↔ IsSpelled image → told ≡ true → Fits (Ok image) (Ok image)
+fits image told whole by is = (refl, record { right = whole.right; cells = whole.cells; spelled = by.0 is })
 
 -- one image is found
 one_found : (image other : ImageParts) → found image ≡ found other → image ≡ other
 one_found image other same = cc
 
-pub cannot_run : (image : ImageParts) (told : Bool) → spread_kept image ≡ true → IsTrue told ↔ CanRun image → told ≡ false → Fits (Ok image) (Err (lacking.Code beginning))
-cannot_run image told few by is = inr (refl, (λ at same. there at same), (λ other same runs. clash told (by.1 (runs_as other same runs)) is), λ beyond. within beyond)
+pub cannot_run : (image : ImageParts) (told : Bool) → spread_kept image ≡ true → IsTrue told ↔ IsSpelled image → told ≡ false → Fits (Ok image) (Err (lacking.Code beginning))
+cannot_run image told few by is = inr (refl, (λ at same. there at same), (λ other same runs. clash told (by.1 (runs_as other same runs).spelled) is), λ beyond. within beyond)
   where
     there : (at : Place) → found image ≡ missing at → ⊥
     there at same = cc
@@ -57,8 +59,8 @@ pub spreads : (image : ImageParts) (told : Bool) → told ≡ spread_kept image 
 spreads image told is not = record { image = image; there = refl; exceeded = sym is ∙ not }
 
 -- what linking told
-pub linked_image : (wanted : Result ImageParts (Option Place)) (image : ImageParts) (answer : Result (Result ImageParts Lacking) AllocError) → wanted ≡ Ok image → IfOk answer (Fits (Ok image)) → IfOk answer (Fits wanted)
-linked_image wanted image answer is fit = subst (λ (w : Result ImageParts (Option Place)). IfOk answer (Fits w)) (sym is) fit
+pub linked_image : (wanted : Result ImageParts (Option Place)) (image : ImageParts) (answer : Result ImageParts Lacking) → wanted ≡ Ok image → Fits (Ok image) answer → Fits wanted answer
+linked_image wanted image answer is fit = subst (λ (w : Result ImageParts (Option Place)). Fits w answer) (sym is) fit
 
 pub told_there : (wanted : Result ImageParts (Option Place)) (place : Place) → wanted ≡ Err (Some place) → Fits wanted (Err (lacking.Code place))
 told_there wanted place is = inl is
@@ -76,6 +78,11 @@ told_nowhere wanted is = inr (refl, (λ at also. there at (sym is ∙ also)), (�
 pub linked_set : (files : List File) (s : Set) (answer : Result (Result ImageParts Lacking) AllocError) → s ≡ set_of turn_limit files → IfOk answer (Fits (image_of s (views_of s))) → IfOk answer (Fits (linked_in files))
 unfolding linked_in set_in
 linked_set files s answer is fit = subst (λ (one : Set). IfOk answer (Fits (image_of one (views_of one)))) is fit
+
+-- and where what the files are linked to is whole, so is what their set is linked to
+pub whole_set : (files : List File) (s : Set) → s ≡ set_of turn_limit files → LinksWhole files → LinksWholeBy (image_of s (views_of s))
+unfolding linked_in set_in
+whole_set files s is whole = subst (λ (one : Set). LinksWholeBy (image_of one (views_of one))) (sym is) whole
 
 -- the set of these parts
 abbrev pub the_set : List Phrase → Known → Layout → List Body → ℕ → Set

@@ -7,50 +7,25 @@ use Rattle.hal_base.specs.declared.refusal.Fault.TheVariants as fault
 use Rattle.hal_grammar.specs.Units.{File}
 use Rattle.hal_phrases.specs.Phrases.{Phrase}
 use Rattle.hal_phrases.specs.GatheredUnits.{phrases_of}
-use Rattle.hal_scope.specs.Rules.{Row, IsSound, rows}
+use Rattle.hal_scope.specs.Rules.{Row, rows}
 use Rattle.hal_scope.specs.Rules as scope
 use Rattle.hal_templates.specs.Rules.{template_rows}
 use Rattle.hal_types.specs.Rules.{type_rows}
 use Rattle.hal_locks.specs.Rules.{lock_rows}
-use Rattle.hal_calls.specs.Programs.{has_program}
-use Rattle.hal_calls.specs.Rules.{BreaksCalls, call_rows}
+use Rattle.hal_calls.specs.Rules.{BreaksCalls}
 use Rattle.hal_constants.specs.Known.{known}
-use Rattle.hal_limits.specs.Limits.{IsWithin, BreaksLimit}
+use Rattle.hal_limits.specs.Limits.{BreaksLimit}
 use Rattle.hal_storage.specs.layout.Layouts.{IsNarrow, layout_of}
-use Rattle.hal_values.specs.Loads.{turn_limit}
-use Rattle.hal_meaning.specs.Sets.{Set, beginning, set_of}
+use Rattle.hal_meaning.specs.Sets.{beginning}
 use Rattle.hal_code.specs.declared.image.ImageParts.{ImageParts}
 use Rattle.hal_code.specs.Right.{IsRight}
 use Rattle.hal_right_values.specs.Finding.{HaveCells}
 use Rattle.hal_object.specs.Images.{IsSpelled}
 use Rattle.hal_verify.specs.Limits.{first_fault, spread_kept}
-use Rattle.hal_link.specs.Linking as linking
-use Rattle.hal_link.specs.CalledViews.{views_of}
+use Rattle.hal_checked.specs.Checking.{IsChecked, IsLawful, linked_in}
 use Rattle.hal_compile.specs.declared.lacking.Lacking.{Lacking}
 use Rattle.hal_compile.specs.declared.lacking.Lacking.TheVariants as lacking
 use Rattle.hal_compile.specs.Fitness.{have_cells}
-
--- the set of these files, whose UPDATE blocks have as many turns as they may have
-unfoldable pub set_in : List File → Set
-set_in files = set_of turn_limit files
-
--- no rule of names or types is broken
-pub record IsTyped (ps : List Phrase) : Type 0 where
-  pub named : IsSound rows ps
-  pub typed : IsSound type_rows ps
-
--- nor one of templates or locks
-pub record IsLawful (ps : List Phrase) : Type 0 where
-  pub matched : IsSound template_rows ps
-  pub typed : IsTyped ps
-  pub locked : IsSound lock_rows ps
-
--- nor one of calls or limits
-pub record IsChecked (ps : List Phrase) : Type 0 where
-  pub lawful : IsLawful ps
-  pub program : has_program ps ≡ true
-  pub within : IsWithin ps (known ps)
-  pub called : IsSound call_rows ps
 
 -- the first instruction at fault of an image, or the number of instructions where tables alone are: rows that aren't right, limits that aren't kept, or a view without a cell
 abbrev pub image_fault : ImageParts → Option ℕ
@@ -61,10 +36,6 @@ pub record CanRun (image : ImageParts) : Type 0 where
   pub right : IsRight image
   pub cells : HaveCells image
   pub spelled : IsSpelled image
-
--- what linking the files comes to
-unfoldable pub linked_in : List File → Result ImageParts (Option Place)
-linked_in files = linking.image_of (set_in files) (views_of (set_in files))
 
 -- this is the image of the files; its tables have room, and it can run
 pub record Compiles (files : List File) (image : ImageParts) : Type 0 where

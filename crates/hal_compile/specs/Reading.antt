@@ -10,24 +10,12 @@ use Rattle.hal_words.specs.Words as words
 use Rattle.hal_grammar.specs.Units.{File}
 use Rattle.hal_tree.specs.declared.unit.File as rust-file
 use Rattle.hal_tree.specs.SeenUnits.{seen_file}
-use Rattle.hal_parse.specs.Parsed.{IsFileOf, IsUnread}
+use Rattle.hal_parse.specs.Parsed.{IsUnread}
+use Rattle.hal_checked.specs.Reading.{IsRead}
 
 -- the bytes of a text
 abbrev pub seen_text : Vec ℕ Global → List ℕ
 seen_text text = text.items
-
--- the text of the unit with this number has words, and they are those of the file
-pub record IsRead (number : ℕ) (text : List ℕ) (file : File) : Type 0 where
-  pub tokens : List Token
-  pub cut : words.IsCut number text tokens
-  pub parsed : IsFileOf tokens file
-
--- each text is that of its file; the first unit has this number
-abbrev pub AreRead : ℕ → List (List ℕ) → List File → Type 0
-AreRead number [] [] = Unit {0}
-AreRead number [] (file ∷ files) = ⊥
-AreRead number (text ∷ texts) [] = ⊥
-AreRead number (text ∷ texts) (file ∷ files) = IsRead number text file × AreRead (number + 1) texts files
 
 -- the text of the unit with this number has words, so many of them
 pub record HasWords (number : ℕ) (text : List ℕ) (count : ℕ) : Type 0 where

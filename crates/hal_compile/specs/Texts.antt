@@ -8,8 +8,10 @@ use Rattle.hal_grammar.specs.Units.{File}
 use Rattle.hal_phrases.specs.GatheredUnits.{phrases_of}
 use Rattle.hal_meaning.specs.Sets.{beginning}
 use Rattle.hal_code.specs.declared.image.ImageParts.{ImageParts}
-use Rattle.hal_compile.specs.Compiling.{IsChecked, Compiles, FilesBreak}
-use Rattle.hal_compile.specs.Reading.{AreRead, HaveFewWords, HaveWords, TextsBreak}
+use Rattle.hal_checked.specs.Checking.{IsChecked}
+use Rattle.hal_compile.specs.Compiling.{Compiles, FilesBreak}
+use Rattle.hal_checked.specs.Reading.{AreRead}
+use Rattle.hal_compile.specs.Reading.{HaveFewWords, HaveWords, TextsBreak}
 
 -- the texts are those of these files, have few enough words together, break no rule, and have an image: what a set means is what its files mean
 pub record HasMeaning (texts : List (List ℕ)) (files : List File) : Type 0 where

@@ -9,7 +9,8 @@ ghost use Rattle.hal_constants.specs.Known as facts;
 ghost use Rattle.hal_constants.specs.SeenKnown.{seen_known};
 ghost use Rattle.hal_templates.specs.Faults.{IsMismatchedBy};
 ghost use Rattle.hal_templates.specs.Rules.{template_rows};
-ghost use Rattle.hal_compile.specs.Compiling.{Compiles, FilesBreakBy, IsChecked, IsLawful, IsOfMemory, IsToldAt, IsToldOfCells, OversteppedBy};
+ghost use Rattle.hal_checked.specs.Checking.{IsChecked, IsLawful, LinksWhole};
+ghost use Rattle.hal_compile.specs.Compiling.{Compiles, FilesBreakBy, IsOfMemory, IsToldAt, IsToldOfCells, OversteppedBy};
 
 use crate::lacking::Lacking;
 use crate::linking::{BEGINNING, image_in};
@@ -126,6 +127,7 @@ fn image_checked(
     requires names { seen_names names.now ≡ phrases_of (map seen_file files.now) }
     requires constants { seen_known known.now ≡ facts.known (phrases_of (map seen_file files.now)) }
     requires checked { IsChecked (phrases_of (map seen_file files.now)) }
+    requires whole { LinksWhole (map seen_file files.now) }
     ensures compiled { IfOk result (Compiles (map seen_file files.now)) }
     ensures broken { IfErr result (FilesBreakBy (map seen_file files.now)) }
 {
@@ -140,6 +142,7 @@ fn image_checked(
 /// The image of the set of these files, or a rule that it breaks, at its place; or want of memory.
 #[tactic(auto, using(crate::proofs::Broken::overstepped))]
 pub(crate) fn image_of(alloc: Global, files: &[File]) -> Result<ImageParts, Fault>
+    requires whole { IsChecked (phrases_of (map seen_file files.now)) → LinksWhole (map seen_file files.now) }
     ensures checked { IfOk result (λ image. IsChecked (phrases_of (map seen_file files.now))) }
     ensures compiled { IfOk result (Compiles (map seen_file files.now)) }
     ensures broken { IfErr result (FilesBreakBy (map seen_file files.now)) }

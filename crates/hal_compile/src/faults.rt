@@ -1,12 +1,10 @@
-//! What is wrong with images, and whether they can run.
+//! What is wrong with images.
 
-ghost use Rattle.std.specs.Prelude.{◌≡◌, ◌↔◌, IfOk, IsTrue};
+ghost use Rattle.std.specs.Prelude.{◌≡◌, IfOk};
 ghost use Rattle.hal_compile.specs.Compiling as compiling;
-ghost use Rattle.hal_compile.specs.Compiling.{CanRun};
 
 use crate::fitness::have_cells;
 use hal_code::ImageParts;
-use hal_object::is_spelled;
 use hal_verify::first_fault;
 use std::alloc::{AllocError, Global};
 
@@ -22,15 +20,5 @@ pub fn image_fault(alloc: Global, image: &ImageParts) -> Result<Option<u64>, All
         Ok(None)
     } else {
         Ok(Some(image.code.as_slice().len() as u64))
-    }
-}
-
-/// Whether an image can run.
-pub(crate) fn can_run(alloc: Global, image: &ImageParts) -> Result<bool, AllocError>
-    ensures { IfOk result (λ told. IsTrue told ↔ CanRun image.now) }
-{
-    match image_fault(alloc, image)? {
-        None => Ok(is_spelled(image)),
-        Some(_) => Ok(false),
     }
 }

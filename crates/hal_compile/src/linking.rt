@@ -16,9 +16,9 @@ ghost use Rattle.hal_limits.specs.Limits.{IsWithin};
 ghost use Rattle.hal_link.specs.Linking as links;
 ghost use Rattle.hal_link.specs.CalledViews as views;
 ghost use Rattle.hal_verify.specs.Limits.{spread_kept};
-ghost use Rattle.hal_compile.specs.Compiling.{Fits, IsImageOf, linked_in};
+ghost use Rattle.hal_checked.specs.Checking.{IsWhole, LinksWhole, LinksWholeBy, linked_in};
+ghost use Rattle.hal_compile.specs.Compiling.{Fits, IsImageOf};
 
-use crate::faults::can_run;
 use crate::fitness::is_narrow;
 use crate::lacking::Lacking;
 use hal_base::Place;
@@ -26,6 +26,7 @@ use hal_code::ImageParts;
 use hal_constants::Known;
 use hal_link::{Unlinked, link};
 use hal_names::Names;
+use hal_object::is_spelled;
 use hal_storage::layout::{Layout, layout_of};
 use hal_storage::sets::{Set, bodies_of};
 use hal_tree::File;
@@ -42,28 +43,30 @@ pub(crate) const BEGINNING: Place = Place {
     column: 1,
 };
 
-/// This image, whose shapes and views have few enough cells, where it can run.
+/// This image, which is right and each of whose views has a cell, where it has bytes, so that it can run.
 #[tactic(auto, using(crate::proofs::Running::fits, crate::proofs::Running::cannot_run))]
-fn runnable(alloc: Global, image: ImageParts) -> Result<Result<ImageParts, Lacking>, AllocError>
+fn runnable(image: ImageParts) -> Result<ImageParts, Lacking>
     requires few { spread_kept image ≡ true }
-    ensures { IfOk result (Fits (Ok image)) }
+    requires whole { IsWhole image }
+    ensures { Fits (Ok image) result }
 {
-    if can_run(alloc, &image)? {
-        Ok(Ok(image))
+    if is_spelled(&image) {
+        Ok(image)
     } else {
-        Ok(Err(Lacking::Code(BEGINNING)))
+        Err(Lacking::Code(BEGINNING))
     }
 }
 
 /// This image, where its shapes and views have few enough cells, and it can run.
 #[tactic(auto, using(crate::proofs::Running::spreads))]
-fn fitting(alloc: Global, image: ImageParts) -> Result<Result<ImageParts, Lacking>, AllocError>
-    ensures { IfOk result (Fits (Ok image)) }
+fn fitting(image: ImageParts) -> Result<ImageParts, Lacking>
+    requires whole { spread_kept image ≡ true → IsWhole image }
+    ensures { Fits (Ok image) result }
 {
     if spread_kept(&image) {
-        runnable(alloc, image)
+        runnable(image)
     } else {
-        Ok(Err(Lacking::Room))
+        Err(Lacking::Room)
     }
 }
 
@@ -74,10 +77,11 @@ fn image_of_set(alloc: Global, set: &Set<'_>) -> Result<Result<ImageParts, Lacki
     requires few_events { length (meant.processes_of (seen_set set.now).phrases) + length (events.declared_events (seen_set set.now).phrases) ≤ 65535 }
     requires laid { seen_layout set.now.layout.now ≡ layouts.layout_of (seen_set set.now).phrases (seen_set set.now).constants }
     requires narrow { layouts.IsNarrow (seen_layout set.now.layout.now) }
+    requires whole { LinksWholeBy (links.image_of (seen_set set.now) (views.views_of (seen_set set.now))) }
     ensures { IfOk result (Fits (links.image_of (seen_set set.now) (views.views_of (seen_set set.now)))) }
 {
     match link(alloc, set) {
-        Ok(image) => fitting(alloc, image),
+        Ok(image) => Ok(fitting(image)),
         Err(Unlinked::At(place)) => Ok(Err(Lacking::Code(place))),
         Err(Unlinked::Lost | Unlinked::Wide) => Ok(Err(Lacking::Code(BEGINNING))),
         Err(Unlinked::Memory(error)) => Err(error),
@@ -98,6 +102,7 @@ fn image_laid(
     requires within { IsWithin (phrases_of (map seen_file files.now)) (facts.known (phrases_of (map seen_file files.now))) }
     requires layout { seen_layout layout.now ≡ layouts.layout_of (phrases_of (map seen_file files.now)) (facts.known (phrases_of (map seen_file files.now))) }
     requires narrow { layouts.IsNarrow (seen_layout layout.now) }
+    requires whole { LinksWhole (map seen_file files.now) }
     ensures { IfOk result (Fits (linked_in (map seen_file files.now))) }
 {
     let set = Set {
@@ -122,6 +127,7 @@ pub(crate) fn image_in(
     requires constants { seen_known known.now ≡ facts.known (phrases_of (map seen_file files.now)) }
     requires counted { IsCounted (seen_names names.now) }
     requires within { IsWithin (phrases_of (map seen_file files.now)) (facts.known (phrases_of (map seen_file files.now))) }
+    requires whole { LinksWhole (map seen_file files.now) }
     ensures { IfOk result (IsImageOf (map seen_file files.now)) }
 {
     let layout = layout_of(alloc, names, known)?;

@@ -4,7 +4,8 @@ ghost use Rattle.std.specs.Prelude.{◌≡◌, ◌≤◌, ◌++◌, ◌∷◌, [
 ghost use Rattle.hal_base.specs.declared.limits.TheConstants.{UNIT_LIMIT};
 ghost use Rattle.hal_tree.specs.SeenUnits.{seen_file};
 ghost use Rattle.hal_compile.specs.Compiling.{IsOfMemory};
-ghost use Rattle.hal_compile.specs.Reading.{AreRead, HaveWords, IsReadIn, TextBreaksBy, TextsBreakBy, seen_text};
+ghost use Rattle.hal_checked.specs.Reading.{AreRead};
+ghost use Rattle.hal_compile.specs.Reading.{HaveWords, IsReadIn, TextBreaksBy, TextsBreakBy, seen_text};
 
 use hal_base::Fault;
 use hal_lexer::tokens;

@@ -3,7 +3,8 @@
 ghost use Rattle.std.specs.Prelude.{◌≤◌, IfErr, IfOk, length, map};
 ghost use Rattle.hal_base.specs.declared.limits.TheConstants.{UNIT_LIMIT};
 ghost use Rattle.hal_tree.specs.SeenUnits.{seen_file};
-ghost use Rattle.hal_compile.specs.Reading.{AreRead, HaveFewWords, seen_text};
+ghost use Rattle.hal_checked.specs.Reading.{AreRead};
+ghost use Rattle.hal_compile.specs.Reading.{HaveFewWords, seen_text};
 ghost use Rattle.hal_compile.specs.Texts.{BreakBy, IsOverfull, MakesImage};
 
 use crate::compiling::image_of;
@@ -11,6 +12,7 @@ use crate::linking::BEGINNING;
 use crate::reading::{FilesRead, readings_of};
 use hal_base::{Fault, Refusal, Rule, TOKEN_SUM_LIMIT};
 use hal_code::ImageParts;
+use hal_right_images::images::an_image_of_checked_texts_is_whole;
 use hal_tree::File;
 use std::alloc::Global;
 
@@ -50,6 +52,7 @@ pub fn image_of_texts(alloc: Global, texts: &[Vec<u8>]) -> Result<ImageParts, Fa
     ensures made { IfOk result (MakesImage (map seen_text texts.now)) }
     ensures broken { IfErr result (BreakBy (map seen_text texts.now)) }
 {
+    an_image_of_checked_texts_is_whole();
     let files = files_of(alloc, texts)?;
     image_of(alloc, &files)
 }

@@ -10,7 +10,8 @@ use Rattle.exec_model.specs.declared.event.Event.{Event}
 use Rattle.exec_model.specs.Scripts.{IsScript}
 use Rattle.exec_model.proofs.Agreement.{IsRunTo-agree, IsRunTo-report}
 use Rattle.script_run.specs.Performed.{Performs}
-use Rattle.hal_compile.specs.Compiling.{CanRun, Compiles, set_in}
+use Rattle.hal_checked.specs.Checking.{set_in}
+use Rattle.hal_compile.specs.Compiling.{CanRun, Compiles}
 use Rattle.hal_compile.proofs.Agreeing.{agrees, files_load, image_load}
 use Rattle.hal_top.specs.Performed.{HasReport}
 

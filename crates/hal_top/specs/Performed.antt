@@ -11,7 +11,7 @@ use Rattle.exec_model.specs.declared.script.ScriptLine.{ScriptLine}
 use Rattle.exec_model.specs.declared.event.Event.{Event}
 use Rattle.hal_object.specs.Images.{image_bytes}
 use Rattle.script_run.specs.Performed.{Performs}
-use Rattle.hal_compile.specs.Compiling.{set_in}
+use Rattle.hal_checked.specs.Checking.{set_in}
 use Rattle.hal_top.specs.declared.prepare.Task.{Task}
 use Rattle.hal_top.specs.declared.prepare.Task.TheVariants as task
 

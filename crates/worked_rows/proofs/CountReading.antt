@@ -11,7 +11,7 @@ use Rattle.hal_grammar.specs.SpellsDeclarations.{last, declares, declared, attri
 use Rattle.hal_grammar.specs.SpellsStatements.{labelled, no_labels, assigned, outputs, chosen, looped_while, no_alternative, groups, statements_end, statements_more}
 use Rattle.hal_grammar.specs.SpellsFiles.{SpellsFile, block_alone, block, program_head, statement_first, closed}
 use Rattle.hal_grammar.proofs.Derived.{first_is, equals_no_label, reserved_no_label, sum_of, expression_of, number, named}
-use Rattle.hal_compile.specs.Reading.{AreRead}
+use Rattle.hal_checked.specs.Reading.{AreRead}
 use Rattle.worked_rows.specs.Files.{count_file}
 use Rattle.worked_rows.specs.CountWords.{count_text, count_tokens}
 

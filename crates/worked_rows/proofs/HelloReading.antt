@@ -7,7 +7,7 @@ use Rattle.hal_grammar.specs.SpellsDeclarations.{last, declares, declared, attri
 use Rattle.hal_grammar.specs.SpellsStatements.{labelled, no_labels, assigned, outputs}
 use Rattle.hal_grammar.specs.SpellsFiles.{SpellsFile, block_alone, block, program_head, statement_first, closed}
 use Rattle.hal_grammar.proofs.Derived.{name_not_reserved, equals_no_label, reserved_no_label, sum_of, expression_of, number, named}
-use Rattle.hal_compile.specs.Reading.{AreRead}
+use Rattle.hal_checked.specs.Reading.{AreRead}
 use Rattle.worked_rows.specs.Files.{hello_file}
 use Rattle.worked_rows.specs.HelloWords.{hello_text, hello_tokens}
 

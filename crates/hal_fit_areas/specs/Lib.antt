@@ -1,5 +1,0 @@
-pub mod Blocks
-pub mod Said
-pub mod Sized
-pub mod Reached
-pub mod Left

@@ -1,7 +1,0 @@
-mod Reaching
-mod Supporting
-mod Righting
-mod Barred
-mod Units
-mod Serving
-mod Knowing

@@ -1,0 +1,69 @@
+-- The phrases of a declaration stand in blocks of their unit.
+use Rattle.std.proofs.Common.{Bool, List, [], ◌∷◌, ◌++◌, length, Option, None, Some}
+use Rattle.hal_grammar.specs.Expressions.{Expression}
+use Rattle.hal_grammar.specs.Declarations.{Kind, IntegerKind, BooleanKind, EventKind, BitKind, CharacterKind, StructureKind, Initial, Value, LiteralTimes, NameTimes, ListTimes, Initials, NoInitials, MoreInitials, Attribute, Dimensions, Typed, Marked, LockGroup, LockAny, InitialValues, ConstantValues, Declared, Part, Declaration, Declare, Structure}
+use Rattle.hal_phrases.specs.declared.around.Around.{Around}
+use Rattle.hal_phrases.specs.declared.role.Role.{Role}
+use Rattle.hal_phrases.specs.Phrases.{Phrase, gathered_each}
+use Rattle.hal_phrases.specs.GatheredExpressions.{below}
+use Rattle.hal_phrases.specs.GatheredDeclarations.{OpenPart, still_open, gathered_optional, gathered_kind, gathered_initial, gathered_initials, gathered_attribute, gathered_item, gathered_part, gathered_parts, gathered_declaration}
+use Rattle.hal_right_images.proofs.rows.Homing.{StepIn, no_step, then_, one, each}
+use Rattle.hal_right_images.proofs.rows.HomingExpressions.{expression_step, expressions_step}
+
+pub optional_step : (d : List Phrase) (a : Around) (r : Role) (o : Option Expression) → StepIn a.home a.block d (gathered_optional d a r o)
+optional_step d a r None = no_step a.home a.block d
+optional_step d a r (Some t) = expression_step d a r t
+
+pub kind_step : (d : List Phrase) (a : Around) (k : Kind) → StepIn a.home a.block d (gathered_kind d a k)
+unfolding gathered_kind
+kind_step d a (IntegerKind p) = no_step a.home a.block d
+kind_step d a (BooleanKind p) = no_step a.home a.block d
+kind_step d a (EventKind p) = no_step a.home a.block d
+kind_step d a (BitKind p size) = expression_step d a _ size
+kind_step d a (CharacterKind p size) = expression_step d a _ size
+kind_step d a (StructureKind p template copies) = then_ (one d a _) (optional_step _ a _ copies)
+
+mutual
+  unfolding gathered_initial gathered_initials
+
+  initial_step : (d : List Phrase) (a : Around) (i : Initial) → StepIn a.home a.block d (gathered_initial d a i)
+  initial_step d a (Value value) = then_ (one d a _) (expression_step _ (below d a) _ value)
+  initial_step d a (LiteralTimes p count sign at literal) = one d a _
+  initial_step d a (NameTimes p count sign name) = then_ (one d a _) (one _ (below d a) _)
+  initial_step d a (ListTimes p count values) = then_ (one d a _) (initials_step _ (below d a) values)
+
+  initials_step : (d : List Phrase) (a : Around) (is : Initials) → StepIn a.home a.block d (gathered_initials d a is)
+  initials_step d a NoInitials = no_step a.home a.block d
+  initials_step d a (MoreInitials first others) = then_ (initial_step d a first) (initials_step _ a others)
+
+attribute_step : (a : Around) (d : List Phrase) (x : Attribute) → StepIn a.home a.block d (gathered_attribute a d x)
+unfolding gathered_attribute
+attribute_step a d (Dimensions p sizes) = expressions_step d a _ sizes
+attribute_step a d (Typed kind) = kind_step d a kind
+attribute_step a d (Marked p mark) = no_step a.home a.block d
+attribute_step a d (LockGroup p group) = expression_step d a _ group
+attribute_step a d (LockAny p) = no_step a.home a.block d
+attribute_step a d (InitialValues p values) = initials_step d a values
+attribute_step a d (ConstantValues p values) = initials_step d a values
+
+attributes_step : (a : Around) (d : List Phrase) (xs : List Attribute) → StepIn a.home a.block d (gathered_each (gathered_attribute a) d xs)
+attributes_step a d xs = each a.home a.block (gathered_attribute a) (attribute_step a) d xs
+
+item_step : (a : Around) (common : List Attribute) (d : List Phrase) (item : Declared) → StepIn a.home a.block d (gathered_item a common d item)
+unfolding gathered_item
+item_step a common d item = then_ (one d a _) (attributes_step (below d a) _ item.attributes)
+
+part_step : (a : Around) (bottom : Bool) (d : List Phrase) (part : Part) → StepIn a.home a.block d (gathered_part a bottom d part)
+unfolding gathered_part
+part_step a bottom d part = then_ (one d a _) (attributes_step (below d a) _ part.attributes)
+
+parts_step : (a : Around) (unclosed : List OpenPart) (d : List Phrase) (parts : List Part) → StepIn a.home a.block d (gathered_parts a unclosed d parts)
+unfolding gathered_parts
+parts_step a unclosed d [] = no_step a.home a.block d
+parts_step a unclosed d (x ∷ xs) = then_ (part_step _ _ d x) (parts_step a (still_open x.level unclosed ++ ((x.level, length d) ∷ [])) _ xs)
+
+pub declaration_step : (a : Around) (d : List Phrase) (x : Declaration) → StepIn a.home a.block d (gathered_declaration a d x)
+unfolding gathered_declaration
+declaration_step a d (Declare p common items) =
+    then_ (one d a _) (then_ (attributes_step (below d a) _ common) (each a.home a.block (gathered_item (below d a) common) (item_step (below d a) common) _ items))
+declaration_step a d (Structure p name parts) = then_ (one d a _) (parts_step (below d a) [] _ parts)
