@@ -14,7 +14,7 @@ use crate::programs::has_program;
 use crate::rules::first_fault;
 use hal_base::{Fault, Place, Refusal, Rule};
 use hal_names::Names;
-use hal_reach::recursive_units;
+use hal_reach::Units;
 use std::alloc::{AllocError, Global};
 
 /// Whether a set of files with these names has a PROGRAM; or rule 905, at the beginning of the first unit. See docs/LANGUAGE.md, "Calls".
@@ -39,8 +39,9 @@ pub fn check_program(names: &Names<'_>) -> Result<(), Fault>
 fn found(alloc: Global, names: &Names<'_>) -> Result<Option<(u16, Place)>, AllocError>
     ensures { IfOk result (λ found. found ≡ first_with (seen_names names.now) (recursive (seen_names names.now)) (contended (seen_names names.now)) (seen_names names.now)) }
 {
-    let recursive = recursive_units(alloc, names)?;
-    let contended = contended_units(alloc, names)?;
+    let units = Units::of(alloc, names)?;
+    let recursive = units.recursive(alloc)?;
+    let contended = contended_units(alloc, &units)?;
     Ok(first_fault(names, &recursive, &contended))
 }
 

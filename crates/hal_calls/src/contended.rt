@@ -5,8 +5,7 @@ ghost use Rattle.hal_names.specs.SeenNames.{seen_names};
 ghost use Rattle.hal_reach.specs.SeenUnits.{seen_reached};
 ghost use Rattle.hal_calls.specs.Blocks as blocks;
 
-use hal_names::Names;
-use hal_reach::{Reached, reached_of};
+use hal_reach::{Reached, Units};
 use std::alloc::{AllocError, Global};
 
 /// Those of units with the processes that reach them.
@@ -25,9 +24,9 @@ fn contended_among(alloc: Global, rows: &[Reached]) -> Result<Vec<usize>, AllocE
 
 /// The numbers of those of a set of files, in order.
 #[tactic(auto, using(crate::proofs::Contention::all_contended))]
-pub(crate) fn contended_units(alloc: Global, names: &Names<'_>) -> Result<Vec<usize>, AllocError>
-    ensures { IfOk result (λ units. units.items ≡ blocks.contended (seen_names names.now)) }
+pub(crate) fn contended_units(alloc: Global, units: &Units<'_>) -> Result<Vec<usize>, AllocError>
+    ensures { IfOk result (λ list. list.items ≡ blocks.contended (seen_names units.now.names.now)) }
 {
-    let rows = reached_of(alloc, names)?;
+    let rows = units.reached(alloc)?;
     contended_among(alloc, &rows)
 }

@@ -14,45 +14,51 @@ use Rattle.hal_scope.specs.Faults.{IsBrokenBy}
 use Rattle.hal_templates.specs.Faults.{IsMismatchedBy}
 use Rattle.hal_templates.specs.Rules.{template_rows}
 use Rattle.hal_types.specs.Faults.{IsMistypedBy}
+use Rattle.hal_types.specs.Rules.{type_rows}
 use Rattle.hal_locks.specs.Faults.{IsMislockedBy}
-use Rattle.hal_scope.specs.Rules.{IsSound}
+use Rattle.hal_locks.specs.Rules.{lock_rows}
+use Rattle.hal_scope.specs.Rules.{IsSound, rows}
 use Rattle.hal_calls.specs.Programs.{has_program}
 use Rattle.hal_calls.specs.Rules.{call_rows}
 use Rattle.hal_calls.specs.Faults.{IsMiscalledBy, IsOfNoProgram}
 use Rattle.hal_limits.specs.Limits.{BreaksLimit, IsBeyondBy, IsWithin}
 use Rattle.hal_code.specs.declared.image.ImageParts.{ImageParts}
 use Rattle.hal_checked.specs.Checking.{IsChecked, IsLawful}
-use Rattle.hal_compile.specs.Compiling.{Compiles, ExceedsLimit, FilesBreakBy, IsToldAt, IsToldOfCells, IsUncompiled, Miscalls, Overfills, OversteppedBy}
+use Rattle.hal_compile.specs.Compiling.{Compiles, ExceedsLimit, FilesBreakBy, IsOfMemory, IsToldAt, IsToldOfCells, IsUncompiled, Miscalls, Overfills, OversteppedBy}
 use Rattle.hal_checked.specs.Reading.{AreRead}
 use Rattle.hal_compile.specs.Reading.{HaveFewWords}
 use Rattle.hal_compile.specs.Texts.{BreakBy, HasMeaning, MakesImage}
 use Rattle.hal_compile.proofs.Meanings.{one_meaning}
 
+-- no memory for the names
+pub unnamed : (files : List File) (why : Fault) → IsOfMemory why → FilesBreakBy files why
+unnamed files (fault.Broken refusal) wants = absurd wants
+unnamed files (fault.Memory error) wants = tt
+
 -- a rule of names
-pub wrong_names : (files : List File) (why : Fault) → IsBrokenBy (phrases_of files) why → FilesBreakBy files why
-wrong_names files (fault.Broken refusal) breaks = inl breaks
-wrong_names files (fault.Memory error) breaks = tt
+pub wrong_names : (ps : List Phrase) (files : List File) (why : Fault) → ps ≡ phrases_of files → IsBrokenBy ps why → FilesBreakBy files why
+wrong_names ps files (fault.Broken refusal) same breaks = inl (subst (λ (qs : List Phrase). IsBrokenBy qs (fault.Broken refusal)) same breaks)
+wrong_names ps files (fault.Memory error) same breaks = tt
 
 -- of templates
-pub wrong_templates : (files : List File) (why : Fault) → IsMismatchedBy (phrases_of files) why → FilesBreakBy files why
-wrong_templates files (fault.Broken refusal) breaks = inr (inl breaks)
-wrong_templates files (fault.Memory error) breaks = tt
-
-pub matched : (ps : List Phrase) (files : List File) → ps ≡ phrases_of files → IsSound template_rows ps → IsSound template_rows (phrases_of files)
-matched ps files same sound = subst (λ (qs : List Phrase). IsSound template_rows qs) same sound
-
-pub mismatched : (ps : List Phrase) (files : List File) (why : Fault) → ps ≡ phrases_of files → IsMismatchedBy ps why → IsMismatchedBy (phrases_of files) why
-mismatched ps files why same breaks = subst (λ (qs : List Phrase). IsMismatchedBy qs why) same breaks
+pub wrong_templates : (ps : List Phrase) (files : List File) (why : Fault) → ps ≡ phrases_of files → IsMismatchedBy ps why → FilesBreakBy files why
+wrong_templates ps files (fault.Broken refusal) same breaks = inr (inl (subst (λ (qs : List Phrase). IsMismatchedBy qs (fault.Broken refusal)) same breaks))
+wrong_templates ps files (fault.Memory error) same breaks = tt
 
 -- of types
-pub wrong_types : (files : List File) (why : Fault) → IsMistypedBy (phrases_of files) why → FilesBreakBy files why
-wrong_types files (fault.Broken refusal) breaks = inr (inr (inl breaks))
-wrong_types files (fault.Memory error) breaks = tt
+pub wrong_types : (ps : List Phrase) (files : List File) (why : Fault) → ps ≡ phrases_of files → IsMistypedBy ps why → FilesBreakBy files why
+wrong_types ps files (fault.Broken refusal) same breaks = inr (inr (inl (subst (λ (qs : List Phrase). IsMistypedBy qs (fault.Broken refusal)) same breaks)))
+wrong_types ps files (fault.Memory error) same breaks = tt
 
 -- of locks
-pub wrong_locks : (files : List File) (why : Fault) → IsMislockedBy (phrases_of files) why → FilesBreakBy files why
-wrong_locks files (fault.Broken refusal) breaks = inr (inr (inr (inl breaks)))
-wrong_locks files (fault.Memory error) breaks = tt
+pub wrong_locks : (ps : List Phrase) (files : List File) (why : Fault) → ps ≡ phrases_of files → IsMislockedBy ps why → FilesBreakBy files why
+wrong_locks ps files (fault.Broken refusal) same breaks = inr (inr (inr (inl (subst (λ (qs : List Phrase). IsMislockedBy qs (fault.Broken refusal)) same breaks))))
+wrong_locks ps files (fault.Memory error) same breaks = tt
+
+-- none of these
+pub lawful : (ps : List Phrase) (files : List File) → ps ≡ phrases_of files → IsSound template_rows ps → IsSound rows ps → IsSound type_rows ps → IsSound lock_rows ps → IsLawful (phrases_of files)
+lawful ps files same matched named typed locked =
+    subst (λ (qs : List Phrase). IsLawful qs) same (record { matched = matched; typed = record { named = named; typed = typed }; locked = locked })
 
 -- of limits
 pub beyond_limits : (ps : List Phrase) (vs : Known) (why : Fault) → vs ≡ known ps → IsLawful ps → IsBeyondBy ps vs why → OversteppedBy ps why

@@ -22,7 +22,7 @@ use hal_limits::check_limits;
 use hal_locks::check_locks;
 use hal_names::Names;
 use hal_phrases::phrases_of;
-use hal_scope::resolve;
+use hal_scope::check_names;
 use hal_templates::match_templates;
 use hal_tree::File;
 use hal_types::check_types;
@@ -55,35 +55,30 @@ fn uncompiled(place: Place) -> Fault
 }
 
 /// The names of files, whatever rules they break.
-fn names_of<'a>(alloc: Global, files: &'a [File]) -> Result<Names<'a>, AllocError>
-    ensures { IfOk result (λ names. seen_names names ≡ phrases_of (map seen_file files.now)) }
+fn names_of<'a>(alloc: Global, files: &'a [File]) -> Result<Names<'a>, Fault>
+    ensures names { IfOk result (λ names. seen_names names ≡ phrases_of (map seen_file files.now)) }
+    ensures wanting { IfErr result IsOfMemory }
 {
-    Names::of(alloc, phrases_of(alloc, files)?)
-}
-
-/// Whether files break no rule of templates; or one that they break, at its place; or want of memory.
-#[tactic(auto, using(crate::proofs::Broken::mismatched))]
-fn match_files(alloc: Global, files: &[File]) -> Result<(), Fault>
-    ensures sound { OnOk result (IsSound template_rows (phrases_of (map seen_file files.now))) }
-    ensures broken { IfErr result (IsMismatchedBy (phrases_of (map seen_file files.now))) }
-{
-    let names = match names_of(alloc, files) {
-        Ok(names) => names,
+    let phrases = match phrases_of(alloc, files) {
+        Ok(phrases) => phrases,
         Err(error) => return Err(Fault::Memory(error)),
     };
-    match_templates(alloc, &names)?;
-    Ok(())
+    match Names::of(alloc, phrases) {
+        Ok(names) => Ok(names),
+        Err(error) => Err(Fault::Memory(error)),
+    }
 }
 
 /// The names of files that break no rule of templates, names, types or locks; or a rule of these that they break, at its place; or want of memory.
-#[tactic(auto, using(crate::proofs::Broken::wrong_names, crate::proofs::Broken::wrong_templates, crate::proofs::Broken::wrong_types, crate::proofs::Broken::wrong_locks))]
+#[tactic(auto, using(crate::proofs::Broken::wrong_names, crate::proofs::Broken::wrong_templates, crate::proofs::Broken::wrong_types, crate::proofs::Broken::wrong_locks, crate::proofs::Broken::unnamed, crate::proofs::Broken::lawful))]
 fn lawful_names<'a>(alloc: Global, files: &'a [File]) -> Result<Names<'a>, Fault>
     ensures names { IfOk result (λ names. seen_names names ≡ phrases_of (map seen_file files.now)) }
     ensures lawful { IfOk result (λ names. IsLawful (phrases_of (map seen_file files.now))) }
     ensures broken { IfErr result (FilesBreakBy (map seen_file files.now)) }
 {
-    match_files(alloc, files)?;
-    let names = resolve(alloc, files)?;
+    let names = names_of(alloc, files)?;
+    match_templates(alloc, &names)?;
+    check_names(&names)?;
     check_types(alloc, &names)?;
     check_locks(alloc, &names)?;
     Ok(names)

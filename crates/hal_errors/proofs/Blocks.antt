@@ -1,9 +1,7 @@
 -- Blocks whose entries lie one after another.
 use Rattle.std.specs.Prelude.{◌≡◌, ◌<◌, ◌≤◌, ℕ, suc, List, [], ◌∷◌, ◌++◌, length, take, drop, reverse}
-use Rattle.std.specs.List.{insert}
 use Rattle.std.proofs.Common.{ap, sym, ◌∙◌, refl, arith, length-append, length-drop, length-take-le}
 use Rattle.std.proofs.lemmas.List.{take_all, drop_all, take_at, drop_at, length-reverse, reverse-append}
-use Rattle.std.proofs.lemmas.List.Edits.{insert_end}
 use Rattle.hal_values.specs.declared.environment.Entry.{Entry}
 use Rattle.hal_values.specs.Searching.{entered}
 use Rattle.hal_errors.specs.declared.block.Block.{Block}
@@ -28,17 +26,17 @@ count_seen (b ∷ bs) es runs =
     omega (arith, own, long, lower, runs.0)
 
 -- a block is entered at the end
-pub last_reversed : (bs : List Block) (n : ℕ) (b : Block) → n ≡ length bs → reverse (insert bs n b) ≡ b ∷ reverse bs
-last_reversed bs n b at = ap (λ k. reverse (insert bs k b)) at ∙ ap reverse (insert_end bs b) ∙ reverse-append bs (b ∷ [])
+last_reversed : (bs : List Block) (b : Block) → reverse (bs ++ (b ∷ [])) ≡ b ∷ reverse bs
+last_reversed bs b = reverse-append bs (b ∷ [])
 
-pub entered_seen : (bs : List Block) (n : ℕ) (b : Block) (es : List Entry) → n ≡ length bs → b.first ≡ length es → blocks_seen (reverse (insert bs n b)) es ≡ entered [] b.update ∷ blocks_seen (reverse bs) es
-entered_seen bs n b es at end =
-    ap (λ all. blocks_seen all es) (last_reversed bs n b at)
+pub entered_seen : (bs : List Block) (b : Block) (es : List Entry) → b.first ≡ length es → blocks_seen (reverse (bs ++ (b ∷ []))) es ≡ entered [] b.update ∷ blocks_seen (reverse bs) es
+entered_seen bs b es end =
+    ap (λ all. blocks_seen all es) (last_reversed bs b)
     ∙ ap (λ own. entered own b.update ∷ blocks_seen (reverse bs) (take b.first es)) (drop_all b.first es (omega (arith, end)))
     ∙ ap (λ lower. entered [] b.update ∷ blocks_seen (reverse bs) lower) (take_all b.first es (omega (arith, end)))
 
-pub entered_runs : (bs : List Block) (n : ℕ) (b : Block) (count : ℕ) → n ≡ length bs → b.first ≡ count → AreRuns (reverse bs) count → AreRuns (reverse (insert bs n b)) count
-entered_runs bs n b count at end runs = rw (last_reversed bs n b at) (omega (arith, end), rw end runs)
+pub entered_runs : (bs : List Block) (b : Block) (count : ℕ) → b.first ≡ count → AreRuns (reverse bs) count → AreRuns (reverse (bs ++ (b ∷ []))) count
+entered_runs bs b count end runs = rw (last_reversed bs b) (omega (arith, end), rw end runs)
 
 -- the entries of the latest block begin among those that are there
 pub first_within : (bs : List Block) (count : ℕ) → AreRuns bs count → first_latest bs ≤ count

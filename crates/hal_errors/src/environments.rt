@@ -47,6 +47,7 @@ impl Environments {
 
     /// A block is entered, which has no entries.
     #[tactic(auto, using(crate::proofs::Blocks::length_reversed_seen, crate::proofs::Blocks::entered_seen, crate::proofs::Blocks::entered_runs))]
+    #[inline(always)]
     pub fn enter(&mut self, update: bool)
         requires { length self.old.entered < self.old.blocks }
         ensures { self.new ≡ environment (entered [] update ∷ self.old.entered) self.old.blocks self.old.entries }
@@ -55,16 +56,16 @@ impl Environments {
             first: self.entries.len(),
             update,
         };
-        // The contract of `push` doesn't say that the room stays the same.
-        self.blocks.insert(self.blocks.len(), block).unwrap();
+        self.blocks.push_reserved(block);
     }
 
     /// The latest block is left, with its entries.
+    #[tactic(auto, using(crate::proofs::Blocks::length_reversed_seen))]
     pub fn leave(&mut self)
         requires { 0 < length self.old.entered }
         ensures { self.new ≡ environment (drop 1 self.old.entered) self.old.blocks self.old.entries }
     {
-        let block = self.blocks.pop().unwrap();
+        let block = self.blocks.take_last();
         self.entries.truncate(block.first);
     }
 

@@ -7,7 +7,7 @@ ghost use Rattle.hal_link.specs.Outlines as outlines;
 ghost use Rattle.hal_link.specs.SeenOutlines.{seen_outline, seen_rank};
 
 use crate::ranks::{Rank, ranks_of};
-use hal_reach::{callers_of, is_among, reached_of};
+use hal_reach::{Units, is_among};
 use hal_storage::sets::Set;
 use std::alloc::{AllocError, Global};
 
@@ -130,8 +130,9 @@ pub(crate) fn outlines_of(
     requires units { units.now ≡ processes_of (seen_set set.now).phrases }
     ensures { IfOk result (λ list. map seen_outline list.items ≡ outlines.outlines_of (seen_set set.now)) }
 {
-    let reached = reached_of(alloc, set.names)?;
-    let callers = callers_of(alloc, set.names)?;
+    let all = Units::of(alloc, set.names)?;
+    let reached = all.reached(alloc)?;
+    let callers = all.callers(alloc)?;
     let ranks = ranks_of(alloc, &reached, &callers)?;
     outlines_from(alloc, &ranks, units)
 }

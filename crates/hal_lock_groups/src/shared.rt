@@ -12,7 +12,7 @@ use crate::plain::plain_homes;
 use hal_constants::Known;
 use hal_names::Names;
 use hal_phrases::Phrase;
-use hal_reach::{callee, is_among, reaching_any};
+use hal_reach::{Units, callee, is_among};
 use hal_storage::cells::Storing;
 use std::alloc::{AllocError, Global};
 
@@ -36,7 +36,7 @@ pub(crate) fn shared_of(
 {
     let storings = all_storings(alloc, names, known)?;
     let homes = plain_homes(alloc, names, &storings)?;
-    let plain = reaching_any(alloc, names, &homes)?;
+    let plain = Units::of(alloc, names)?.reaching_any(alloc, &homes)?;
     Ok(Shared { storings, plain })
 }
 

@@ -10,7 +10,7 @@ use crate::updates::{named_in, updating};
 use hal_base::Place;
 use hal_names::Names;
 use hal_phrases::Phrase;
-use hal_reach::{callee, is_among, reaching_any};
+use hal_reach::{Units, callee, is_among};
 use hal_scope::unless;
 use std::alloc::{AllocError, Global};
 
@@ -57,7 +57,7 @@ pub(crate) fn barred_units(alloc: Global, names: &Names<'_>) -> Result<Vec<usize
     ensures { IfOk result (λ units. units.items ≡ callees.barred_units (seen_names names.now)) }
 {
     let homes = barred_homes(alloc, names)?;
-    reaching_any(alloc, names, &homes)
+    Units::of(alloc, names)?.reaching_any(alloc, &homes)
 }
 
 /// Whether a phrase calls one of these units.

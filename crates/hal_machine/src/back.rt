@@ -1,9 +1,10 @@
 //! Where calls go on.
 
-ghost use Rattle.std.specs.Prelude.{◌≡◌, ◌≤◌, map, vec_capacity, IfOk};
+ghost use Rattle.std.specs.Prelude.{◌≡◌, ◌≤◌, [], map, vec_capacity, IfOk};
+ghost use Rattle.std.specs.Bool.{OnTrue};
 ghost use Rattle.hal_code.specs.Controlling.{zero_of};
-ghost use Rattle.hal_machine.specs.Blocks.{Gives};
-ghost use Rattle.hal_machine.specs.Stacks.{return_seen, back_seen};
+ghost use Rattle.hal_machine.specs.Blocks.{Gives, IsPlain};
+ghost use Rattle.hal_machine.specs.Stacks.{stack_seen, return_seen, back_seen};
 
 use crate::operands::Operands;
 use hal_code::{Choice, ResultKind};
@@ -19,7 +20,24 @@ pub struct Return {
 }
 
 impl Return {
+    /// A block that is called with no operands and no line goes on there. It takes no memory.
+    #[inline(always)]
+    pub(crate) fn plain(alloc: Global, at: usize, wanted: Choice<ResultKind>) -> Return
+        ensures place { result.at ≡ at }
+        ensures stack { stack_seen result.operands ≡ [] }
+        ensures line { result.line.items ≡ [] }
+        ensures wanted { result.result ≡ wanted }
+    {
+        Return {
+            at,
+            operands: Operands::new(alloc),
+            line: Vec::new(alloc),
+            result: wanted,
+        }
+    }
+
     /// Whether a value is wanted.
+    #[inline(always)]
     pub(crate) fn wants_value(&self) -> bool
         ensures { Gives result (zero_of self.now.result) }
     {
@@ -30,6 +48,14 @@ impl Return {
             Choice::Known(ResultKind::Text) => true,
             Choice::Other(_) => false,
         }
+    }
+
+    /// Whether there are no operands and no line.
+    #[inline(always)]
+    pub(crate) fn is_plain(&self) -> bool
+        ensures { OnTrue result (IsPlain self.now.at (return_seen self.now)) }
+    {
+        self.operands.is_empty() && self.line.as_slice().is_empty()
     }
 
     /// The same once more.

@@ -28,12 +28,12 @@ impl Model for Blocks {
 }
 
 impl Blocks {
-    ghost use Rattle.std.specs.Prelude.{◌≡◌, ◌<◌, [], ◌∷◌, None, IfOk, IfSome, IfNone};
+    ghost use Rattle.std.specs.Prelude.{◌≡◌, ◌<◌, [], ◌∷◌, true, None, Some, IfOk, IfSome, IfNone};
     ghost use Rattle.std.specs.Bool.{OnTrue, OnFalse};
     ghost use Rattle.hal_values.specs.Searching.{search, with_entry, without};
     ghost use Rattle.hal_code.specs.Cores.{all_entered};
     ghost use Rattle.hal_errors.specs.Found.{found_seen};
-    ghost use Rattle.hal_machine.specs.Blocks.{running, room_for, frame, HasBlock, HasEntry, HasAsMuch, Wants, IsNotUpdating};
+    ghost use Rattle.hal_machine.specs.Blocks.{running, room_for, frame, HasBlock, HasEntry, HasAsMuch, IsBelow, IsLeft, IsPlainly, Wants, IsNotUpdating};
     ghost use Rattle.hal_machine.specs.Stacks.{back_seen};
 
     /// The outermost block runs, and has no entries. There is room for so many blocks, it among them, and for so many entries of them together.
@@ -60,13 +60,13 @@ impl Blocks {
 
     /// A block is entered, behind which the running one goes on so, if it does.
     #[tactic(auto, using(crate::proofs::InStep::same_none, crate::proofs::InStep::entered_count, crate::proofs::InStep::many_in_step, crate::proofs::InStep::many_seen, crate::proofs::InStep::last_seen))]
+    #[inline(always)]
     pub fn enter(&mut self, back: Option<Return>)
         requires { HasBlock self.old }
         ensures { self.new ≡ running [] (frame self.old.entries (back_seen back) ∷ self.old.frames) self.old.room }
     {
         self.environments.enter(back.is_none());
-        // The contract of `push` doesn't say that the room stays the same.
-        self.backs.insert(self.backs.len(), back).unwrap();
+        self.backs.push_reserved(back);
     }
 
     /// The running block is left. It tells how the one below it goes on.
@@ -110,6 +110,30 @@ impl Blocks {
             [.., None] => None,
             [.., Some(back)] => Some(back.wants_value()),
         }
+    }
+
+    /// Where the block below the running one goes on, if it called that for a value and has no operands and no line.
+    #[inline(always)]
+    pub(crate) fn plain_back(&self) -> Option<usize>
+        ensures plain { IfSome result (λ at. IsPlainly at self.now.frames) }
+        ensures wants { IfSome result (λ at. Wants (Some true) self.now.frames) }
+    {
+        match self.backs.as_slice() {
+            [.., Some(back)] if back.wants_value() && back.is_plain() => Some(back.at),
+            _ => None,
+        }
+    }
+
+    /// The running block is left, below which there is one.
+    #[inline(never)]
+    #[tactic(auto, using(crate::proofs::InStep::some_entered, crate::proofs::InStep::left_in_step, crate::proofs::InStep::some_below))]
+    pub(crate) fn leave_there(&mut self)
+        requires { IsBelow self.old.frames }
+        ensures left { IsLeft self.old.frames self.new.entries self.new.frames }
+        ensures room { self.new.room ≡ self.old.room }
+    {
+        self.backs.take_last();
+        self.environments.leave();
     }
 
     /// ON ERROR: the running block has this entry, in the place of one with the same selector.

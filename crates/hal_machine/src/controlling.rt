@@ -1,6 +1,7 @@
 //! Instructions that say where control goes on, calls, and entries for errors.
 
-ghost use Rattle.std.specs.Prelude.{◌≡◌, ◌<◌, ◌-◌, ◌^◌, suc, [], ◌∷◌, true, false, Some, OnOk, if◌then◌else◌};
+ghost use Rattle.std.specs.Prelude.{◌≡◌, ◌<◌, ◌-◌, ◌^◌, suc, drop, [], ◌∷◌, true, false, Some, OnOk, if◌then◌else◌};
+ghost use Rattle.hal_values.specs.declared.value.Value.TheVariants as value;
 ghost use Rattle.hal_values.specs.Answers.{error};
 ghost use Rattle.hal_values.specs.Searching.{with_entry, without};
 ghost use Rattle.hal_code.specs.Controlling.{zero_of, with_result, calling, act_jump_not, act_turn, called, act_return, selector_of, side_of, act_of, act_on, act_off};
@@ -8,7 +9,7 @@ ghost use Rattle.hal_code.specs.Asking.{act_open, act_close};
 ghost use Rattle.hal_code.specs.Cores as cores;
 ghost use Rattle.hal_code.specs.Cores.{going, with_entries, Val, Moves};
 ghost use Rattle.hal_code.specs.Raising.{raised};
-ghost use Rattle.hal_machine.specs.Blocks.{HasBlock, HasEntry, Wants};
+ghost use Rattle.hal_machine.specs.Blocks.{HasBlock, HasEntry, IsPlainly, Wants};
 ghost use Rattle.hal_machine.specs.Seen.{core_seen, stack_seen, setting_seen, step_seen, Does};
 
 use crate::back::Return;
@@ -198,8 +199,9 @@ impl Machine {
         self.asks(setting, Request::Update(groups), Wait::Opens(groups))
     }
 
-    /// The block that runs is put under the one that it calls.
-    fn call_to(&mut self, setting: &Setting<'_>, block: &Block)
+    /// The block that runs, with its operands and its line, is put under the one that it calls.
+    #[inline(never)]
+    fn call_over(&mut self, setting: &Setting<'_>, block: &Block)
         requires at { self.old.at < 2 ^ 64 - 1 }
         requires room { HasBlock self.old.blocks }
         ensures does { core_seen self.new ≡ cores.core block.now.first [] [] [] (calling (zero_of block.now.result) (core_seen self.old) ∷ (core_seen self.old).frames) (core_seen self.old).kept (core_seen self.old).mode }
@@ -217,7 +219,38 @@ impl Machine {
         self.at = block.first as usize;
     }
 
+    /// The block that runs, which has no operands and no line, is put under the one that it calls.
+    #[inline(always)]
+    fn call_plainly(&mut self, setting: &Setting<'_>, block: &Block)
+        requires at { self.old.at < 2 ^ 64 - 1 }
+        requires room { HasBlock self.old.blocks }
+        requires operands { stack_seen self.old.operands ≡ [] }
+        requires line { self.old.line.items ≡ [] }
+        ensures does { core_seen self.new ≡ cores.core block.now.first [] [] [] (calling (zero_of block.now.result) (core_seen self.old) ∷ (core_seen self.old).frames) (core_seen self.old).kept (core_seen self.old).mode }
+        ensures room { self.new.blocks.room ≡ self.old.blocks.room }
+    {
+        let back = Return::plain(setting.alloc, self.at + 1, block.result);
+        self.blocks.enter(Some(back));
+        self.at = block.first as usize;
+    }
+
+    /// The block that runs is put under the one that it calls.
+    #[inline(always)]
+    fn call_to(&mut self, setting: &Setting<'_>, block: &Block)
+        requires at { self.old.at < 2 ^ 64 - 1 }
+        requires room { HasBlock self.old.blocks }
+        ensures does { core_seen self.new ≡ cores.core block.now.first [] [] [] (calling (zero_of block.now.result) (core_seen self.old) ∷ (core_seen self.old).frames) (core_seen self.old).kept (core_seen self.old).mode }
+        ensures room { self.new.blocks.room ≡ self.old.blocks.room }
+    {
+        if self.operands.is_empty() && self.line.as_slice().is_empty() {
+            self.call_plainly(setting, block);
+        } else {
+            self.call_over(setting, block);
+        }
+    }
+
     /// A block isn't called, since turns are used up.
+    #[inline(never)]
     fn call_spent(&mut self, setting: &Setting<'_>, block: &Block) -> Result<Stepped, AllocError>
         requires { self.old.at < 2 ^ 64 - 1 }
         ensures does { Does setting.now.image.now result self.new (raised (setting_seen setting.now) (error 1 8) (going (suc self.old.at) (with_result (zero_of block.now.result) (stack_seen self.old.operands)) (core_seen self.old))) }
@@ -229,6 +262,7 @@ impl Machine {
     }
 
     /// CALL of a block.
+    #[inline(always)]
     pub fn call(&mut self, setting: &Setting<'_>, block: &Block) -> Result<Stepped, AllocError>
         requires at { self.old.at < 2 ^ 64 - 1 }
         requires room { HasBlock self.old.blocks }
@@ -277,15 +311,79 @@ impl Machine {
         }
     }
 
-    /// Control goes back to the block that called, which wants a value.
+    /// Control goes back to a block with no operands and no line, which wants a value, with the integer on top on its stack.
+    #[tactic(auto, using(crate::proofs::Returning::top_plainly, crate::proofs::Returning::plainly_below))]
+    #[inline(never)]
+    pub(crate) fn return_plainly(
+        &mut self,
+        setting: &Setting<'_>,
+        at: usize,
+        number: i32,
+    ) -> Result<Stepped, AllocError>
+        requires top { stack_seen self.old.operands ≡ Val (value.Int number) ∷ drop 1 (stack_seen self.old.operands) }
+        requires plain { IsPlainly at (core_seen self.old).frames }
+        ensures does { Wants (Some true) (core_seen self.old).frames → Does setting.now.image.now result self.new (act_return (core_seen self.old).frames (core_seen self.old)) }
+        ensures room { self.new.blocks.room ≡ self.old.blocks.room }
+    {
+        self.blocks.leave_there();
+        self.operands.only_int(number)?;
+        self.line.clear();
+        self.at = at;
+        Ok(Stepped::Moves)
+    }
+
+    /// Control goes back to the block that called, which wants a value, with the integer on top on its stack.
+    #[tactic(auto, using(crate::proofs::Returning::top_returned, crate::proofs::Returning::none_below, crate::proofs::Returning::update_below))]
+    #[inline(never)]
+    fn return_over(&mut self, setting: &Setting<'_>, number: i32) -> Result<Stepped, AllocError>
+        requires { stack_seen self.old.operands ≡ Val (value.Int number) ∷ drop 1 (stack_seen self.old.operands) }
+        ensures does { Wants (Some true) (core_seen self.old).frames → Does setting.now.image.now result self.new (act_return (core_seen self.old).frames (core_seen self.old)) }
+        ensures room { self.new.blocks.room ≡ self.old.blocks.room }
+    {
+        match self.blocks.leave() {
+            Some(Some(back)) => {
+                let mut back = back;
+                back.operands.push_int(number)?;
+                self.go_back(back);
+                Ok(Stepped::Moves)
+            }
+            Some(None) => Ok(self.stuck(setting)),
+            None => Ok(self.stuck(setting)),
+        }
+    }
+
+    /// The same, as the block that called has it.
+    fn return_integer(&mut self, setting: &Setting<'_>, number: i32) -> Result<Stepped, AllocError>
+        requires { stack_seen self.old.operands ≡ Val (value.Int number) ∷ drop 1 (stack_seen self.old.operands) }
+        ensures does { Wants (Some true) (core_seen self.old).frames → Does setting.now.image.now result self.new (act_return (core_seen self.old).frames (core_seen self.old)) }
+        ensures room { self.new.blocks.room ≡ self.old.blocks.room }
+    {
+        match self.blocks.plain_back() {
+            None => self.return_over(setting, number),
+            Some(at) => self.return_plainly(setting, at, number),
+        }
+    }
+
+    /// The same with any value.
     #[tactic(auto, using(crate::proofs::Returning::no_value_to_return))]
-    fn return_value(&mut self, setting: &Setting<'_>) -> Result<Stepped, AllocError>
+    fn return_any(&mut self, setting: &Setting<'_>) -> Result<Stepped, AllocError>
         ensures does { Wants (Some true) (core_seen self.old).frames → Does setting.now.image.now result self.new (act_return (core_seen self.old).frames (core_seen self.old)) }
         ensures room { self.new.blocks.room ≡ self.old.blocks.room }
     {
         match self.operands.take()? {
             None => Ok(self.stuck(setting)),
             Some(one) => self.return_one(setting, one),
+        }
+    }
+
+    /// Control goes back to the block that called, which wants a value.
+    fn return_value(&mut self, setting: &Setting<'_>) -> Result<Stepped, AllocError>
+        ensures does { Wants (Some true) (core_seen self.old).frames → Does setting.now.image.now result self.new (act_return (core_seen self.old).frames (core_seen self.old)) }
+        ensures room { self.new.blocks.room ≡ self.old.blocks.room }
+    {
+        match self.operands.integer() {
+            None => self.return_any(setting),
+            Some(number) => self.return_integer(setting, number),
         }
     }
 

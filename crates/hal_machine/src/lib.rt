@@ -14,6 +14,7 @@ mod elements;
 mod errors;
 mod integers;
 mod joining;
+mod leaving;
 mod loading;
 mod machine;
 mod operands;

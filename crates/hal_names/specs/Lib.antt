@@ -1,4 +1,5 @@
 pub mod Keys
+pub mod KeyHash
 pub mod Means
 pub mod Index
 pub mod SeenNames

@@ -8,9 +8,7 @@ ghost use Rattle.hal_reach.specs.SeenUnits.{seen_unit};
 
 use crate::marked::numbers_marked;
 use crate::marks::reaching;
-use crate::unit::Unit;
-use crate::units::units_of;
-use hal_names::Names;
+use crate::unit::{Unit, Units};
 use std::alloc::{AllocError, Global};
 use std::slice::from_ref;
 
@@ -27,11 +25,12 @@ fn counts(alloc: Global, units: &[Unit]) -> Result<Vec<usize>, AllocError>
     Ok(counts)
 }
 
-/// How many units reach each unit of a set of files by calls, itself among them, in order (language document, Units).
-#[tactic(auto, using(crate::proofs::Reaching::all_counts))]
-pub fn callers_of(alloc: Global, names: &Names<'_>) -> Result<Vec<usize>, AllocError>
-    ensures { IfOk result (λ counts. counts.items ≡ calls.callers_of (seen_names names.now)) }
-{
-    let units = units_of(alloc, names)?;
-    counts(alloc, &units)
+impl Units<'_> {
+    /// How many units reach each unit of the set by calls, itself among them, in order (language document, Units).
+    #[tactic(auto, using(crate::proofs::Reaching::all_counts))]
+    pub fn callers(&self, alloc: Global) -> Result<Vec<usize>, AllocError>
+        ensures { IfOk result (λ counts. counts.items ≡ calls.callers_of (seen_names self.now.names.now)) }
+    {
+        counts(alloc, &self.list)
+    }
 }

@@ -17,15 +17,11 @@ mod sorts;
 mod unit;
 mod units;
 
-pub use callers::callers_of;
 pub use calls::callee;
-pub use marked::reaching_any;
 pub use meanings::meant;
 pub use numbers::{processes_of, unit_numbers};
 pub use places::{is_among, place_among};
 pub use programs::{is_program, is_program_at};
-pub use reached::reached_of;
-pub use recursive::recursive_units;
 pub use reentrant::{is_reentrant, is_reentrant_at};
 pub use sorts::{is_process, is_unit};
-pub use unit::Reached;
+pub use unit::{Reached, Units};

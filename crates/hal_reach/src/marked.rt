@@ -7,9 +7,7 @@ ghost use Rattle.hal_reach.specs.Marks as marks;
 ghost use Rattle.hal_reach.specs.SeenUnits.{seen_unit};
 
 use crate::marks::reaching;
-use crate::unit::Unit;
-use crate::units::units_of;
-use hal_names::Names;
+use crate::unit::{Unit, Units};
 use std::alloc::{AllocError, Global};
 
 /// The units that are marked.
@@ -37,16 +35,13 @@ pub(crate) fn numbers_marked(
     Ok(found)
 }
 
-/// The numbers of the units that reach one of these blocks by calls, or are one of them, in order (language document, Units).
-#[tactic(auto, using(crate::proofs::Reaching::all_reaching))]
-pub fn reaching_any(
-    alloc: Global,
-    names: &Names<'_>,
-    blocks: &[usize],
-) -> Result<Vec<usize>, AllocError>
-    ensures { IfOk result (λ list. list.items ≡ calls.reaching (seen_names names.now) blocks.now) }
-{
-    let units = units_of(alloc, names)?;
-    let marked = reaching(alloc, &units, blocks)?;
-    numbers_marked(alloc, &units, &marked)
+impl Units<'_> {
+    /// The numbers of the units that reach one of these blocks by calls, or are one of them, in order (language document, Units).
+    #[tactic(auto, using(crate::proofs::Reaching::all_reaching))]
+    pub fn reaching_any(&self, alloc: Global, blocks: &[usize]) -> Result<Vec<usize>, AllocError>
+        ensures { IfOk result (λ list. list.items ≡ calls.reaching (seen_names self.now.names.now) blocks.now) }
+    {
+        let marked = reaching(alloc, &self.list, blocks)?;
+        numbers_marked(alloc, &self.list, &marked)
+    }
 }

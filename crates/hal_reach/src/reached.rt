@@ -7,9 +7,7 @@ ghost use Rattle.hal_reach.specs.Marks as marks;
 ghost use Rattle.hal_reach.specs.SeenUnits.{seen_reached, seen_unit};
 
 use crate::marks::reaching;
-use crate::unit::{Reached, Unit};
-use crate::units::units_of;
-use hal_names::Names;
+use crate::unit::{Reached, Unit, Units};
 use std::alloc::{AllocError, Global};
 use std::slice::from_ref;
 
@@ -55,11 +53,12 @@ fn rows(alloc: Global, units: &[Unit]) -> Result<Vec<Reached>, AllocError>
     Ok(rows)
 }
 
-/// Each unit of a set of files with the processes that reach it, in order (language document, Units).
-#[tactic(auto, using(crate::proofs::Reaching::all_rows))]
-pub fn reached_of(alloc: Global, names: &Names<'_>) -> Result<Vec<Reached>, AllocError>
-    ensures { IfOk result (λ rows. map seen_reached rows.items ≡ calls.reached_of (seen_names names.now)) }
-{
-    let units = units_of(alloc, names)?;
-    rows(alloc, &units)
+impl Units<'_> {
+    /// Each unit of the set with the processes that reach it, in order (language document, Units).
+    #[tactic(auto, using(crate::proofs::Reaching::all_rows))]
+    pub fn reached(&self, alloc: Global) -> Result<Vec<Reached>, AllocError>
+        ensures { IfOk result (λ rows. map seen_reached rows.items ≡ calls.reached_of (seen_names self.now.names.now)) }
+    {
+        rows(alloc, &self.list)
+    }
 }

@@ -7,9 +7,7 @@ ghost use Rattle.hal_reach.specs.Marks as marks;
 ghost use Rattle.hal_reach.specs.SeenUnits.{seen_unit};
 
 use crate::marks::{is_any_marked, reaching};
-use crate::unit::Unit;
-use crate::units::units_of;
-use hal_names::Names;
+use crate::unit::{Unit, Units};
 use std::alloc::{AllocError, Global};
 use std::slice::from_ref;
 
@@ -36,11 +34,12 @@ fn recursive(alloc: Global, units: &[Unit]) -> Result<Vec<usize>, AllocError>
     Ok(found)
 }
 
-/// The numbers of the units of a set of files that reach themselves by one call or more, in order (language document, Calls).
-#[tactic(auto, using(crate::proofs::Recursion::all_recursive))]
-pub fn recursive_units(alloc: Global, names: &Names<'_>) -> Result<Vec<usize>, AllocError>
-    ensures { IfOk result (λ list. list.items ≡ calls.recursive (seen_names names.now)) }
-{
-    let units = units_of(alloc, names)?;
-    recursive(alloc, &units)
+impl Units<'_> {
+    /// The numbers of the units of the set that reach themselves by one call or more, in order (language document, Calls).
+    #[tactic(auto, using(crate::proofs::Recursion::all_recursive))]
+    pub fn recursive(&self, alloc: Global) -> Result<Vec<usize>, AllocError>
+        ensures { IfOk result (λ list. list.items ≡ calls.recursive (seen_names self.now.names.now)) }
+    {
+        recursive(alloc, &self.list)
+    }
 }

@@ -10,7 +10,7 @@ use crate::calls::calls_of;
 use crate::numbers::unit_numbers;
 use crate::places::places_called;
 use crate::sorts::{is_process, is_unit};
-use crate::unit::Unit;
+use crate::unit::{Unit, Units};
 use hal_names::Names;
 use std::alloc::{AllocError, Global};
 
@@ -38,12 +38,15 @@ fn units_with(
     Ok(units)
 }
 
-/// The units of a set, each with those that it calls.
-#[tactic(auto, unfolding(crate::specs::Calls::units_of))]
-pub(crate) fn units_of(alloc: Global, names: &Names<'_>) -> Result<Vec<Unit>, AllocError>
-    ensures { IfOk result (λ units. map seen_unit units.items ≡ called.units_of (seen_names names.now)) }
-{
-    let numbers = unit_numbers(alloc, names)?;
-    let calls = calls_of(alloc, names)?;
-    units_with(alloc, names, &numbers, &calls)
+impl<'a> Units<'a> {
+    /// The units of a set, each with those that it calls (language document, Units).
+    #[tactic(auto, unfolding(crate::specs::Calls::units_of))]
+    pub fn of(alloc: Global, names: &'a Names<'a>) -> Result<Units<'a>, AllocError>
+        ensures { IfOk result (λ units. seen_names units.names.now ≡ seen_names names.now) }
+    {
+        let numbers = unit_numbers(alloc, names)?;
+        let calls = calls_of(alloc, names)?;
+        let list = units_with(alloc, names, &numbers, &calls)?;
+        Ok(Units { names, list })
+    }
 }

@@ -14,3 +14,4 @@ mod Tables
 mod Casing
 mod Counted
 mod Jumped
+mod Passing

@@ -5,5 +5,6 @@ pub mod Ways
 pub mod Runners
 pub mod Quick
 pub mod Turns
+pub mod Calls
 pub mod Prepared
 pub mod Loading

@@ -3,6 +3,7 @@
 
 mod acting;
 mod answering;
+mod calling;
 mod cases;
 mod choosing;
 mod clearing;

@@ -3,7 +3,9 @@ use Rattle.std.proofs.Common.{◌≡◌, ℕ, ◌⊎◌, inl, inr, List, [], ◌
 use Rattle.std.specs.Option.{option_or}
 use Rattle.hal_base.specs.declared.refusal.Place.{Place}
 use Rattle.hal_phrases.specs.Phrases.{Phrase}
-use Rattle.hal_scope.specs.Rules.{Row, IsAmong, Breaks, IsSound, fault, first_fault}
+use Rattle.hal_base.specs.declared.refusal.Fault.{Fault}
+use Rattle.hal_scope.specs.Rules.{Row, IsAmong, Breaks, IsSound, fault, first_fault, rows}
+use Rattle.hal_scope.specs.Faults.{IsBrokenBy}
 
 -- what was found
 abbrev Found : Type 0
@@ -35,8 +37,12 @@ sound table ps none rule place breaks =
     let both : None ≡ Some (rule, place) = sym clear ∙ breaks.broken in
     absurd (cc)
 
-pub sound_of : (table : List Row) (ps qs : List Phrase) → qs ≡ ps → first_fault table qs qs ≡ None → IsSound table ps
-sound_of table ps qs same none = sound table ps (subst (λ (list : List Phrase). first_fault table list list ≡ None) same none)
+-- the same of equal lists of phrases
+pub sound_here : (ps qs : List Phrase) → qs ≡ ps → IsSound rows qs → IsSound rows ps
+sound_here ps qs same sound = subst (λ (list : List Phrase). IsSound rows list) same sound
+
+pub broken_here : (ps qs : List Phrase) (why : Fault) → qs ≡ ps → IsBrokenBy qs why → IsBrokenBy ps why
+broken_here ps qs why same breaks = subst (λ (list : List Phrase). IsBrokenBy list why) same breaks
 
 -- the row of a fault
 record IsRowOf (table : List Row) (ps : List Phrase) (p : Phrase) (f : Found) : Type 0 where

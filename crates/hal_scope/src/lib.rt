@@ -17,7 +17,7 @@ mod uses;
 
 pub use builtin::{Builtin, Form, builtin_named};
 pub use events::{holds_event, is_in_event, limit_of, refers_to_event, sort_at};
-pub use resolving::resolve;
+pub use resolving::{check_names, resolve};
 pub use rules::ruled;
 pub use sort::Sort;
 pub use sorts::{sort_of, type_among, type_of};

@@ -1,6 +1,6 @@
 //! The check of names.
 
-ghost use Rattle.std.specs.Prelude.{◌≡◌, map, IfOk, IfErr};
+ghost use Rattle.std.specs.Prelude.{◌≡◌, map, IfOk, IfErr, OnOk};
 ghost use Rattle.hal_tree.specs.SeenUnits.{seen_file};
 ghost use Rattle.hal_phrases.specs.GatheredUnits.{phrases_of};
 ghost use Rattle.hal_names.specs.SeenNames.{seen_names};
@@ -21,9 +21,25 @@ fn names_of<'a>(alloc: Global, files: &'a [File]) -> Result<Names<'a>, AllocErro
     Names::of(alloc, phrases_of(alloc, files)?)
 }
 
+/// Whether no rule of names is broken by files with these names, 601 to 608; or one that is, at its place.
+/// See docs/LANGUAGE.md, "Names".
+#[tactic(auto, using(crate::proofs::Broken::broken))]
+pub fn check_names(names: &Names<'_>) -> Result<(), Fault>
+    ensures sound { OnOk result (IsSound rows (seen_names names.now)) }
+    ensures broken { IfErr result (IsBrokenBy (seen_names names.now)) }
+{
+    match first_fault(names) {
+        None => Ok(()),
+        Some((rule, place)) => Err(Fault::Broken(Refusal {
+            rule: Rule(rule),
+            place,
+        })),
+    }
+}
+
 /// The names of a set of files where no rule of names is broken, 601 to 608; or one that is, at its place; or
 /// want of memory. See docs/LANGUAGE.md, "Names".
-#[tactic(auto, using(crate::proofs::Broken::sound, crate::proofs::Broken::broken))]
+#[tactic(auto, using(crate::proofs::Broken::broken_here))]
 pub fn resolve<'a>(alloc: Global, files: &'a [File]) -> Result<Names<'a>, Fault>
     ensures names { IfOk result (λ names. seen_names names ≡ phrases_of (map seen_file files.now)) }
     ensures sound { IfOk result (λ names. IsSound rows (phrases_of (map seen_file files.now))) }
@@ -33,11 +49,8 @@ pub fn resolve<'a>(alloc: Global, files: &'a [File]) -> Result<Names<'a>, Fault>
         Ok(names) => names,
         Err(error) => return Err(Fault::Memory(error)),
     };
-    match first_fault(&names) {
-        None => Ok(names),
-        Some((rule, place)) => Err(Fault::Broken(Refusal {
-            rule: Rule(rule),
-            place,
-        })),
+    match check_names(&names) {
+        Ok(()) => Ok(names),
+        Err(fault) => Err(fault),
     }
 }

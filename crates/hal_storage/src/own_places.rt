@@ -7,6 +7,6 @@ mod places;
 mod sole;
 
 pub use groups::PlacedGroups;
-pub use owning::own_places;
+pub(crate) use owning::own_places;
 pub use place::{OwnPlaces, Place};
 pub use sole::is_sole;

@@ -8,4 +8,5 @@ mod places;
 mod rows;
 mod showing;
 
-pub use names::report_names;
+pub(crate) use lookups::lookups_of;
+pub(crate) use names::report_names;

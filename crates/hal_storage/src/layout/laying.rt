@@ -16,9 +16,8 @@ use crate::cells::cells_of;
 use crate::event_expressions::{Stated, stated_of};
 use crate::events::{declared_events, event_starts};
 use crate::layout::layout::Layout;
-use crate::own_places::own_places;
 use crate::processes::{first_of, process_names};
-use crate::report_names::report_names;
+use crate::report_names::{lookups_of, report_names};
 use hal_constants::Known;
 use hal_names::Names;
 use hal_reach::processes_of;
@@ -43,13 +42,15 @@ pub fn layout_of(alloc: Global, names: &Names<'_>, known: &Known) -> Result<Layo
     requires few_events { length (bodies.processes_of (seen_names names.now)) + length (meant.declared_events (seen_names names.now)) ≤ 65535 }
     ensures { IfOk result (λ layout. seen_layout layout ≡ layouts.layout_of (seen_names names.now) (seen_known known.now)) }
 {
+    let lookups = lookups_of(alloc, names, known)?;
+    let shown = report_names(alloc, names, known, &lookups)?;
     Ok(Layout {
         cells: cells_of(alloc, names, known)?,
-        own: own_places(alloc, names, known)?,
+        own: lookups.own,
         processes: process_names(alloc, names)?,
         first: first_of(alloc, names)?,
         events: event_starts(alloc, names, known)?,
         expressions: expressions_of(alloc, names)?,
-        names: report_names(alloc, names, known)?,
+        names: shown,
     })
 }

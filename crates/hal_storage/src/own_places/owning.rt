@@ -3,6 +3,8 @@
 ghost use Rattle.std.specs.Prelude.{◌≡◌, map, IfOk};
 ghost use Rattle.hal_names.specs.SeenNames.{seen_names};
 ghost use Rattle.hal_constants.specs.SeenKnown.{seen_known};
+ghost use Rattle.hal_meaning.specs.Bodies.{processes_of};
+ghost use Rattle.hal_reach.specs.Calls.{reached_of};
 ghost use Rattle.hal_reach.specs.SeenUnits.{seen_reached};
 ghost use Rattle.hal_storage.specs.own_places.Owned as owned;
 ghost use Rattle.hal_storage.specs.own_places.PlacedGroups as placed;
@@ -14,7 +16,7 @@ use crate::own_places::places::push_block;
 use crate::own_places::sole::{are_several, is_sole};
 use hal_constants::Known;
 use hal_names::Names;
-use hal_reach::{Reached, processes_of, reached_of};
+use hal_reach::Reached;
 use std::alloc::{AllocError, Global};
 
 /// The common places, by the units and the processes that reach each of them.
@@ -80,16 +82,23 @@ fn all_sole_places(
     Ok(lists)
 }
 
-/// The own places of the processes of a set of files, in order (language document, Places).
+/// The own places of the processes of a set of files, in order, by the units with the processes that reach them, and the processes (language document,
+/// Places).
 #[tactic(auto, using(crate::proofs::own_places::Owned::common_seen, crate::proofs::own_places::Owned::sole_seen))]
-pub fn own_places(alloc: Global, names: &Names<'_>, known: &Known) -> Result<OwnPlaces, AllocError>
+pub(crate) fn own_places(
+    alloc: Global,
+    names: &Names<'_>,
+    known: &Known,
+    units: &[Reached],
+    all: &[usize],
+) -> Result<OwnPlaces, AllocError>
+    requires units { map seen_reached units.now ≡ reached_of (seen_names names.now) }
+    requires all { all.now ≡ processes_of (seen_names names.now) }
     ensures { IfOk result (λ own. seen_own own ≡ owned.own_places (seen_names names.now) (seen_known known.now)) }
 {
-    let units = reached_of(alloc, names)?;
-    let all = processes_of(alloc, names)?;
     let groups = PlacedGroups::of(alloc, names)?;
     Ok(OwnPlaces {
-        common: common_places(alloc, names, known, &groups, &units)?,
-        processes: all_sole_places(alloc, names, known, &groups, &units, &all)?,
+        common: common_places(alloc, names, known, &groups, units)?,
+        processes: all_sole_places(alloc, names, known, &groups, units, all)?,
     })
 }

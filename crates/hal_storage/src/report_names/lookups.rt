@@ -10,7 +10,7 @@ use crate::events::declared_events;
 use crate::own_places::{OwnPlaces, own_places};
 use hal_constants::Known;
 use hal_names::Names;
-use hal_reach::{Reached, processes_of, reached_of};
+use hal_reach::{Reached, Units, processes_of};
 use std::alloc::{AllocError, Global};
 
 /// What rows are looked up in, made once for a set of files.
@@ -34,10 +34,14 @@ pub(crate) fn lookups_of(
 ) -> Result<Lookups, AllocError>
     ensures { IfOk result (λ lookups. seen_lookups lookups ≡ rows.lookups_of (seen_names names.now) (seen_known known.now)) }
 {
+    let units = Units::of(alloc, names)?.reached(alloc)?;
+    let processes = processes_of(alloc, names)?;
+    let events = declared_events(alloc, names)?;
+    let own = own_places(alloc, names, known, &units, &processes)?;
     Ok(Lookups {
-        units: reached_of(alloc, names)?,
-        processes: processes_of(alloc, names)?,
-        events: declared_events(alloc, names)?,
-        own: own_places(alloc, names, known)?,
+        units,
+        processes,
+        events,
+        own,
     })
 }

@@ -10,11 +10,12 @@ ghost use Rattle.hal_meaning.specs.Events as events;
 ghost use Rattle.hal_meaning.specs.Places as places;
 ghost use Rattle.hal_meaning.specs.ReportNames as reports;
 ghost use Rattle.hal_storage.specs.report_names.Rooms as rooms;
+ghost use Rattle.hal_storage.specs.report_names.Rows as rows;
 ghost use Rattle.hal_storage.specs.report_names.SeenLookups.{seen_lookups};
 
 use crate::cells::push_cells_at;
 use crate::report_names::items::push_phrase;
-use crate::report_names::lookups::{Lookups, lookups_of};
+use crate::report_names::lookups::Lookups;
 use hal_constants::Known;
 use hal_names::Names;
 use hal_values::ReportName;
@@ -43,20 +44,21 @@ fn push_all(
 }
 
 /// The names that the report shows of a set of files with at most 65,536 cells, 128 processes and 65,535 processes and declared events, in the
-/// order of the declarations (language document, Report names).
-pub fn report_names(
+/// order of the declarations, by what rows of the set are looked up in (language document, Report names).
+pub(crate) fn report_names(
     alloc: Global,
     names: &Names<'_>,
     known: &Known,
+    lookups: &Lookups,
 ) -> Result<Vec<ReportName>, AllocError>
     requires counted { IsCounted (seen_names names.now) }
     requires few_cells { places.cell_count (seen_names names.now) (seen_known known.now) ≤ CELL_LIMIT }
     requires few_processes { length (bodies.processes_of (seen_names names.now)) ≤ PROCESS_LIMIT }
     requires few_events { length (bodies.processes_of (seen_names names.now)) + length (events.declared_events (seen_names names.now)) ≤ 65535 }
+    requires lookups { seen_lookups lookups.now ≡ rows.lookups_of (seen_names names.now) (seen_known known.now) }
     ensures { IfOk result (λ list. list.items ≡ reports.rows_of (seen_names names.now) (seen_known known.now)) }
 {
-    let lookups = lookups_of(alloc, names, known)?;
     let mut list = Vec::new(alloc);
-    push_all(alloc, &mut list, names, known, &lookups)?;
+    push_all(alloc, &mut list, names, known, lookups)?;
     Ok(list)
 }

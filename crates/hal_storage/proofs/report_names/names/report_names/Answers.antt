@@ -7,5 +7,5 @@ use Rattle.hal_storage.proofs.report_names.names.report_names.Goals as goal
 
 pub push_all-requires-clause-room : goal.push_all-requires-clause-room
 push_all-requires-clause-room c =
-    subst (λ l. HaveRows (seen_names c.args.names.now) (seen_known c.args.known.now) l 0 (seen_names c.args.names.now)) (sym c.in_ok-lookups.ensures)
+    subst (λ l. HaveRows (seen_names c.args.names.now) (seen_known c.args.known.now) l 0 (seen_names c.args.names.now)) (sym c.requires.lookups)
     (have_rows (seen_names c.args.names.now) (seen_known c.args.known.now) c.requires.counted c.requires.few_cells c.requires.few_processes)
