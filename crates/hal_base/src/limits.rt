@@ -51,5 +51,11 @@ pub const NAME_LIMIT: u32 = 32;
 /// How many channels there are; they are counted from 0.
 pub const CHANNEL_COUNT: u8 = 32;
 
+/// How many bits a bit string has at most.
+pub const BIT_LIMIT: u8 = 32;
+
+/// How many bytes a text has at most.
+pub const CHARACTER_LIMIT: u8 = 255;
+
 /// How many bytes the items of one WRITE give at most, the blank before each counted.
 pub const LINE_LIMIT: u32 = 1_000;

@@ -13,7 +13,7 @@ ghost use Rattle.hal_gen_expr.specs.ExpressionCode as codes;
 ghost use Rattle.hal_gen_expr.specs.Leaves as leaves;
 
 use crate::uncoded::Uncoded;
-use hal_base::Place;
+use hal_base::{CHARACTER_LIMIT, Place};
 use hal_code::{Choice, Instr, Places};
 use hal_operations::{Op1, Op2};
 use hal_scope::Builtin;
@@ -139,7 +139,7 @@ fn raised_to(literal: LiteralValue) -> Option<Instr>
     match literal {
         LiteralValue::Integer(number) => integer_instr(number),
         LiteralValue::Text(text) => {
-            if text.bytes().len() <= 255 {
+            if text.bytes().len() <= usize::from(CHARACTER_LIMIT) {
                 Some(Instr::Int(0))
             } else {
                 None

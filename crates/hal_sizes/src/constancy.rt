@@ -8,7 +8,7 @@ ghost use Rattle.hal_names.specs.SeenNames.{seen_names};
 ghost use Rattle.hal_constants.specs.SeenKnown.{seen_known};
 ghost use Rattle.hal_sizes.specs.Constancy as constancy;
 
-use hal_base::Place;
+use hal_base::{BIT_LIMIT, CHARACTER_LIMIT, Place};
 use hal_constants::{Constant, Known, constant_of, signed_name, size_of_integer};
 use hal_names::Names;
 use hal_phrases::{Node, Phrase, Role};
@@ -87,8 +87,16 @@ fn inconstant_as(
     match role {
         Role::Dimension => missized(32767, place, &constant_of(tree, names, known, phrase)),
         Role::Copies => missized(32767, place, &constant_of(tree, names, known, phrase)),
-        Role::BitLength => missized(32, place, &constant_of(tree, names, known, phrase)),
-        Role::TextLength => missized(255, place, &constant_of(tree, names, known, phrase)),
+        Role::BitLength => missized(
+            u16::from(BIT_LIMIT),
+            place,
+            &constant_of(tree, names, known, phrase),
+        ),
+        Role::TextLength => missized(
+            u16::from(CHARACTER_LIMIT),
+            place,
+            &constant_of(tree, names, known, phrase),
+        ),
         Role::LockGroup => unsettled(place, &constant_of(tree, names, known, phrase)),
         Role::Initial => unsettled(place, &constant_of(tree, names, known, phrase)),
         Role::Channel => mischannelled(place, &constant_of(tree, names, known, phrase)),

@@ -11,7 +11,7 @@ use crate::rooms::is_common;
 use crate::scope::Scope;
 use crate::sorts::{has_bits_below, is_kind};
 use crate::viewing::{is_of_cell, is_own};
-use hal_base::CHANNEL_COUNT;
+use hal_base::{BIT_LIMIT, CHANNEL_COUNT};
 use hal_code::{Choice, Instr, Limit, Round, Start, View};
 use std::alloc::AllocError;
 
@@ -19,7 +19,7 @@ use std::alloc::AllocError;
 fn is_string(len: u8, word: u32) -> bool
     ensures { result ≡ ((nat_le 1 len && nat_le len 32) && nat_lt word (2 ^ len)) }
 {
-    1 <= len && len <= 32 && has_bits_below(len, word)
+    1 <= len && len <= BIT_LIMIT && has_bits_below(len, word)
 }
 
 /// What SCHEDULE says.

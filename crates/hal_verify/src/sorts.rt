@@ -9,6 +9,7 @@ ghost use Rattle.hal_code.specs.Sorts.{I, B, T, is_kind, is_initial, same_kind, 
 ghost use Rattle.hal_verify.specs.SeenSorts.{seen_sort};
 
 use crate::sort::Sort;
+use hal_base::{BIT_LIMIT, CHARACTER_LIMIT};
 use hal_code::{ResultKind, Target};
 use hal_operations::{Op1, Op2};
 use hal_values::{Kind, Value};
@@ -33,8 +34,8 @@ pub(crate) fn is_kind(kind: Kind) -> bool
     match kind {
         Kind::Single => true,
         Kind::Double => true,
-        Kind::Bits(bits) => 1 <= bits && bits <= 32,
-        Kind::Text(most) => 1 <= most && most <= 255,
+        Kind::Bits(bits) => 1 <= bits && bits <= BIT_LIMIT,
+        Kind::Text(most) => 1 <= most && most <= CHARACTER_LIMIT,
     }
 }
 
