@@ -1,7 +1,8 @@
 use crate::choice::Choice;
+use crate::heap_text::HeapText;
 use crate::operand::{Delay, EventChange, Limit, Places, Response, Round, Start};
 use hal_operations::{Op1, Op2};
-use hal_values::{Kind, Text};
+use hal_values::Kind;
 
 /// An instruction, in the order of the codes. Targets are the numbers of instructions, counted from 0 over the whole code; views, blocks, places,
 /// events and processes are given by their numbers. In a process's place 255 is the process itself.
@@ -15,7 +16,7 @@ pub enum Instr {
         word: u32,
     },
     /// A text is put on the stack.
-    Text(Text),
+    Text(HeapText),
     /// Of the integers on the stack, one for each dimension of the view, comes the address of a cell.
     Cell(u32),
     /// The same, of the cells of a shape.

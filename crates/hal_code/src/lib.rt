@@ -3,6 +3,7 @@
 #![tactic(auto)]
 
 mod choice;
+mod heap_text;
 mod image;
 mod instr;
 mod laws;
@@ -10,6 +11,7 @@ mod operand;
 mod row;
 
 pub use choice::Choice;
+pub use heap_text::HeapText;
 pub use image::ImageParts;
 pub use instr::Instr;
 pub use laws::{

@@ -124,7 +124,8 @@ fn converts(conversion: Conversion) -> Instr
 fn emit_literal(code: &mut Vec<Instr>, place: Place, literal: LiteralValue) -> Result<(), Uncoded>
     ensures { Emits (codes.emit_any code.old.items place (codes.literal_instr (seen_literal literal))) result code.new.items }
 {
-    emit_any(code, place, literal_instr(literal))
+    let instr = literal_instr(*code.allocator(), literal)?;
+    emit_any(code, place, instr)
 }
 
 /// Adds the code of an expression, which leaves its value on the stack, or tells the place of the first part of it that has none yet (image document, Code

@@ -1,6 +1,6 @@
 //! The instructions of leaves.
 
-ghost use Rattle.std.specs.Prelude.{◌≡◌, ◌++◌, ◌∷◌, [], OnOk};
+ghost use Rattle.std.specs.Prelude.{◌≡◌, ◌++◌, ◌∷◌, [], IfOk, OnOk};
 ghost use Rattle.std.specs.Option.{option_map};
 ghost use Rattle.hal_tree.specs.SeenExpressions.{seen_expression};
 ghost use Rattle.hal_tree.specs.SeenLeaves.{seen_literal, seen_relation, seen_sign};
@@ -14,12 +14,12 @@ ghost use Rattle.hal_gen_expr.specs.Leaves as leaves;
 
 use crate::uncoded::Uncoded;
 use hal_base::{CHARACTER_LIMIT, Place};
-use hal_code::{Choice, Instr, Places};
+use hal_code::{Choice, HeapText, Instr, Places};
 use hal_operations::{Op1, Op2};
 use hal_scope::Builtin;
 use hal_tree::{Expr, LiteralValue, Relation, Sign};
 use hal_values::{Text, Value};
-use std::alloc::AllocError;
+use std::alloc::{AllocError, Global};
 
 /// Adds an instruction.
 pub fn push(code: &mut Vec<Instr>, instr: Instr) -> Result<(), AllocError>
@@ -91,16 +91,16 @@ pub fn picks(places: Places) -> Instr
 }
 
 /// The instruction that puts a value on the stack.
-pub fn pushes(value: &Value) -> Instr
-    ensures { result ≡ placed.pushes value.now }
+pub fn pushes(alloc: Global, value: &Value) -> Result<Instr, AllocError>
+    ensures { IfOk result (λ instr. instr ≡ placed.pushes value.now) }
 {
     match value {
-        Value::Int(number) => Instr::Int(*number),
-        Value::Bits { len, word } => Instr::Bits {
+        Value::Int(number) => Ok(Instr::Int(*number)),
+        Value::Bits { len, word } => Ok(Instr::Bits {
             len: *len,
             word: *word,
-        },
-        Value::Text(text) => Instr::Text(text.copy()),
+        }),
+        Value::Text(text) => Ok(Instr::Text(HeapText::new(alloc, text.copy())?)),
     }
 }
 
@@ -115,20 +115,23 @@ pub(crate) fn integer_instr(number: u32) -> Option<Instr>
 }
 
 /// The instruction that puts a literal on the stack, where it has room in one.
-pub(crate) fn literal_instr(literal: LiteralValue) -> Option<Instr>
-    ensures { result ≡ codes.literal_instr (seen_literal literal) }
+pub(crate) fn literal_instr(
+    alloc: Global,
+    literal: LiteralValue,
+) -> Result<Option<Instr>, AllocError>
+    ensures { IfOk result (λ instr. instr ≡ codes.literal_instr (seen_literal literal)) }
 {
     match literal {
-        LiteralValue::Integer(number) => integer_instr(number),
+        LiteralValue::Integer(number) => Ok(integer_instr(number)),
         LiteralValue::Text(text) => match Text::of(text.bytes()) {
-            None => None,
-            Some(text) => Some(Instr::Text(text)),
+            None => Ok(None),
+            Some(text) => Ok(Some(Instr::Text(HeapText::new(alloc, text)?))),
         },
-        LiteralValue::Bits { len, word } => Some(Instr::Bits { len, word }),
-        LiteralValue::True => Some(Instr::Bits { len: 1, word: 1 }),
-        LiteralValue::On => Some(Instr::Bits { len: 1, word: 1 }),
-        LiteralValue::False => Some(Instr::Bits { len: 1, word: 0 }),
-        LiteralValue::Off => Some(Instr::Bits { len: 1, word: 0 }),
+        LiteralValue::Bits { len, word } => Ok(Some(Instr::Bits { len, word })),
+        LiteralValue::True => Ok(Some(Instr::Bits { len: 1, word: 1 })),
+        LiteralValue::On => Ok(Some(Instr::Bits { len: 1, word: 1 })),
+        LiteralValue::False => Ok(Some(Instr::Bits { len: 1, word: 0 })),
+        LiteralValue::Off => Ok(Some(Instr::Bits { len: 1, word: 0 })),
     }
 }
 

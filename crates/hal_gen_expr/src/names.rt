@@ -56,7 +56,10 @@ fn emit_declared(
             let address = element_of(site, path, *declared, *stored, shape);
             emit_two(code, place, address, Instr::Fetch)
         }
-        Referent::Constant(value) => emit_one(code, place, pushes(value)),
+        Referent::Constant(value) => {
+            let instr = pushes(*code.allocator(), value)?;
+            emit_one(code, place, instr)
+        }
         Referent::Event(event) => emit_one(code, place, Instr::Event(*event)),
         Referent::Block(unit) => {
             if lacks_names(inputs_at(site, *unit)) {

@@ -1,6 +1,6 @@
 //! The code of units that are called.
 
-ghost use Rattle.std.specs.Prelude.{◌≡◌, ◌++◌, OnOk, map};
+ghost use Rattle.std.specs.Prelude.{◌≡◌, ◌++◌, IfOk, OnOk, map};
 ghost use Rattle.hal_tree.specs.SeenDeclarations.{seen_type};
 ghost use Rattle.hal_tree.specs.SeenUnits.{seen_head, seen_returns};
 ghost use Rattle.hal_storage.specs.own_places.SeenPlaces.{seen_place};
@@ -20,7 +20,7 @@ ghost use Rattle.hal_link.specs.UnitCode as codes;
 use crate::members::emit_elements;
 use crate::processes::{is_function, push_block};
 use crate::unlinked::Unlinked;
-use hal_code::{Block, Choice, Instr, ResultKind};
+use hal_code::{Block, Choice, HeapText, Instr, ResultKind};
 use hal_gen::{Exits, Leaving, Locks};
 use hal_gen_expr::{Site, Uncoded, push};
 use hal_storage::own_places::Place;
@@ -71,14 +71,14 @@ fn kind_of_result(head: &Head) -> ResultKind
 
 /// The instruction that puts the zero value of a unit with this head on the stack.
 #[tactic(auto, using(crate::proofs::Zeros::zero_pushed))]
-fn zero_of(head: &Head) -> Instr
-    ensures { result ≡ pushes (calls.zero_of (seen_head head.now)) }
+fn zero_of(alloc: Global, head: &Head) -> Result<Instr, AllocError>
+    ensures { IfOk result (λ instr. instr ≡ pushes (calls.zero_of (seen_head head.now))) }
 {
     match kind_of_result(head) {
-        ResultKind::Bits => Instr::Bits { len: 1, word: 0 },
-        ResultKind::Text => Instr::Text(Text::new()),
-        ResultKind::Nothing => Instr::Int(0),
-        ResultKind::Integer => Instr::Int(0),
+        ResultKind::Bits => Ok(Instr::Bits { len: 1, word: 0 }),
+        ResultKind::Text => Ok(Instr::Text(HeapText::new(alloc, Text::new())?)),
+        ResultKind::Nothing => Ok(Instr::Int(0)),
+        ResultKind::Integer => Ok(Instr::Int(0)),
     }
 }
 
@@ -95,7 +95,8 @@ fn emit_end(code: &mut Vec<Instr>, head: &Head) -> Result<(), AllocError>
                 number: 7,
             },
         )?;
-        push(code, zero_of(head))?;
+        let zero = zero_of(*code.allocator(), head)?;
+        push(code, zero)?;
     }
     push(code, Instr::Return)
 }

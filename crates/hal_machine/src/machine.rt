@@ -3,18 +3,12 @@
 ghost use Rattle.std.specs.Prelude.{◌≤◌, length};
 
 use crate::blocks::Blocks;
-use crate::operands::{Operands, Place};
+use crate::held::Held;
+use crate::operands::Operands;
 use crate::step::Wait;
 use hal_code::ImageParts;
 use hal_values::{Cell, ErrNo, Request, Value};
 use std::alloc::Global;
-
-/// What an own place holds: a value, or what an ASSIGN parameter stands for.
-#[derive(Drop)]
-pub enum Held {
-    Value(Value),
-    Place(Place),
-}
 
 /// What the machine holds of a process.
 #[derive(Drop)]

@@ -11,13 +11,13 @@ ghost use Rattle.hal_code.specs.Cores.{with_kept, with_mode, Tries};
 ghost use Rattle.hal_code.specs.Raising as raising;
 ghost use Rattle.hal_machine.specs.Seen.{core_seen, setting_seen, spot_seen, step_seen, rest_seen, again_seen, Does};
 
-use crate::machine::{Held, Machine, Setting};
+use crate::machine::{Machine, Setting};
 use crate::operands::Place;
 use crate::step::{Again, Rest, Stepped, Wait};
 use crate::values::{has_bit, of_kind};
 use hal_errors::Found;
 use hal_values::{Cell, ErrNo, Plan, Request, Side, Value};
-use std::alloc::AllocError;
+use std::alloc::{AllocError, Global};
 
 /// A process is to run again after no time.
 const NO_CYCLE: ErrNo = ErrNo {
@@ -40,13 +40,14 @@ fn is_again(again: Again) -> bool
 impl Machine {
     /// An own place gets a value.
     #[tactic(auto, using(crate::proofs::Mapping::map_set, crate::proofs::Mapping::set_past, crate::proofs::Mapping::length_map))]
-    pub fn put_own(&mut self, number: usize, one: Value)
-        ensures does { core_seen self.new ≡ with_kept (kept (slice_set (core_seen self.old).kept.places number (Holds one)) self.old.last) (core_seen self.old) }
+    pub fn put_own(&mut self, alloc: Global, number: usize, one: &Value) -> Result<(), AllocError>
+        ensures does { OnOk result (core_seen self.new ≡ with_kept (kept (slice_set (core_seen self.old).kept.places number (Holds one.now)) self.old.last) (core_seen self.old)) }
         ensures room { self.new.blocks.room ≡ self.old.blocks.room }
     {
         if number < self.places.len() {
-            self.places[number] = Held::Value(one);
+            self.places[number].put_value(alloc, one)?;
         }
+        Ok(())
     }
 
     /// An UPDATE block writes a cell of its groups.
@@ -115,7 +116,7 @@ impl Machine {
                 Some(cell) => self.put_cell(setting, number, cell, of_kind(cell.kind, one)),
             },
             Place::Own(number) => {
-                self.put_own(number as usize, one);
+                self.put_own(setting.alloc, number as usize, &one)?;
                 Ok(Stepped::Moves)
             }
             Place::Nowhere => Ok(Stepped::Moves),

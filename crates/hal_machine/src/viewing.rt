@@ -11,7 +11,8 @@ ghost use Rattle.hal_right_values.specs.Spreading.{integer_taken, HasRoom, Leads
 ghost use Rattle.hal_machine.specs.Spreading.{pointed, pointed_at, spread_seen, saturated};
 ghost use Rattle.hal_machine.specs.Seen.{core_seen, stack_seen, setting_seen, spot_seen, step_seen, Does};
 
-use crate::machine::{Held, Machine, Setting};
+use crate::held::Held;
+use crate::machine::{Machine, Setting};
 use crate::operands::{Operands, Place};
 use crate::step::Stepped;
 use hal_code::{Base, Dimension, Target, View};
@@ -123,8 +124,7 @@ impl Machine {
     {
         match self.places.get(number) {
             None => Place::Nowhere,
-            Some(Held::Value(_)) => Place::Nowhere,
-            Some(Held::Place(place)) => *place,
+            Some(held) => held.place(),
         }
     }
 

@@ -36,7 +36,7 @@ fn has_instr_bytes(instr: &Instr) -> bool
             true
         }
         Instr::Text(text) => {
-            fits_text(text);
+            fits_text(text.text());
             true
         }
         Instr::Cell(number)
@@ -162,7 +162,7 @@ fn write_instr(instr: &Instr, into: &mut Vec<u8>) -> Result<(), AllocError>
         }
         Instr::Text(text) => {
             into.push(3)?;
-            write_text(text, into)
+            write_text(text.text(), into)
         }
         Instr::Cell(number) => write_four(4, *number, into),
         Instr::Whole(number) => write_four(5, *number, into),
@@ -263,7 +263,7 @@ impl Row for Instr {
     }
 
     fn read(alloc: Global, bytes: &[u8]) -> Result<(Instr, &[u8]), ReadFault> {
-        instr_of(bytes)
+        instr_of(alloc, bytes)
     }
 
     fn write(&self, into: &mut Vec<u8>) -> Result<(), AllocError> {

@@ -1,7 +1,8 @@
 //! Instructions, read from the front of bytes.
 
 ghost use Rattle.std.specs.Prelude.{◌≡◌};
-ghost use Rattle.hal_object.specs.Fields.{Gives};
+ghost use Rattle.hal_code.specs.declared.instr.Instr.TheVariants as instr;
+ghost use Rattle.hal_object.specs.Fields.{Gives, made, text_at};
 ghost use Rattle.hal_object.specs.Reading.{bits_at, on_at, off_at, raise_at, clear_at, schedule_at, input_at, value_instr_at, control_instr_at, asking_instr_at, instr_behind, instr_at};
 
 use crate::choices::{change_of, flag_of, op1_of, op2_of, places_of, response_of};
@@ -10,7 +11,8 @@ use crate::kinds::kind_of;
 use crate::made;
 use crate::numbers::{byte_of, eight_of, four_of, integer_of, text_of, two_of};
 use crate::operands::{delay_of, limit_of, round_of, when_of};
-use hal_code::Instr;
+use hal_code::{HeapText, Instr};
+use std::alloc::Global;
 
 /// Bits.
 #[tactic(auto, unfolding(crate::specs::Reading::bits_at))]
@@ -116,15 +118,24 @@ fn input_of(bytes: &[u8]) -> Result<(Instr, &[u8]), ReadFault>
     Ok((instr, rest))
 }
 
+/// TEXT.
+fn text_instr_of(alloc: Global, bytes: &[u8]) -> Result<(Instr, &[u8]), ReadFault>
+    ensures { Gives (λ x. (x.0, x.1.now)) result (made instr.Text text_at bytes.now) }
+{
+    let (text, rest) = text_of(bytes)?;
+    let kept = HeapText::new(alloc, text)?;
+    Ok((Instr::Text(kept), rest))
+}
+
 /// An instruction that puts values on the stack or takes them, behind its code.
 #[tactic(auto, unfolding(crate::specs::Reading::value_instr_at))]
-fn value_instr_of(code: u8, bytes: &[u8]) -> Result<(Instr, &[u8]), ReadFault>
+fn value_instr_of(alloc: Global, code: u8, bytes: &[u8]) -> Result<(Instr, &[u8]), ReadFault>
     ensures { Gives (λ x. (x.0, x.1.now)) result (value_instr_at code bytes.now) }
 {
     match code {
         1 => made!(integer_of(bytes), Instr::Int),
         2 => bits_of(bytes),
-        3 => made!(text_of(bytes), Instr::Text),
+        3 => text_instr_of(alloc, bytes),
         4 => made!(four_of(bytes), Instr::Cell),
         5 => made!(four_of(bytes), Instr::Whole),
         6 => Ok((Instr::Fetch, bytes)),
@@ -193,11 +204,11 @@ fn asking_instr_of(code: u8, bytes: &[u8]) -> Result<(Instr, &[u8]), ReadFault>
 }
 
 /// An instruction behind its code.
-fn instr_behind_of(code: u8, bytes: &[u8]) -> Result<(Instr, &[u8]), ReadFault>
+fn instr_behind_of(alloc: Global, code: u8, bytes: &[u8]) -> Result<(Instr, &[u8]), ReadFault>
     ensures { Gives (λ x. (x.0, x.1.now)) result (instr_behind code bytes.now) }
 {
     if code < 17 {
-        value_instr_of(code, bytes)
+        value_instr_of(alloc, code, bytes)
     } else if code < 32 {
         control_instr_of(code, bytes)
     } else {
@@ -207,9 +218,9 @@ fn instr_behind_of(code: u8, bytes: &[u8]) -> Result<(Instr, &[u8]), ReadFault>
 
 /// An instruction.
 #[tactic(auto, unfolding(crate::specs::Reading::instr_at))]
-pub(crate) fn instr_of(bytes: &[u8]) -> Result<(Instr, &[u8]), ReadFault>
+pub(crate) fn instr_of(alloc: Global, bytes: &[u8]) -> Result<(Instr, &[u8]), ReadFault>
     ensures { Gives (λ x. (x.0, x.1.now)) result (instr_at bytes.now) }
 {
     let (code, rest) = byte_of(bytes)?;
-    instr_behind_of(code, rest)
+    instr_behind_of(alloc, code, rest)
 }

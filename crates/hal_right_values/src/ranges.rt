@@ -25,7 +25,7 @@ pub fn is_in_range(instr: &Instr)
     match instr {
         Instr::Int(number) => right_integer(*number),
         Instr::Text(text) => {
-            let _ = text.bytes();
+            let _ = text.text().bytes();
         }
         Instr::Raise { group, number } => {
             low_byte(*group);

@@ -30,7 +30,7 @@ pub(crate) fn act(
     match instr {
         Instr::Int(number) => machine.int(setting, *number),
         Instr::Bits { len, word } => machine.bits(setting, *len, *word),
-        Instr::Text(text) => machine.text(setting, text),
+        Instr::Text(text) => machine.text(setting, text.text()),
         Instr::Cell(view) => cell(machine, setting, *view),
         Instr::Whole(view) => whole(machine, setting, *view),
         Instr::Fetch => machine.fetch(setting),
@@ -74,7 +74,7 @@ pub(crate) fn act(
         Instr::ErrNum => machine.error_number(setting),
         Instr::Bind(place) => machine.bind(setting, *place),
         Instr::Copy(place) => copy(machine, setting, *place),
-        Instr::Clear { place, count } => Ok(clear(machine, setting, *place, *count)),
+        Instr::Clear { place, count } => clear(machine, setting, *place, *count),
         Instr::Next => machine.next(setting),
         Instr::Begin => Ok(machine.begin(setting)),
         Instr::Finish => Ok(machine.finish(setting)),

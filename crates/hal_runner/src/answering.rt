@@ -119,14 +119,14 @@ fn copied(
     done: usize,
     from: Place,
     place: u32,
-) -> Stepped
+) -> Result<Stepped, AllocError>
     requires shapes { ShapesFit setting.now.image.now }
     requires place { suc place < 2 ^ 32 }
     requires fits { CopiesFit (length (drop done (kinds_of setting.now.image.now shape))) (spot_seen from) (suc place) }
-    ensures does { step_seen setting.now.image.now result machine.new ≡ copied (setting_seen setting.now) (drop done (kinds_of setting.now.image.now shape)) (spot_seen from) (suc place) (placed place one (core_seen machine.old)) }
+    ensures does { Does setting.now.image.now result machine.new (copied (setting_seen setting.now) (drop done (kinds_of setting.now.image.now shape)) (spot_seen from) (suc place) (placed place one (core_seen machine.old))) }
     ensures room { machine.new.blocks.room ≡ machine.old.blocks.room }
 {
-    machine.put_own(place as usize, one);
+    machine.put_own(setting.alloc, place as usize, &one)?;
     copy_from(machine, setting, shape, done, from, place + 1)
 }
 
@@ -157,7 +157,7 @@ fn given(
             done,
             from,
             place,
-        } => Ok(copied(machine, setting, reply.told(kind), shape, done, from, place)),
+        } => copied(machine, setting, reply.told(kind), shape, done, from, place),
         Wait::Opens(groups) => Ok(entered(machine, setting, groups, reply)),
         Wait::Renews => Ok(begin(machine, setting)),
         Wait::Halts(error) => Ok(machine.asks(setting, Request::Stop(error), Wait::Halts(error))),

@@ -12,7 +12,7 @@ loop-number-preserved c =
     let same = c.loop-number.invariant.1 in
     let in_firsts : c.loop-number.number < length c.args.firsts.now = omega (arith, test, firsts) in
     let in_places : c.loop-number.number < length c.loop-number.places.items = omega (arith, test, places, same) in (
-      clears_there c.args.firsts.now c.loop-number.places.items c.loop-number.number (c.args.place + c.args.count) c.put_first.new.held _ (c.put_first.ensures ∙ ap held_seen c.index-firsts-number.is) in_firsts in_places test ∙ c.loop-number.invariant.0,
+      clears_there c.args.firsts.now c.loop-number.places.items c.loop-number.number (c.args.place + c.args.count) c.put_copy.new.self _ (c.in_ok-put_copy.ensures ∙ ap held_seen c.index-firsts-number.is) in_firsts in_places test ∙ c.loop-number.invariant.0,
       length-set _ _ _ ∙ same,
       omega (arith, test),
     )
