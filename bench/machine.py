@@ -62,6 +62,7 @@ KINDS = {
     'calls': kind('DECLARE N INTEGER DOUBLE;', 'N = F(N, 1);', ('def f(x, y): return x + y\n  n = 0', 'n = f(n, 1)'), ('local function f(x, y) return x + y end local n = 0', 'n = f(n, 1)'),
                   'F: FUNCTION(X, Y) INTEGER DOUBLE; DECLARE X INTEGER DOUBLE, Y INTEGER DOUBLE; RETURN X + Y; CLOSE F;', 1),
     'turns of 9': kind('DECLARE N INTEGER DOUBLE;', 'DO FOR N = 1 TO 9; END;', ('n = 0', 'for n in range(1, 10): pass'), ('local n = 0', 'for n = 1, 9 do end'), turns=9),
+    'turns of 99': kind('DECLARE N INTEGER DOUBLE;', 'DO FOR N = 1 TO 99; END;', ('n = 0', 'for n in range(1, 100): pass'), ('local n = 0', 'for n = 1, 99 do end'), turns=99),
 }
 
 
