@@ -1,14 +1,11 @@
 //! The image of files, by all checks.
 
-ghost use Rattle.std.specs.Prelude.{◌≡◌, IfErr, IfOk, OnOk, map};
+ghost use Rattle.std.specs.Prelude.{◌≡◌, IfErr, IfOk, map};
 ghost use Rattle.hal_tree.specs.SeenUnits.{seen_file};
 ghost use Rattle.hal_phrases.specs.GatheredUnits.{phrases_of};
 ghost use Rattle.hal_names.specs.SeenNames.{seen_names};
-ghost use Rattle.hal_scope.specs.Rules.{IsSound};
 ghost use Rattle.hal_constants.specs.Known as facts;
 ghost use Rattle.hal_constants.specs.SeenKnown.{seen_known};
-ghost use Rattle.hal_templates.specs.Faults.{IsMismatchedBy};
-ghost use Rattle.hal_templates.specs.Rules.{template_rows};
 ghost use Rattle.hal_checked.specs.Checking.{IsChecked, IsLawful, LinksWhole};
 ghost use Rattle.hal_compile.specs.Compiling.{Compiles, FilesBreakBy, IsOfMemory, IsToldAt, IsToldOfCells, OversteppedBy};
 
@@ -26,7 +23,7 @@ use hal_scope::check_names;
 use hal_templates::match_templates;
 use hal_tree::File;
 use hal_types::check_types;
-use std::alloc::{AllocError, Global};
+use std::alloc::Global;
 
 /// The rule that a set without an image breaks.
 const UNCOMPILED: Rule = Rule(410);
@@ -70,7 +67,7 @@ fn names_of<'a>(alloc: Global, files: &'a [File]) -> Result<Names<'a>, Fault>
 }
 
 /// The names of files that break no rule of templates, names, types or locks; or a rule of these that they break, at its place; or want of memory.
-#[tactic(auto, using(crate::proofs::Broken::wrong_names, crate::proofs::Broken::wrong_templates, crate::proofs::Broken::wrong_types, crate::proofs::Broken::wrong_locks, crate::proofs::Broken::unnamed, crate::proofs::Broken::lawful))]
+#[tactic(auto, using(crate::proofs::Broken::wrong_names, crate::proofs::Broken::wrong_templates, crate::proofs::Broken::wrong_types, crate::proofs::Broken::wrong_locks, crate::proofs::Broken::unnamed))]
 fn lawful_names<'a>(alloc: Global, files: &'a [File]) -> Result<Names<'a>, Fault>
     ensures names { IfOk result (λ names. seen_names names ≡ phrases_of (map seen_file files.now)) }
     ensures lawful { IfOk result (λ names. IsLawful (phrases_of (map seen_file files.now))) }
