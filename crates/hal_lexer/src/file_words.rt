@@ -40,8 +40,11 @@ fn replaced_words<'a>(alloc: Global, items: &[Item<'a>]) -> Result<Tokens, Fault
     ensures words { IfOk result (λ tokens. replaced 0 [] (map seen_item items.now) ≡ map word_item tokens) }
     ensures broken { IfErr result (Explains (replaced 0 [] (map seen_item items.now))) }
 {
+    let mut tokens = match Tokens::with_capacity(alloc, items.len()) {
+        Ok(tokens) => tokens,
+        Err(error) => return Err(Fault::Memory(error)),
+    };
     let mut replacements = Replacements::new(alloc);
-    let mut tokens = Tokens::new(alloc);
     let mut from = 0;
     'item: while from < items.len() {
         from += take(

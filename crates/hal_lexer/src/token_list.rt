@@ -23,7 +23,7 @@ impl Model for Tokens {
 }
 
 impl Tokens {
-    ghost use Rattle.std.specs.Prelude.{◌≡◌, ◌≤◌, ◌∷◌, [], ◌++◌, List, length, map, OnOk, IfErr};
+    ghost use Rattle.std.specs.Prelude.{◌≡◌, ◌≤◌, ◌∷◌, [], ◌++◌, List, length, map, OnOk, IfErr, IfOk};
     ghost use Rattle.hal_base.specs.declared.limits.TheConstants.{TOKEN_LIMIT};
     ghost use Rattle.hal_words.specs.Pieces.{Is};
     ghost use Rattle.hal_words.specs.Lines as lines;
@@ -31,13 +31,12 @@ impl Tokens {
     ghost use Rattle.hal_words.specs.Words.{word_item};
     ghost use Rattle.hal_lexer.specs.Faults.{Explains};
 
-    /// No word.
-    pub(crate) fn new(alloc: Global) -> Tokens
-        ensures { result ≡ [] }
+    /// No word, with room for so many at once, or for as many as there may be.
+    pub(crate) fn with_capacity(alloc: Global, count: usize) -> Result<Tokens, AllocError>
+        ensures { IfOk result (λ tokens. tokens ≡ []) }
     {
-        Tokens {
-            items: Vec::new(alloc),
-        }
+        let items = Vec::with_capacity(alloc, count.min(TOKEN_LIMIT as usize))?;
+        Ok(Tokens { items })
     }
 
     /// The words.
