@@ -1,8 +1,10 @@
 -- The cells of a set are counted.
-use Rattle.std.proofs.Common.{◌≡◌, ◌∙◌, ◌*◌, ◌==◌, ℕ, Bool, true, false, List, [], ◌∷◌, length, flat_map, if◌then◌else◌, refl, sym, ap, arith, length-append}
+use Rattle.std.proofs.Common.{◌≡◌, ◌∙◌, ◌*◌, ◌==◌, ℕ, Bool, true, false, List, [], ◌∷◌, length, filter, flat_map, if◌then◌else◌, refl, sym, ap, arith, length-append}
 use Rattle.std.specs.Prelude.{sum_by}
 use Rattle.std.proofs.lemmas.List.Sums.{sum_by-cons}
 use Rattle.hal_phrases.specs.Phrases.{Phrase}
+use Rattle.hal_names.specs.Spans.{is_of}
+use Rattle.hal_names.proofs.Spanned.{given_by_those}
 use Rattle.hal_constants.specs.Known.{Known}
 use Rattle.hal_meaning.specs.Bodies.{processes_of}
 use Rattle.hal_meaning.specs.Places.{Place, cell_count, is_reentrant_at, places_at, places_in, unit_numbers}
@@ -24,8 +26,14 @@ module _ (ps : List Phrase) (vs : Known) where
       omega (arith, length-append (placed q p) (flat_map (placed q) rest), length_if (p.around.home == q) (places_at ps vs p p.node), length_placed q rest, sum_by-cons (places_of_phrase ps vs q) p rest)
 
   -- the own places of a block
-  pub places_counted : (q : ℕ) → counted (places_of_phrase ps vs q) 0 ps ≡ capped (length (places_in ps vs q))
+  places_counted : (q : ℕ) → counted (places_of_phrase ps vs q) 0 ps ≡ capped (length (places_in ps vs q))
   places_counted q = from_nothing (places_of_phrase ps vs q) ps ∙ ap capped (sym (length_placed q ps))
+
+  -- and as many are those of the phrases of its home
+  pub places_of_home : (q : ℕ) (rs : List Phrase) → filter (is_of q) rs ≡ filter (is_of q) ps → counted (places_of_phrase ps vs q) 0 rs ≡ capped (length (places_in ps vs q))
+  places_of_home q rs same =
+      from_nothing (places_of_phrase ps vs q) rs ∙ ap capped (sym (length_placed q rs))
+      ∙ ap (λ (list : List Place). capped (length list)) (given_by_those (λ (p : Phrase). places_at ps vs p p.node) q rs ps same)
 
   by_sort : (b : Bool) (n m : ℕ) → capped (if b then capped n * m else m) ≡ capped (if b then n * m else m)
   by_sort true n m = first_capped n m

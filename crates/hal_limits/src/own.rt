@@ -117,7 +117,7 @@ fn places_among(
 }
 
 /// How many own places the block with this number has, 4,294,967,295 where it has more (language document, Places).
-#[tactic(auto, using(crate::proofs::Celled::places_counted))]
+#[tactic(auto, using(crate::proofs::Celled::places_of_home))]
 pub(crate) fn places_in(
     alloc: Global,
     names: &Names<'_>,
@@ -128,5 +128,5 @@ pub(crate) fn places_in(
     requires groups { ArePlaced (seen_names names.now) groups.now }
     ensures { IfOk result (λ count. count ≡ capped (length (places.places_in (seen_names names.now) (seen_known known.now) block))) }
 {
-    places_among(alloc, names, known, groups, block, names.phrases())
+    places_among(alloc, names, known, groups, block, names.of_home(block))
 }

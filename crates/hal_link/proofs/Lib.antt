@@ -1,3 +1,4 @@
+pub mod Homes
 pub mod Tabled
 pub mod Outlined
 pub mod Processed

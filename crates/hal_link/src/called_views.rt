@@ -15,7 +15,7 @@ use crate::first_placed::Placed;
 use crate::linking::{site_in, uncalled};
 use crate::outlines::Outline;
 use crate::places::placed_of;
-use crate::views::{push_cell, push_phrases};
+use crate::views::{push_cell, push_home};
 use hal_gen_expr::{Site, Views, base_of, body_at, inputs_in, parameter_named};
 use hal_storage::cells::Storing;
 use hal_tree::Identifier;
@@ -66,7 +66,7 @@ fn push_called(
         return Ok(());
     };
     let site = site_in(whole, placed, body, unviewed, uncalled());
-    push_phrases(into, &site, whole.set.names.phrases())?;
+    push_home(into, &site)?;
     push_parameters(into, &site, inputs_in(body))
 }
 

@@ -23,7 +23,7 @@ use crate::places::placed_of;
 use crate::processes::link_process_at;
 use crate::units::link_unit_at;
 use crate::unlinked::Unlinked;
-use crate::views::push_phrases;
+use crate::views::push_home;
 use hal_code::{Block, Instr};
 use hal_gen::Locks;
 use hal_gen_expr::{Calls, Site, Views, body_at};
@@ -240,7 +240,7 @@ fn push_unit(
         return Ok(());
     };
     let site = site_in(whole, placed, body, unviewed, uncalled());
-    push_phrases(into, &site, whole.set.names.phrases())
+    push_home(into, &site)
 }
 
 /// Adds the views that the code of the process with this number names, whose unit has that one.

@@ -2,6 +2,7 @@
 
 ghost use Rattle.std.specs.Prelude.{◌≡◌, OnOk, Some, map};
 ghost use Rattle.hal_storage.specs.cells.SeenStoring.{seen_storing};
+ghost use Rattle.hal_storage.specs.sets.SeenSets.{seen_set};
 ghost use Rattle.hal_phrases.specs.SeenPhrases.{seen_node, seen_phrase};
 ghost use Rattle.hal_storage.specs.referents.SeenReferents.{seen_meant, seen_referent};
 ghost use Rattle.hal_tree.specs.Rows.{expressions};
@@ -482,11 +483,7 @@ fn push_phrase(into: &mut Views, site: &Site<'_>, phrase: &Phrase<'_>) -> Result
 
 /// Adds those of phrases.
 #[tactic(auto, unfolding(crate::specs::Views::with_phrases))]
-pub(crate) fn push_phrases(
-    into: &mut Views,
-    site: &Site<'_>,
-    phrases: &[Phrase<'_>],
-) -> Result<(), AllocError>
+fn push_phrases(into: &mut Views, site: &Site<'_>, phrases: &[Phrase<'_>]) -> Result<(), AllocError>
     requires site { IsSite site.now }
     ensures { OnOk result (into.new.list.items ≡ views.with_phrases site.now.shapes.now (seen_site site.now) into.old.list.items (map seen_phrase phrases.now)) }
 {
@@ -494,4 +491,13 @@ pub(crate) fn push_phrases(
         push_phrase(into, site, phrase)?;
     }
     Ok(())
+}
+
+/// Adds those of the phrases that stand in the unit of the site.
+#[tactic(auto, using(crate::proofs::Homes::views_of_home), unfolding(hal_gen_expr::specs::SeenSites::seen_site))]
+pub(crate) fn push_home(into: &mut Views, site: &Site<'_>) -> Result<(), AllocError>
+    requires site { IsSite site.now }
+    ensures { OnOk result (into.new.list.items ≡ views.with_phrases site.now.shapes.now (seen_site site.now) into.old.list.items (seen_set site.now.set.now).phrases) }
+{
+    push_phrases(into, site, site.set.names.of_home(site.unit))
 }

@@ -8,3 +8,4 @@ pub mod CountedFiles
 pub mod Places
 pub mod Search
 mod Homes
+pub mod Spanned

@@ -5,3 +5,4 @@ pub mod Index
 pub mod SeenNames
 pub mod Laws
 pub mod Tasks
+pub mod Spans

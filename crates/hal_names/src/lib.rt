@@ -8,6 +8,7 @@ mod laws;
 mod lookups;
 mod means;
 mod names;
+mod spans;
 mod tasks;
 
 pub use declaring::declared_by;

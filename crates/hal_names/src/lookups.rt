@@ -1,6 +1,6 @@
 //! How names are looked up.
 
-ghost use Rattle.std.specs.Prelude.{◌≡◌, map, IfOk, slice_get};
+ghost use Rattle.std.specs.Prelude.{◌≡◌, filter, map, IfOk, slice_get};
 ghost use Rattle.std.specs.List.{list_any};
 ghost use Rattle.std.specs.Option.{option_map};
 ghost use Rattle.hal_phrases.specs.SeenPhrases.{seen_phrase};
@@ -8,12 +8,14 @@ ghost use Rattle.hal_names.specs.Keys.{own};
 ghost use Rattle.hal_names.specs.Means.{included_before, means, unit_named};
 ghost use Rattle.hal_tree.specs.SeenUnits.{seen_preface};
 ghost use Rattle.hal_names.specs.SeenNames.{seen_names};
+ghost use Rattle.hal_names.specs.Spans.{is_of};
 ghost use Rattle.hal_names.specs.Tasks.{is_task_in};
 
 use crate::index::{index_of, number_of};
 use crate::key::Key;
 use crate::means::{included_before, nearest, unit_named};
 use crate::names::Names;
+use crate::spans::{phrases_in, spans_of};
 use crate::tasks::homes_of;
 use hal_phrases::Phrase;
 use hal_tree::Preface;
@@ -27,10 +29,12 @@ impl<'a> Names<'a> {
     {
         let index = index_of(alloc, phrases.as_slice())?;
         let tasks = homes_of(alloc, phrases.as_slice())?;
+        let spans = spans_of(alloc, phrases.as_slice())?;
         Ok(Names {
             phrases,
             index,
             tasks,
+            spans,
         })
     }
 
@@ -39,6 +43,13 @@ impl<'a> Names<'a> {
         ensures { map seen_phrase result.now ≡ seen_names self.now }
     {
         self.phrases.as_slice()
+    }
+
+    /// Phrases that stand one behind the other: all those of the home with this number, and others that stand between them.
+    pub fn of_home(&self, home: usize) -> &[Phrase<'a>]
+        ensures { filter (is_of home) (map seen_phrase result.now) ≡ filter (is_of home) (seen_names self.now) }
+    {
+        phrases_in(&self.spans, self.phrases.as_slice(), home)
     }
 
     /// The phrase with this number.

@@ -1,12 +1,18 @@
 -- The own places of processes, by the processes that reach units.
-use Rattle.std.proofs.Common.{rules, ◌≡◌, ℕ, Bool, List, [], ◌∷◌, ◌++◌, map, flat_map, refl, ap}
+use Rattle.std.proofs.Common.{rules, ◌≡◌, ℕ, Bool, List, [], ◌∷◌, ◌++◌, map, filter, flat_map, refl, ap}
 use Rattle.hal_phrases.specs.Phrases.{Phrase}
+use Rattle.hal_names.specs.Spans.{is_of}
+use Rattle.hal_names.proofs.Spanned.{given_by_those}
 use Rattle.hal_constants.specs.Known.{Known}
 use Rattle.hal_meaning.specs.Bodies.{processes_of}
 use Rattle.hal_values.specs.declared.value.Kind.{Kind}
-use Rattle.hal_meaning.specs.Places.{places_from, common_places, sole_places, unit_numbers}
+use Rattle.hal_meaning.specs.Places.{places_at, places_from, places_in, common_places, sole_places, unit_numbers}
 use Rattle.hal_reach.specs.Calls.{reached, reached_of}
-use Rattle.hal_storage.specs.own_places.Owned.{common_of, common_among, sole_of, sole_among}
+use Rattle.hal_storage.specs.own_places.Owned.{places_among, common_of, common_among, sole_of, sole_among}
+
+-- the places of a block are those of the phrases of its home
+pub of_home : (ps rs : List Phrase) (vs : Known) (q : ℕ) → filter (is_of q) rs ≡ filter (is_of q) ps → places_among ps vs q rs ≡ places_in ps vs q
+of_home ps rs vs q same = given_by_those (λ (p : Phrase). places_at ps vs p p.node) q rs ps same
 
 -- places without values
 pub none_left : (owner : ℕ) (automatic : Bool) (ks : List Kind) → places_from owner automatic ks [] ≡ []

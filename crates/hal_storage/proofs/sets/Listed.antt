@@ -1,11 +1,13 @@
 -- Units and bodies, as the program's trees list them.
-use Rattle.std.specs.Prelude.{ℕ, zero, suc, ◌+◌, ◌==◌, Bool, true, false, ◌&&◌, List, [], ◌∷◌, ◌++◌, map, flat_map, drop, slice_get, Option, Some, None, if◌then◌else◌}
+use Rattle.std.specs.Prelude.{ℕ, zero, suc, ◌+◌, ◌==◌, Bool, true, false, ◌&&◌, List, [], ◌∷◌, ◌++◌, map, filter, flat_map, drop, slice_get, Option, Some, None, if◌then◌else◌}
 use Rattle.std.specs.List.{cons_option}
 use Rattle.std.proofs.Common.{◌≡◌, refl, sym, ap, ◌∙◌, append-nil, arith}
 use Rattle.hal_grammar.specs.Leaves.{Naming}
 use Rattle.hal_grammar.specs.Declarations.{Declaration}
 use Rattle.hal_grammar.specs.Units.{Head, Block, BlockOf, File}
 use Rattle.hal_phrases.specs.Phrases.{Phrase}
+use Rattle.hal_names.specs.Spans.{is_of}
+use Rattle.hal_names.proofs.Spanned.{of_those_alone}
 use Rattle.hal_tree.specs.declared.unit.Unit.{Unit, out-Unit}
 use Rattle.hal_tree.specs.Rows.{Member, OfStatement, OfBlock, elements}
 use Rattle.hal_tree.specs.SeenUnits.{seen_element, seen_unit}
@@ -86,5 +88,15 @@ unfolding with_mark with_marks
 marks_behind unit d [] = sym (append-nil d)
 marks_behind unit d (p ∷ ps) = marks_behind unit (with_mark unit d p) ps ∙ one_mark unit d p (marks_of ps unit) (is_mark p.node) (p.around.home == unit)
 
-pub marks_listed : (unit : ℕ) (ps : List Phrase) → with_marks unit [] ps ≡ marks_of ps unit
+marks_listed : (unit : ℕ) (ps : List Phrase) → with_marks unit [] ps ≡ marks_of ps unit
 marks_listed unit ps = marks_behind unit [] ps
+
+no_mark : (unit : ℕ) (d : List ℕ) (p : Phrase) (b c : Bool) → c ≡ false → (if b then (if c then d ++ (p.number ∷ []) else d) else d) ≡ d
+no_mark unit d p true c none = rw none refl
+no_mark unit d p false c none = refl
+
+-- the marks of a unit are those of the phrases of its home
+pub marks_of_home : (unit : ℕ) (rs ps : List Phrase) → filter (is_of unit) rs ≡ filter (is_of unit) ps → with_marks unit [] rs ≡ marks_of ps unit
+unfolding with_mark with_marks
+marks_of_home unit rs ps same =
+    of_those_alone (with_marks unit) (with_mark unit) unit (λ d p more. refl) (λ d p none. no_mark unit d p (is_mark p.node) (is_of unit p) none) rs ps [] same ∙ marks_listed unit ps

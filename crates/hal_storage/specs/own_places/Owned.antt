@@ -1,5 +1,5 @@
 -- The own places of the processes of a set.
-use Rattle.std.specs.Prelude.{ℕ, false, List, [], ◌∷◌, ◌++◌, map, flat_map, None, if◌then◌else◌}
+use Rattle.std.specs.Prelude.{ℕ, ◌==◌, false, List, [], ◌∷◌, ◌++◌, map, flat_map, None, if◌then◌else◌}
 use Rattle.hal_grammar.specs.Declarations.{Automatic, Attribute, Declared}
 use Rattle.hal_phrases.specs.Phrases.{Phrase}
 use Rattle.hal_kinds.specs.Attributes.{has_mark}
@@ -10,7 +10,7 @@ use Rattle.hal_reach.specs.Marks.{Reached}
 use Rattle.hal_meaning.specs.Bodies.{processes_of}
 use Rattle.hal_meaning.specs.Elements.{kinds_of, shape_of}
 use Rattle.hal_meaning.specs.InitialValues.{first_values}
-use Rattle.hal_meaning.specs.Places.{Place, places_from, hidden, is_for_or_case, places_in, are_several, is_sole, common_places, sole_places}
+use Rattle.hal_meaning.specs.Places.{Place, places_at, places_from, hidden, is_for_or_case, places_in, are_several, is_sole, common_places, sole_places}
 
 -- the own places of the processes: the common ones, and for each process its others. The places of a process are the common ones and then its own
 pub record OwnPlaces : Type 0 where
@@ -32,6 +32,10 @@ places_of_data ps vs p common item =
 -- the places of a group without a TEMPORARY variable
 abbrev pub group : List Phrase → ℕ → List Place
 group ps k = if is_for_or_case ps k then hidden k 4 else []
+
+-- the places that these phrases of a set have in a block
+abbrev pub places_among : List Phrase → Known → ℕ → List Phrase → List Place
+places_among ps vs q rs = flat_map (λ (p : Phrase). if p.around.home == q then places_at ps vs p p.node else []) rs
 
 -- the common places, by the processes that reach units
 abbrev pub common_of : List Phrase → Known → Reached → List Place

@@ -179,8 +179,30 @@ fn push_phrase(
     }
 }
 
-/// Adds the own places of the block with this number.
+/// Adds the own places that these phrases have in the block with this number.
 #[tactic(auto, using(crate::proofs::elements::Repeated::behind, crate::proofs::elements::Repeated::none_behind))]
+fn push_phrases(
+    alloc: Global,
+    into: &mut Vec<Place>,
+    names: &Names<'_>,
+    known: &Known,
+    groups: &PlacedGroups,
+    block: usize,
+    phrases: &[Phrase<'_>],
+) -> Result<(), AllocError>
+    requires groups { placed.ArePlaced (seen_names names.now) groups.now }
+    ensures { OnOk result (map seen_place into.new.items ≡ map seen_place into.old.items ++ owned.places_among (seen_names names.now) (seen_known known.now) block (map seen_phrase phrases.now)) }
+{
+    for phrase in phrases {
+        if phrase.around.home == block {
+            push_phrase(alloc, into, names, known, groups, phrase)?;
+        }
+    }
+    Ok(())
+}
+
+/// Adds the own places of the block with this number.
+#[tactic(auto, using(crate::proofs::own_places::Owned::of_home))]
 pub(crate) fn push_block(
     alloc: Global,
     into: &mut Vec<Place>,
@@ -192,11 +214,13 @@ pub(crate) fn push_block(
     requires groups { placed.ArePlaced (seen_names names.now) groups.now }
     ensures { OnOk result (map seen_place into.new.items ≡ map seen_place into.old.items ++ places.places_in (seen_names names.now) (seen_known known.now) block) }
 {
-    let phrases = names.phrases();
-    for phrase in phrases {
-        if phrase.around.home == block {
-            push_phrase(alloc, into, names, known, groups, phrase)?;
-        }
-    }
-    Ok(())
+    push_phrases(
+        alloc,
+        into,
+        names,
+        known,
+        groups,
+        block,
+        names.of_home(block),
+    )
 }

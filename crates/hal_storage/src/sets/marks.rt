@@ -49,7 +49,7 @@ fn push_marks(into: &mut Vec<usize>, unit: usize, phrases: &[Phrase<'_>]) -> Res
 }
 
 /// The numbers of those in a unit, in order.
-#[tactic(auto, using(crate::proofs::sets::Listed::marks_listed))]
+#[tactic(auto, using(crate::proofs::sets::Listed::marks_of_home))]
 pub(crate) fn marks_of(
     alloc: Global,
     names: &Names<'_>,
@@ -58,6 +58,6 @@ pub(crate) fn marks_of(
     ensures { IfOk result (λ list. list.items ≡ bodies.marks_of (seen_names names.now) unit) }
 {
     let mut list = Vec::new(alloc);
-    push_marks(&mut list, unit, names.phrases())?;
+    push_marks(&mut list, unit, names.of_home(unit))?;
     Ok(list)
 }
