@@ -3,13 +3,20 @@
 //! `locks`, and none of calls either where it is tried as `calls`. Where it is tried as `templates` the rules of templates come first, and one that is `right` breaks none of
 //! all these. A newline in a unit is written `\n`.
 
+ghost use Rattle.std.specs.Prelude.{◌≡◌, IfOk};
+ghost use Rattle.hal_names.specs.SeenNames.{seen_names};
+ghost use Rattle.hal_constants.specs.Known as facts;
+ghost use Rattle.hal_constants.specs.SeenKnown.{seen_known};
+
 use hal_base::{Fault, Place, Refusal, Rule};
 use hal_calls::{check_calls, check_program};
+use hal_constants::Known;
 use hal_lexer::tokens;
 use hal_locks::check_locks;
 use hal_names::Names;
 use hal_parse::parse;
 use hal_phrases::phrases_of;
+use hal_reach::Units;
 use hal_scope::resolve;
 use hal_templates::match_templates;
 use hal_tree::File;
@@ -87,29 +94,62 @@ fn names_of(alloc: Global, units: &str) -> Result<(), Fault> {
     Ok(())
 }
 
+/// The values of the constants of a set of files with these names.
+fn known_of(alloc: Global, names: &Names<'_>) -> Result<Known, Fault>
+    ensures { IfOk result (λ known. seen_known known ≡ facts.known (seen_names names.now)) }
+{
+    match Known::of(alloc, names) {
+        Ok(known) => Ok(known),
+        Err(error) => Err(Fault::Memory(error)),
+    }
+}
+
+/// The units of that set, as far as calls go.
+fn called_of<'a>(alloc: Global, names: &'a Names<'a>) -> Result<Units<'a>, Fault>
+    ensures { IfOk result (λ units. seen_names units.names.now ≡ seen_names names.now) }
+{
+    match Units::of(alloc, names) {
+        Ok(units) => Ok(units),
+        Err(error) => Err(Fault::Memory(error)),
+    }
+}
+
+/// Whether a set of files with these names breaks no rule of types and none of locks.
+fn keeps_locks(alloc: Global, names: &Names<'_>) -> Result<(), Fault> {
+    let known = known_of(alloc, names)?;
+    let called = called_of(alloc, names)?;
+    check_types(alloc, names, &known)?;
+    check_locks(alloc, &called, &known)
+}
+
+/// Whether it breaks no rule of calls.
+fn keeps_calls(alloc: Global, names: &Names<'_>) -> Result<(), Fault> {
+    let called = called_of(alloc, names)?;
+    check_program(names)?;
+    check_calls(alloc, &called)
+}
+
 /// Whether a set of units breaks no rule of names and none of types.
 fn types_of(alloc: Global, units: &str) -> Result<(), Fault> {
     let files = files_of(alloc, units)?;
     let names = resolve(alloc, files.as_slice())?;
-    check_types(alloc, &names)
+    let known = known_of(alloc, &names)?;
+    check_types(alloc, &names, &known)
 }
 
 /// Whether a set of units breaks no rule of names, none of types and none of locks.
 fn locks_of(alloc: Global, units: &str) -> Result<(), Fault> {
     let files = files_of(alloc, units)?;
     let names = resolve(alloc, files.as_slice())?;
-    check_types(alloc, &names)?;
-    check_locks(alloc, &names)
+    keeps_locks(alloc, &names)
 }
 
 /// Whether a set of units breaks no rule of names, none of types, none of locks and none of calls.
 fn calls_of(alloc: Global, units: &str) -> Result<(), Fault> {
     let files = files_of(alloc, units)?;
     let names = resolve(alloc, files.as_slice())?;
-    check_types(alloc, &names)?;
-    check_locks(alloc, &names)?;
-    check_program(&names)?;
-    check_calls(alloc, &names)
+    keeps_locks(alloc, &names)?;
+    keeps_calls(alloc, &names)
 }
 
 /// The names of a set of files, whatever rules it breaks.
@@ -124,7 +164,8 @@ fn keeps_templates(alloc: Global, units: &str) -> Result<(), Fault> {
         Ok(names) => names,
         Err(error) => return Err(Fault::Memory(error)),
     };
-    match_templates(alloc, &names)
+    let known = known_of(alloc, &names)?;
+    match_templates(alloc, &names, &known)
 }
 
 /// Whether a set of units breaks no rule of templates, and none of the others.

@@ -36,23 +36,22 @@ pub fn check_program(names: &Names<'_>) -> Result<(), Fault>
 }
 
 /// The first of the rules 901 to 904 that a set of files breaks, and where, unless memory is wanting.
-fn found(alloc: Global, names: &Names<'_>) -> Result<Option<(u16, Place)>, AllocError>
-    ensures { IfOk result (λ found. found ≡ first_with (seen_names names.now) (recursive (seen_names names.now)) (contended (seen_names names.now)) (seen_names names.now)) }
+fn found(alloc: Global, units: &Units<'_>) -> Result<Option<(u16, Place)>, AllocError>
+    ensures { IfOk result (λ found. found ≡ first_with (seen_names units.now.names.now) (recursive (seen_names units.now.names.now)) (contended (seen_names units.now.names.now)) (seen_names units.now.names.now)) }
 {
-    let units = Units::of(alloc, names)?;
     let recursive = units.recursive(alloc)?;
-    let contended = contended_units(alloc, &units)?;
-    Ok(first_fault(names, &recursive, &contended))
+    let contended = contended_units(alloc, units)?;
+    Ok(first_fault(units.names(), &recursive, &contended))
 }
 
-/// Whether a set of files with these names breaks none of the rules 901 to 904; or one that is broken, at its place, of several the first in the
+/// Whether a set of files with these units breaks none of the rules 901 to 904; or one that is broken, at its place, of several the first in the
 /// order of the source; or want of memory. See docs/LANGUAGE.md, "Calls".
 #[tactic(auto, using(crate::proofs::Tables::broken_with))]
-pub fn check_calls(alloc: Global, names: &Names<'_>) -> Result<(), Fault>
-    ensures sound { OnOk result (IsSound call_rows (seen_names names.now)) }
-    ensures broken { IfErr result (IsMiscalledBy (seen_names names.now)) }
+pub fn check_calls(alloc: Global, units: &Units<'_>) -> Result<(), Fault>
+    ensures sound { OnOk result (IsSound call_rows (seen_names units.now.names.now)) }
+    ensures broken { IfErr result (IsMiscalledBy (seen_names units.now.names.now)) }
 {
-    let first = match found(alloc, names) {
+    let first = match found(alloc, units) {
         Ok(first) => first,
         Err(error) => return Err(Fault::Memory(error)),
     };

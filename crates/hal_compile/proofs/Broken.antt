@@ -24,7 +24,7 @@ use Rattle.hal_calls.specs.Faults.{IsMiscalledBy, IsOfNoProgram}
 use Rattle.hal_limits.specs.Limits.{BreaksLimit, IsBeyondBy, IsWithin}
 use Rattle.hal_code.specs.declared.image.ImageParts.{ImageParts}
 use Rattle.hal_checked.specs.Checking.{IsChecked, IsLawful}
-use Rattle.hal_compile.specs.Compiling.{Compiles, ExceedsLimit, FilesBreakBy, IsOfMemory, IsToldAt, IsToldOfCells, IsUncompiled, Miscalls, Overfills, OversteppedBy}
+use Rattle.hal_compile.specs.Compiling.{BreaksRow, Compiles, ExceedsLimit, FilesBreakBy, IsOfMemory, IsToldAt, IsToldOfCells, IsUncompiled, Miscalls, MisdeclaredBy, Overfills, OversteppedBy}
 use Rattle.hal_checked.specs.Reading.{AreRead}
 use Rattle.hal_compile.specs.Reading.{HaveFewWords}
 use Rattle.hal_compile.specs.Texts.{BreakBy, HasMeaning, MakesImage}
@@ -36,29 +36,37 @@ unnamed files (fault.Broken refusal) wants = absurd wants
 unnamed files (fault.Memory error) wants = tt
 
 -- a rule of names
-pub wrong_names : (ps : List Phrase) (files : List File) (why : Fault) → ps ≡ phrases_of files → IsBrokenBy ps why → FilesBreakBy files why
-wrong_names ps files (fault.Broken refusal) same breaks = inl (subst (λ (qs : List Phrase). IsBrokenBy qs (fault.Broken refusal)) same breaks)
-wrong_names ps files (fault.Memory error) same breaks = tt
+pub wrong_names : (ps qs : List Phrase) (why : Fault) → ps ≡ qs → IsBrokenBy ps why → MisdeclaredBy qs why
+wrong_names ps qs (fault.Broken refusal) same breaks = inl (subst (λ (rs : List Phrase). IsBrokenBy rs (fault.Broken refusal)) same breaks)
+wrong_names ps qs (fault.Memory error) same breaks = tt
 
 -- of templates
-pub wrong_templates : (ps : List Phrase) (files : List File) (why : Fault) → ps ≡ phrases_of files → IsMismatchedBy ps why → FilesBreakBy files why
-wrong_templates ps files (fault.Broken refusal) same breaks = inr (inl (subst (λ (qs : List Phrase). IsMismatchedBy qs (fault.Broken refusal)) same breaks))
-wrong_templates ps files (fault.Memory error) same breaks = tt
+pub wrong_templates : (ps qs : List Phrase) (why : Fault) → ps ≡ qs → IsMismatchedBy ps why → MisdeclaredBy qs why
+wrong_templates ps qs (fault.Broken refusal) same breaks = inr (inl (subst (λ (rs : List Phrase). IsMismatchedBy rs (fault.Broken refusal)) same breaks))
+wrong_templates ps qs (fault.Memory error) same breaks = tt
 
 -- of types
-pub wrong_types : (ps : List Phrase) (files : List File) (why : Fault) → ps ≡ phrases_of files → IsMistypedBy ps why → FilesBreakBy files why
-wrong_types ps files (fault.Broken refusal) same breaks = inr (inr (inl (subst (λ (qs : List Phrase). IsMistypedBy qs (fault.Broken refusal)) same breaks)))
-wrong_types ps files (fault.Memory error) same breaks = tt
+pub wrong_types : (ps qs : List Phrase) (why : Fault) → ps ≡ qs → IsMistypedBy ps why → MisdeclaredBy qs why
+wrong_types ps qs (fault.Broken refusal) same breaks = inr (inr (inl (subst (λ (rs : List Phrase). IsMistypedBy rs (fault.Broken refusal)) same breaks)))
+wrong_types ps qs (fault.Memory error) same breaks = tt
 
 -- of locks
-pub wrong_locks : (ps : List Phrase) (files : List File) (why : Fault) → ps ≡ phrases_of files → IsMislockedBy ps why → FilesBreakBy files why
-wrong_locks ps files (fault.Broken refusal) same breaks = inr (inr (inr (inl (subst (λ (qs : List Phrase). IsMislockedBy qs (fault.Broken refusal)) same breaks))))
-wrong_locks ps files (fault.Memory error) same breaks = tt
+pub wrong_locks : (ps : List Phrase) (why : Fault) → IsMislockedBy ps why → MisdeclaredBy ps why
+wrong_locks ps (fault.Broken refusal) breaks = inr (inr (inr breaks))
+wrong_locks ps (fault.Memory error) breaks = tt
 
 -- none of these
-pub lawful : (ps : List Phrase) (files : List File) → ps ≡ phrases_of files → IsSound template_rows ps → IsSound rows ps → IsSound type_rows ps → IsSound lock_rows ps → IsLawful (phrases_of files)
-lawful ps files same matched named typed locked =
-    subst (λ (qs : List Phrase). IsLawful qs) same (record { matched = matched; typed = record { named = named; typed = typed }; locked = locked })
+pub lawful : (ps qs : List Phrase) → ps ≡ qs → IsSound template_rows ps → IsSound rows ps → IsSound type_rows ps → IsSound lock_rows qs → IsLawful qs
+lawful ps qs same matched named typed locked =
+    subst (λ (rs : List Phrase). IsLawful rs) same
+    (record { matched = matched; typed = record { named = named; typed = typed }; locked = subst (λ (rs : List Phrase). IsSound lock_rows rs) (sym same) locked })
+
+pub misdeclared : (ps : List Phrase) (files : List File) (why : Fault) → ps ≡ phrases_of files → MisdeclaredBy ps why → FilesBreakBy files why
+misdeclared ps files (fault.Broken refusal) same (inl breaks) = inl (subst (λ (qs : List Phrase). BreaksRow rows qs refusal) same breaks)
+misdeclared ps files (fault.Broken refusal) same (inr (inl breaks)) = inr (inl (subst (λ (qs : List Phrase). BreaksRow template_rows qs refusal) same breaks))
+misdeclared ps files (fault.Broken refusal) same (inr (inr (inl breaks))) = inr (inr (inl (subst (λ (qs : List Phrase). BreaksRow type_rows qs refusal) same breaks)))
+misdeclared ps files (fault.Broken refusal) same (inr (inr (inr breaks))) = inr (inr (inr (inl (subst (λ (qs : List Phrase). BreaksRow lock_rows qs refusal) same breaks))))
+misdeclared ps files (fault.Memory error) same breaks = tt
 
 -- of limits
 pub beyond_limits : (ps : List Phrase) (vs : Known) (why : Fault) → vs ≡ known ps → IsLawful ps → IsBeyondBy ps vs why → OversteppedBy ps why

@@ -93,6 +93,11 @@ pub record ExceedsLimit (ps : List Phrase) (refusal : Refusal) : Type 0 where
 abbrev pub Miscalls : List Phrase → Refusal → Type 0
 Miscalls ps refusal = BreaksCalls ps refusal.rule.0 refusal.place
 
+-- a rule of names, of templates, of types or of locks that is broken, at the place; want of memory says nothing of the set
+abbrev pub MisdeclaredBy : List Phrase → Fault → Type 0
+MisdeclaredBy ps (fault.Broken refusal) = BreaksRow rows ps refusal ⊎ BreaksRow template_rows ps refusal ⊎ BreaksRow type_rows ps refusal ⊎ BreaksRow lock_rows ps refusal
+MisdeclaredBy ps (fault.Memory error) = ⊤
+
 -- one of calls or limits; want of memory says nothing
 abbrev pub OversteppedBy : List Phrase → Fault → Type 0
 OversteppedBy ps (fault.Broken refusal) = Miscalls ps refusal ⊎ ExceedsLimit ps refusal

@@ -1,13 +1,13 @@
 //! The image of files, by all checks.
 
-ghost use Rattle.std.specs.Prelude.{◌≡◌, IfErr, IfOk, map};
+ghost use Rattle.std.specs.Prelude.{◌≡◌, IfErr, IfOk, OnOk, map};
 ghost use Rattle.hal_tree.specs.SeenUnits.{seen_file};
 ghost use Rattle.hal_phrases.specs.GatheredUnits.{phrases_of};
 ghost use Rattle.hal_names.specs.SeenNames.{seen_names};
 ghost use Rattle.hal_constants.specs.Known as facts;
 ghost use Rattle.hal_constants.specs.SeenKnown.{seen_known};
 ghost use Rattle.hal_checked.specs.Checking.{IsChecked, IsLawful, LinksWhole};
-ghost use Rattle.hal_compile.specs.Compiling.{Compiles, FilesBreakBy, IsOfMemory, IsToldAt, IsToldOfCells, OversteppedBy};
+ghost use Rattle.hal_compile.specs.Compiling.{Compiles, FilesBreakBy, IsOfMemory, IsToldAt, IsToldOfCells, MisdeclaredBy, OversteppedBy};
 
 use crate::lacking::Lacking;
 use crate::linking::{BEGINNING, image_in};
@@ -19,6 +19,7 @@ use hal_limits::check_limits;
 use hal_locks::check_locks;
 use hal_names::Names;
 use hal_phrases::phrases_of;
+use hal_reach::Units;
 use hal_scope::check_names;
 use hal_templates::match_templates;
 use hal_tree::File;
@@ -66,21 +67,6 @@ fn names_of<'a>(alloc: Global, files: &'a [File]) -> Result<Names<'a>, Fault>
     }
 }
 
-/// The names of files that break no rule of templates, names, types or locks; or a rule of these that they break, at its place; or want of memory.
-#[tactic(auto, using(crate::proofs::Broken::wrong_names, crate::proofs::Broken::wrong_templates, crate::proofs::Broken::wrong_types, crate::proofs::Broken::wrong_locks, crate::proofs::Broken::unnamed))]
-fn lawful_names<'a>(alloc: Global, files: &'a [File]) -> Result<Names<'a>, Fault>
-    ensures names { IfOk result (λ names. seen_names names ≡ phrases_of (map seen_file files.now)) }
-    ensures lawful { IfOk result (λ names. IsLawful (phrases_of (map seen_file files.now))) }
-    ensures broken { IfErr result (FilesBreakBy (map seen_file files.now)) }
-{
-    let names = names_of(alloc, files)?;
-    match_templates(alloc, &names)?;
-    check_names(&names)?;
-    check_types(alloc, &names)?;
-    check_locks(alloc, &names)?;
-    Ok(names)
-}
-
 /// The values of the constants.
 fn known_of(alloc: Global, names: &Names<'_>) -> Result<Known, Fault>
     ensures known { IfOk result (λ known. seen_known known ≡ facts.known (seen_names names.now)) }
@@ -92,20 +78,46 @@ fn known_of(alloc: Global, names: &Names<'_>) -> Result<Known, Fault>
     }
 }
 
-/// The constants of a set with these names that keeps the rules of calls and of limits; or one of these that it breaks, at its place, those of the
+/// The units.
+fn units_of<'a>(alloc: Global, names: &'a Names<'a>) -> Result<Units<'a>, Fault>
+    ensures units { IfOk result (λ units. seen_names units.names.now ≡ seen_names names.now) }
+    ensures wanting { IfErr result IsOfMemory }
+{
+    match Units::of(alloc, names) {
+        Ok(units) => Ok(units),
+        Err(error) => Err(Fault::Memory(error)),
+    }
+}
+
+/// Whether a set with these units and constants breaks no rule of templates, names, types or locks; or one of these that it breaks, at its place; or want of memory.
+#[tactic(auto, using(crate::proofs::Broken::wrong_names, crate::proofs::Broken::wrong_templates, crate::proofs::Broken::wrong_types, crate::proofs::Broken::wrong_locks))]
+fn check_declared(alloc: Global, units: &Units<'_>, known: &Known) -> Result<(), Fault>
+    requires constants { seen_known known.now ≡ facts.known (seen_names units.now.names.now) }
+    ensures lawful { OnOk result (IsLawful (seen_names units.now.names.now)) }
+    ensures broken { IfErr result (MisdeclaredBy (seen_names units.now.names.now)) }
+{
+    let names = units.names();
+    match_templates(alloc, names, known)?;
+    check_names(names)?;
+    check_types(alloc, names, known)?;
+    check_locks(alloc, units, known)?;
+    Ok(())
+}
+
+/// Whether a set with these units and constants keeps the rules of calls and of limits; or one of these that it breaks, at its place, those of the
 /// beginning of the set first; or want of memory.
 #[tactic(auto, using(crate::proofs::Broken::all_kept, crate::proofs::Broken::no_program, crate::proofs::Broken::beyond_limits, crate::proofs::Broken::wrong_calls))]
-fn checked_constants(alloc: Global, names: &Names<'_>) -> Result<Known, Fault>
-    requires lawful { IsLawful (seen_names names.now) }
-    ensures known { IfOk result (λ known. seen_known known ≡ facts.known (seen_names names.now)) }
-    ensures checked { IfOk result (λ known. IsChecked (seen_names names.now)) }
-    ensures broken { IfErr result (OversteppedBy (seen_names names.now)) }
+fn check_whole(alloc: Global, units: &Units<'_>, known: &Known) -> Result<(), Fault>
+    requires constants { seen_known known.now ≡ facts.known (seen_names units.now.names.now) }
+    requires lawful { IsLawful (seen_names units.now.names.now) }
+    ensures checked { OnOk result (IsChecked (seen_names units.now.names.now)) }
+    ensures broken { IfErr result (OversteppedBy (seen_names units.now.names.now)) }
 {
+    let names = units.names();
     check_program(names)?;
-    let known = known_of(alloc, names)?;
-    check_limits(alloc, names, &known)?;
-    check_calls(alloc, names)?;
-    Ok(known)
+    check_limits(alloc, names, known)?;
+    check_calls(alloc, units)?;
+    Ok(())
 }
 
 /// The image of files that keep the rules, but perhaps 410, or 951 by their image; or the one of these that they break, at its place; or want of memory.
@@ -113,17 +125,17 @@ fn checked_constants(alloc: Global, names: &Names<'_>) -> Result<Known, Fault>
 fn image_checked(
     alloc: Global,
     files: &[File],
-    names: &Names<'_>,
+    units: &Units<'_>,
     known: &Known,
 ) -> Result<ImageParts, Fault>
-    requires names { seen_names names.now ≡ phrases_of (map seen_file files.now) }
+    requires names { seen_names units.now.names.now ≡ phrases_of (map seen_file files.now) }
     requires constants { seen_known known.now ≡ facts.known (phrases_of (map seen_file files.now)) }
     requires checked { IsChecked (phrases_of (map seen_file files.now)) }
     requires whole { LinksWhole (map seen_file files.now) }
     ensures compiled { IfOk result (Compiles (map seen_file files.now)) }
     ensures broken { IfErr result (FilesBreakBy (map seen_file files.now)) }
 {
-    match image_in(alloc, files, names, known) {
+    match image_in(alloc, files, units, known) {
         Ok(Ok(image)) => Ok(image),
         Ok(Err(Lacking::Code(place))) => Err(uncompiled(place)),
         Ok(Err(Lacking::Room)) => Err(overfull()),
@@ -131,15 +143,30 @@ fn image_checked(
     }
 }
 
+/// The image of files with these names, or a rule that they break, at its place; or want of memory.
+#[tactic(auto, using(crate::proofs::Broken::unnamed, crate::proofs::Broken::misdeclared, crate::proofs::Broken::overstepped))]
+fn image_named(alloc: Global, files: &[File], names: &Names<'_>) -> Result<ImageParts, Fault>
+    requires names { seen_names names.now ≡ phrases_of (map seen_file files.now) }
+    requires whole { IsChecked (phrases_of (map seen_file files.now)) → LinksWhole (map seen_file files.now) }
+    ensures checked { IfOk result (λ image. IsChecked (phrases_of (map seen_file files.now))) }
+    ensures compiled { IfOk result (Compiles (map seen_file files.now)) }
+    ensures broken { IfErr result (FilesBreakBy (map seen_file files.now)) }
+{
+    let known = known_of(alloc, names)?;
+    let units = units_of(alloc, names)?;
+    check_declared(alloc, &units, &known)?;
+    check_whole(alloc, &units, &known)?;
+    image_checked(alloc, files, &units, &known)
+}
+
 /// The image of the set of these files, or a rule that it breaks, at its place; or want of memory.
-#[tactic(auto, using(crate::proofs::Broken::overstepped))]
+#[tactic(auto, using(crate::proofs::Broken::unnamed))]
 pub(crate) fn image_of(alloc: Global, files: &[File]) -> Result<ImageParts, Fault>
     requires whole { IsChecked (phrases_of (map seen_file files.now)) → LinksWhole (map seen_file files.now) }
     ensures checked { IfOk result (λ image. IsChecked (phrases_of (map seen_file files.now))) }
     ensures compiled { IfOk result (Compiles (map seen_file files.now)) }
     ensures broken { IfErr result (FilesBreakBy (map seen_file files.now)) }
 {
-    let names = lawful_names(alloc, files)?;
-    let known = checked_constants(alloc, &names)?;
-    image_checked(alloc, files, &names, &known)
+    let names = names_of(alloc, files)?;
+    image_named(alloc, files, &names)
 }

@@ -25,8 +25,8 @@ use hal_base::Place;
 use hal_code::ImageParts;
 use hal_constants::Known;
 use hal_link::{Unlinked, link};
-use hal_names::Names;
 use hal_object::is_spelled;
+use hal_reach::Units;
 use hal_storage::layout::{Layout, layout_of};
 use hal_storage::sets::{Set, bodies_of};
 use hal_tree::File;
@@ -70,9 +70,14 @@ fn fitting(image: ImageParts) -> Result<ImageParts, Lacking>
     }
 }
 
-/// The image of a set whose tables have room, where it can run; or what the set lacks.
+/// The image of a set with these units whose tables have room, where it can run; or what the set lacks.
 #[tactic(auto, using(crate::proofs::Running::linked_image, crate::proofs::Running::told_there, crate::proofs::Running::told_nowhere))]
-fn image_of_set(alloc: Global, set: &Set<'_>) -> Result<Result<ImageParts, Lacking>, AllocError>
+fn image_of_set(
+    alloc: Global,
+    set: &Set<'_>,
+    units: &Units<'_>,
+) -> Result<Result<ImageParts, Lacking>, AllocError>
+    requires units { seen_names units.now.names.now ≡ (seen_set set.now).phrases }
     requires few_processes { length (meant.processes_of (seen_set set.now).phrases) ≤ 128 }
     requires few_events { length (meant.processes_of (seen_set set.now).phrases) + length (events.declared_events (seen_set set.now).phrases) ≤ 65535 }
     requires laid { seen_layout set.now.layout.now ≡ layouts.layout_of (seen_set set.now).phrases (seen_set set.now).constants }
@@ -80,7 +85,7 @@ fn image_of_set(alloc: Global, set: &Set<'_>) -> Result<Result<ImageParts, Lacki
     requires whole { LinksWholeBy (links.image_of (seen_set set.now) (views.views_of (seen_set set.now))) }
     ensures { IfOk result (Fits (links.image_of (seen_set set.now) (views.views_of (seen_set set.now)))) }
 {
-    match link(alloc, set) {
+    match link(alloc, set, units) {
         Ok(image) => Ok(fitting(image)),
         Err(Unlinked::At(place)) => Ok(Err(Lacking::Code(place))),
         Err(Unlinked::Lost | Unlinked::Wide) => Ok(Err(Lacking::Code(BEGINNING))),
@@ -88,16 +93,16 @@ fn image_of_set(alloc: Global, set: &Set<'_>) -> Result<Result<ImageParts, Lacki
     }
 }
 
-/// The image of files with these names, constants and layout, whose tables have room, where it can run; or what they lack.
+/// The image of files with these units, constants and layout, whose tables have room, where it can run; or what they lack.
 #[tactic(auto, using(crate::proofs::Running::linked_set))]
 fn image_laid(
     alloc: Global,
     files: &[File],
-    names: &Names<'_>,
+    units: &Units<'_>,
     known: &Known,
     layout: &Layout,
 ) -> Result<Result<ImageParts, Lacking>, AllocError>
-    requires names { seen_names names.now ≡ phrases_of (map seen_file files.now) }
+    requires names { seen_names units.now.names.now ≡ phrases_of (map seen_file files.now) }
     requires constants { seen_known known.now ≡ facts.known (phrases_of (map seen_file files.now)) }
     requires within { IsWithin (phrases_of (map seen_file files.now)) (facts.known (phrases_of (map seen_file files.now))) }
     requires layout { seen_layout layout.now ≡ layouts.layout_of (phrases_of (map seen_file files.now)) (facts.known (phrases_of (map seen_file files.now))) }
@@ -105,6 +110,7 @@ fn image_laid(
     requires whole { LinksWhole (map seen_file files.now) }
     ensures { IfOk result (Fits (linked_in (map seen_file files.now))) }
 {
+    let names = units.names();
     let set = Set {
         names,
         known,
@@ -112,27 +118,27 @@ fn image_laid(
         bodies: bodies_of(alloc, files, names)?,
         turns: u32::from(TURN_LIMIT),
     };
-    image_of_set(alloc, &set)
+    image_of_set(alloc, &set, units)
 }
 
-/// The image of files with these names and constants, or what they lack.
+/// The image of files with these units and constants, or what they lack.
 #[tactic(auto, using(crate::proofs::Running::room_for, crate::proofs::Running::image_found, crate::proofs::Running::too_wide))]
 pub(crate) fn image_in(
     alloc: Global,
     files: &[File],
-    names: &Names<'_>,
+    units: &Units<'_>,
     known: &Known,
 ) -> Result<Result<ImageParts, Lacking>, AllocError>
-    requires names { seen_names names.now ≡ phrases_of (map seen_file files.now) }
+    requires names { seen_names units.now.names.now ≡ phrases_of (map seen_file files.now) }
     requires constants { seen_known known.now ≡ facts.known (phrases_of (map seen_file files.now)) }
-    requires counted { IsCounted (seen_names names.now) }
+    requires counted { IsCounted (seen_names units.now.names.now) }
     requires within { IsWithin (phrases_of (map seen_file files.now)) (facts.known (phrases_of (map seen_file files.now))) }
     requires whole { LinksWhole (map seen_file files.now) }
     ensures { IfOk result (IsImageOf (map seen_file files.now)) }
 {
-    let layout = layout_of(alloc, names, known)?;
+    let layout = layout_of(alloc, units, known)?;
     if is_narrow(&layout) {
-        image_laid(alloc, files, names, known, &layout)
+        image_laid(alloc, files, units, known, &layout)
     } else {
         Ok(Err(Lacking::Code(BEGINNING)))
     }

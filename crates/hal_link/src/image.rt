@@ -8,6 +8,7 @@ ghost use Rattle.hal_storage.specs.layout.SeenLayout.{seen_layout};
 ghost use Rattle.hal_storage.specs.referents.FirstCells.{AreFirstCells};
 ghost use Rattle.hal_storage.specs.referents.Referents as naming;
 ghost use Rattle.hal_storage.specs.referents.SeenReferents.{seen_referent};
+ghost use Rattle.hal_names.specs.SeenNames.{seen_names};
 ghost use Rattle.hal_storage.specs.sets.SeenSets.{seen_set};
 ghost use Rattle.hal_meaning.specs.Bodies.{processes_of};
 ghost use Rattle.hal_meaning.specs.Events.{declared_events};
@@ -31,7 +32,7 @@ use crate::unlinked::Unlinked;
 use hal_code::{Block, ImageParts, Instr, Process, Run, View};
 use hal_gen_expr::{Events, FirstPlaces, Site, Views};
 use hal_lock_groups::all_groups;
-use hal_reach::processes_of;
+use hal_reach::{Units, processes_of};
 use hal_storage::events::declared_events;
 use hal_storage::layout::items_of;
 use hal_storage::referents::{FirstCells, Referent, referents_of};
@@ -221,8 +222,9 @@ fn views_in(
     Ok(views)
 }
 
-/// The image of a set of files, or the place of the first phrase that has no code yet (image document, The image of a set).
-pub fn link(alloc: Global, set: &Set<'_>) -> Result<ImageParts, Unlinked>
+/// The image of a set of files with these units, or the place of the first phrase that has no code yet (image document, The image of a set).
+pub fn link(alloc: Global, set: &Set<'_>, units: &Units<'_>) -> Result<ImageParts, Unlinked>
+    requires units { seen_names units.now.names.now ≡ (seen_set set.now).phrases }
     requires few_processes { length (processes_of (seen_set set.now).phrases) ≤ 128 }
     requires few_events { length (processes_of (seen_set set.now).phrases) + length (declared_events (seen_set set.now).phrases) ≤ 65535 }
     requires laid { seen_layout set.now.layout.now ≡ layout_of (seen_set set.now).phrases (seen_set set.now).constants }
@@ -242,9 +244,9 @@ pub fn link(alloc: Global, set: &Set<'_>) -> Result<ImageParts, Unlinked>
     let whole = whole_of(
         alloc, &*set, &referents, &cells, events, &shapes, &unplaced, &unviewed,
     );
-    let outlines = outlines_of(alloc, set, &processes)?;
+    let outlines = outlines_of(alloc, set, units, &processes)?;
     let views = views_in(&whole, &processes, &outlines)?;
-    let groups = all_groups(alloc, set.names, set.known)?;
+    let groups = all_groups(alloc, units, set.known)?;
     let mut code = Vec::new(alloc);
     let mut blocks = Vec::new(alloc);
     link_outlines(&mut code, &mut blocks, &whole, &views, &groups, &outlines)?;

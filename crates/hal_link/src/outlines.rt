@@ -1,6 +1,7 @@
 //! The blocks of processes, and of the units that they call.
 
 ghost use Rattle.std.specs.Prelude.{◌≡◌, ◌≤◌, ◌+◌, ◌++◌, IfOk, OnOk, length, map};
+ghost use Rattle.hal_names.specs.SeenNames.{seen_names};
 ghost use Rattle.hal_storage.specs.sets.SeenSets.{seen_set};
 ghost use Rattle.hal_meaning.specs.Bodies.{processes_of};
 ghost use Rattle.hal_link.specs.Outlines as outlines;
@@ -119,18 +120,19 @@ fn outlines_from(
     Ok(list)
 }
 
-/// The processes of a set of files, whose units have these numbers, and their blocks (image document, The image of a set).
+/// The processes of a set of files with all these units, those whose units have these numbers, and their blocks (image document, The image of a set).
 #[tactic(auto, using(crate::proofs::Ranking::ranks_given))]
 pub(crate) fn outlines_of(
     alloc: Global,
     set: &Set<'_>,
+    all: &Units<'_>,
     units: &[usize],
 ) -> Result<Vec<Outline>, AllocError>
+    requires all { seen_names all.now.names.now ≡ (seen_set set.now).phrases }
     requires few { length units.now ≤ 128 }
     requires units { units.now ≡ processes_of (seen_set set.now).phrases }
     ensures { IfOk result (λ list. map seen_outline list.items ≡ outlines.outlines_of (seen_set set.now)) }
 {
-    let all = Units::of(alloc, set.names)?;
     let reached = all.reached(alloc)?;
     let callers = all.callers(alloc)?;
     let ranks = ranks_of(alloc, &reached, &callers)?;

@@ -9,7 +9,7 @@ ghost use Rattle.hal_lock_groups.specs.Updates as updates;
 use crate::adding::gathered;
 use crate::shared::shared_of;
 use hal_constants::Known;
-use hal_names::Names;
+use hal_reach::Units;
 use std::alloc::{AllocError, Global};
 
 /// The lock groups of the UPDATE block with this number by the list of all: 0 behind its end (language document, Lock groups).
@@ -25,9 +25,9 @@ pub fn groups_at(list: &[u16], update: usize) -> u16
 /// The lock groups of all UPDATE blocks of a set of files, a bit for each, at the numbers of their phrases: 0 at other numbers, and behind the end of the list (language
 /// document, Lock groups).
 #[tactic(auto, using(crate::proofs::Gathering::all_gathered))]
-pub fn all_groups(alloc: Global, names: &Names<'_>, known: &Known) -> Result<Vec<u16>, AllocError>
-    ensures { IfOk result (λ list. updates.AreGroups (seen_names names.now) (seen_known known.now) list.items) }
+pub fn all_groups(alloc: Global, units: &Units<'_>, known: &Known) -> Result<Vec<u16>, AllocError>
+    ensures { IfOk result (λ list. updates.AreGroups (seen_names units.now.names.now) (seen_known known.now) list.items) }
 {
-    let shared = shared_of(alloc, names, known)?;
-    gathered(alloc, names, &shared)
+    let shared = shared_of(alloc, units, known)?;
+    gathered(alloc, units.names(), &shared)
 }

@@ -29,14 +29,15 @@ pub(crate) struct Shared {
 #[tactic(auto, unfolding(crate::specs::Shared::shared_of))]
 pub(crate) fn shared_of(
     alloc: Global,
-    names: &Names<'_>,
+    units: &Units<'_>,
     known: &Known,
 ) -> Result<Shared, AllocError>
-    ensures { IfOk result (λ found. seen_shared found ≡ shared.shared_of (seen_names names.now) (seen_known known.now)) }
+    ensures { IfOk result (λ found. seen_shared found ≡ shared.shared_of (seen_names units.now.names.now) (seen_known known.now)) }
 {
+    let names = units.names();
     let storings = all_storings(alloc, names, known)?;
     let homes = plain_homes(alloc, names, &storings)?;
-    let plain = Units::of(alloc, names)?.reaching_any(alloc, &homes)?;
+    let plain = units.reaching_any(alloc, &homes)?;
     Ok(Shared { storings, plain })
 }
 

@@ -53,11 +53,11 @@ fn barred_homes(alloc: Global, names: &Names<'_>) -> Result<Vec<usize>, AllocErr
 
 /// The numbers of the units that have a phrase of this sort, or reach one by calls that has.
 #[tactic(auto, unfolding(crate::specs::Callees::barred_units))]
-pub(crate) fn barred_units(alloc: Global, names: &Names<'_>) -> Result<Vec<usize>, AllocError>
-    ensures { IfOk result (λ units. units.items ≡ callees.barred_units (seen_names names.now)) }
+pub(crate) fn barred_units(alloc: Global, units: &Units<'_>) -> Result<Vec<usize>, AllocError>
+    ensures { IfOk result (λ barred. barred.items ≡ callees.barred_units (seen_names units.now.names.now)) }
 {
-    let homes = barred_homes(alloc, names)?;
-    Units::of(alloc, names)?.reaching_any(alloc, &homes)
+    let homes = barred_homes(alloc, units.names())?;
+    units.reaching_any(alloc, &homes)
 }
 
 /// Whether a phrase calls one of these units.

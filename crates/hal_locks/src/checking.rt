@@ -4,6 +4,7 @@ ghost use Rattle.std.specs.Prelude.{◌≡◌, IfErr, IfOk, OnOk};
 ghost use Rattle.hal_names.specs.SeenNames.{seen_names};
 ghost use Rattle.hal_scope.specs.Rules.{IsSound};
 ghost use Rattle.hal_constants.specs.Known as facts;
+ghost use Rattle.hal_constants.specs.SeenKnown.{seen_known};
 ghost use Rattle.hal_locks.specs.Callees.{barred_units};
 ghost use Rattle.hal_locks.specs.Rules.{first_with, lock_rows};
 ghost use Rattle.hal_locks.specs.Faults.{IsMislockedBy};
@@ -12,26 +13,31 @@ use crate::callees::barred_units;
 use crate::rules::first_fault;
 use hal_base::{Fault, Place, Refusal, Rule};
 use hal_constants::Known;
-use hal_names::Names;
+use hal_reach::Units;
 use std::alloc::{AllocError, Global};
 
 /// The first rule of locks that a set of files breaks, and where, unless memory is wanting.
-fn found(alloc: Global, names: &Names<'_>) -> Result<Option<(u16, Place)>, AllocError>
-    ensures { IfOk result (λ found. found ≡ first_with (seen_names names.now) (facts.known (seen_names names.now)) (barred_units (seen_names names.now)) (seen_names names.now)) }
+fn found(
+    alloc: Global,
+    units: &Units<'_>,
+    known: &Known,
+) -> Result<Option<(u16, Place)>, AllocError>
+    requires constants { seen_known known.now ≡ facts.known (seen_names units.now.names.now) }
+    ensures { IfOk result (λ found. found ≡ first_with (seen_names units.now.names.now) (facts.known (seen_names units.now.names.now)) (barred_units (seen_names units.now.names.now)) (seen_names units.now.names.now)) }
 {
-    let known = Known::of(alloc, names)?;
-    let units = barred_units(alloc, names)?;
-    Ok(first_fault(names, &known, &units))
+    let barred = barred_units(alloc, units)?;
+    Ok(first_fault(units.names(), known, &barred))
 }
 
-/// Whether a set of files with these names breaks no rule of locks, 801 to 807; or one that is broken, at its place; or want of memory. See
+/// Whether a set of files with these units and constants breaks no rule of locks, 801 to 807; or one that is broken, at its place; or want of memory. See
 /// docs/LANGUAGE.md, "Locks".
 #[tactic(auto, using(crate::proofs::Tables::broken_with))]
-pub fn check_locks(alloc: Global, names: &Names<'_>) -> Result<(), Fault>
-    ensures sound { OnOk result (IsSound lock_rows (seen_names names.now)) }
-    ensures broken { IfErr result (IsMislockedBy (seen_names names.now)) }
+pub fn check_locks(alloc: Global, units: &Units<'_>, known: &Known) -> Result<(), Fault>
+    requires constants { seen_known known.now ≡ facts.known (seen_names units.now.names.now) }
+    ensures sound { OnOk result (IsSound lock_rows (seen_names units.now.names.now)) }
+    ensures broken { IfErr result (IsMislockedBy (seen_names units.now.names.now)) }
 {
-    let first = match found(alloc, names) {
+    let first = match found(alloc, units, known) {
         Ok(first) => first,
         Err(error) => return Err(Fault::Memory(error)),
     };

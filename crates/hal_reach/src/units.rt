@@ -39,6 +39,13 @@ fn units_with(
 }
 
 impl<'a> Units<'a> {
+    /// The names of the set.
+    pub fn names(&self) -> &'a Names<'a>
+        ensures { result.now ≡ self.now.names.now }
+    {
+        self.names
+    }
+
     /// The units of a set, each with those that it calls (language document, Units).
     #[tactic(auto, unfolding(crate::specs::Calls::units_of))]
     pub fn of(alloc: Global, names: &'a Names<'a>) -> Result<Units<'a>, AllocError>

@@ -10,5 +10,5 @@ pub mod layout;
 pub mod own_places;
 pub mod processes;
 pub mod referents;
-pub mod report_names;
+mod report_names;
 pub mod sets;

@@ -63,3 +63,13 @@ sound_with ps none = sound type_rows ps (first_of_all ps ps ∙ none)
 
 pub broken_with : (ps : List Phrase) (rule : ℕ) (place : Place) → first_with ps (known ps) ps ≡ Some (rule, place) → Breaks type_rows ps rule place
 broken_with ps rule place found = broken type_rows ps rule place (first_of_all ps ps ∙ found)
+
+-- the same by the values of the constants, where these are known
+by_values : (ps : List Phrase) (vs : Known) → vs ≡ known ps → first_with ps (known ps) ps ≡ first_with ps vs ps
+by_values ps vs same = ap (λ (ws : Known). first_with ps ws ps) (sym same)
+
+pub sound_by : (ps : List Phrase) (vs : Known) → vs ≡ known ps → first_with ps vs ps ≡ None → IsSound type_rows ps
+sound_by ps vs same none = sound_with ps (by_values ps vs same ∙ none)
+
+pub broken_by : (ps : List Phrase) (vs : Known) (rule : ℕ) (place : Place) → vs ≡ known ps → first_with ps vs ps ≡ Some (rule, place) → Breaks type_rows ps rule place
+broken_by ps vs rule place same found = broken_with ps rule place (by_values ps vs same ∙ found)

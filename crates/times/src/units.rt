@@ -9,7 +9,9 @@ mod texts;
 mod typings;
 
 use crate::asked::{is_asked, number};
+use hal_constants::Known;
 use hal_lexer::tokens;
+use hal_names::Names;
 use hal_parse::parse;
 use hal_scope::resolve;
 use hal_types::check_types;
@@ -51,6 +53,14 @@ fn named_counts_of(alloc: Global, text: &[u8], times: usize) -> (usize, usize) {
     (tokens.as_slice().len(), count)
 }
 
+/// Whether a set of files with these names breaks no rule of types, by the values of its constants.
+fn is_typed(alloc: Global, names: &Names<'_>) -> bool {
+    match Known::of(alloc, names) {
+        Ok(known) => check_types(alloc, names, &known).is_ok(),
+        Err(_) => false,
+    }
+}
+
 /// How many words the text has, and how often of so many times its unit breaks no rule of types; no word where it breaks another one.
 fn typed_counts_of(alloc: Global, text: &[u8], times: usize) -> (usize, usize) {
     let Ok(tokens) = tokens(alloc, text, 0) else {
@@ -64,7 +74,7 @@ fn typed_counts_of(alloc: Global, text: &[u8], times: usize) -> (usize, usize) {
     };
     let mut count = 0usize;
     for _ in 0..times {
-        if check_types(alloc, &names).is_ok() {
+        if is_typed(alloc, &names) {
             count = count.saturating_add(1);
         }
     }

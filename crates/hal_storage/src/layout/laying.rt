@@ -20,7 +20,7 @@ use crate::processes::{first_of, process_names};
 use crate::report_names::{lookups_of, report_names};
 use hal_constants::Known;
 use hal_names::Names;
-use hal_reach::processes_of;
+use hal_reach::{Units, processes_of};
 use std::alloc::{AllocError, Global};
 
 /// The event expressions of a set of files.
@@ -33,16 +33,17 @@ fn expressions_of(alloc: Global, names: &Names<'_>) -> Result<Vec<Stated>, Alloc
     stated_of(alloc, names, &processes, &declared)
 }
 
-/// The layout of a set of files with at most 65,536 cells, 128 processes, and 65,535 processes and declared events (language document, Places,
+/// The layout of the set of files of these units, with at most 65,536 cells, 128 processes, and 65,535 processes and declared events (language document, Places,
 /// Events and Report names).
-pub fn layout_of(alloc: Global, names: &Names<'_>, known: &Known) -> Result<Layout, AllocError>
-    requires counted { IsCounted (seen_names names.now) }
-    requires few_cells { places.cell_count (seen_names names.now) (seen_known known.now) ≤ CELL_LIMIT }
-    requires few_processes { length (bodies.processes_of (seen_names names.now)) ≤ PROCESS_LIMIT }
-    requires few_events { length (bodies.processes_of (seen_names names.now)) + length (meant.declared_events (seen_names names.now)) ≤ 65535 }
-    ensures { IfOk result (λ layout. seen_layout layout ≡ layouts.layout_of (seen_names names.now) (seen_known known.now)) }
+pub fn layout_of(alloc: Global, units: &Units<'_>, known: &Known) -> Result<Layout, AllocError>
+    requires counted { IsCounted (seen_names units.now.names.now) }
+    requires few_cells { places.cell_count (seen_names units.now.names.now) (seen_known known.now) ≤ CELL_LIMIT }
+    requires few_processes { length (bodies.processes_of (seen_names units.now.names.now)) ≤ PROCESS_LIMIT }
+    requires few_events { length (bodies.processes_of (seen_names units.now.names.now)) + length (meant.declared_events (seen_names units.now.names.now)) ≤ 65535 }
+    ensures { IfOk result (λ layout. seen_layout layout ≡ layouts.layout_of (seen_names units.now.names.now) (seen_known known.now)) }
 {
-    let lookups = lookups_of(alloc, names, known)?;
+    let names = units.names();
+    let lookups = lookups_of(alloc, units, known)?;
     let shown = report_names(alloc, names, known, &lookups)?;
     Ok(Layout {
         cells: cells_of(alloc, names, known)?,

@@ -9,7 +9,6 @@ ghost use Rattle.hal_storage.specs.report_names.SeenLookups.{seen_lookups};
 use crate::events::declared_events;
 use crate::own_places::{OwnPlaces, own_places};
 use hal_constants::Known;
-use hal_names::Names;
 use hal_reach::{Reached, Units, processes_of};
 use std::alloc::{AllocError, Global};
 
@@ -26,20 +25,21 @@ pub struct Lookups {
     pub own: OwnPlaces,
 }
 
-/// What rows of this set are looked up in.
+/// What rows of the set of these units are looked up in.
 pub(crate) fn lookups_of(
     alloc: Global,
-    names: &Names<'_>,
+    units: &Units<'_>,
     known: &Known,
 ) -> Result<Lookups, AllocError>
-    ensures { IfOk result (λ lookups. seen_lookups lookups ≡ rows.lookups_of (seen_names names.now) (seen_known known.now)) }
+    ensures { IfOk result (λ lookups. seen_lookups lookups ≡ rows.lookups_of (seen_names units.now.names.now) (seen_known known.now)) }
 {
-    let units = Units::of(alloc, names)?.reached(alloc)?;
+    let names = units.names();
+    let reached = units.reached(alloc)?;
     let processes = processes_of(alloc, names)?;
     let events = declared_events(alloc, names)?;
-    let own = own_places(alloc, names, known, &units, &processes)?;
+    let own = own_places(alloc, names, known, &reached, &processes)?;
     Ok(Lookups {
-        units,
+        units: reached,
         processes,
         events,
         own,
