@@ -1,3 +1,4 @@
+pub mod Meanings
 pub mod Scripts
 pub mod Rows
 pub mod Moments

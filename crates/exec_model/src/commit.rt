@@ -1,9 +1,9 @@
 //! How a step is made of what it changes.
 
 ghost use Rattle.std.specs.Prelude.{◌≡◌, ◌++◌, [], ◌∷◌, OnOk, OnErr, length};
-ghost use Rattle.hal_values.specs.Loads.{meaning_of};
 ghost use Rattle.hal_values.specs.Tables.{process_count};
 ghost use Rattle.exec_model.specs.Drafts.{data_taken, IsLooked};
+ghost use Rattle.exec_model.specs.Meanings.{meaning};
 ghost use Rattle.exec_model.specs.Moments.{moment_of, datum_taken};
 ghost use Rattle.exec_model.specs.Parts.{parts_moment};
 ghost use Rattle.exec_model.specs.Sound.{IsSound};
@@ -86,7 +86,7 @@ pub(crate) fn commit<P: Procs>(
 ) -> Result<(), AllocError>
     requires lists { length (P.answers procs.old) ≡ process_count (P.Of.tables (P.load procs.old)) }
     requires looked { IsLooked (P.looks procs.old) state.old.store parts.closes }
-    requires sound { IsSound (meaning_of P.Of.tables P.Of.next P.Of.block P.Of.own (P.load procs.old)) (parts_moment (moment_of state.old (P.answers procs.old)) parts) }
+    requires sound { IsSound (meaning P.Of.Load (P.load procs.old)) (parts_moment (moment_of state.old (P.answers procs.old)) parts) }
     ensures made { OnOk result (moment_of state.new (P.answers procs.new) ≡ parts_moment (moment_of state.old (P.answers procs.old)) parts) }
     ensures same_state { OnErr result (state.new ≡ state.old) }
     ensures same_answers { OnErr result (P.answers procs.new ≡ P.answers procs.old) }
@@ -124,7 +124,7 @@ pub(crate) fn take_step<P: Procs>(
     requires lists { length (P.answers procs.old) ≡ process_count (P.Of.tables (P.load procs.old)) }
     requires base { draft.base ≡ moment_of state.old (P.answers procs.old) }
     requires looked { IsLooked (P.looks procs.old) state.old.store draft.closes }
-    requires sound { IsSound (meaning_of P.Of.tables P.Of.next P.Of.block P.Of.own (P.load procs.old)) draft.now }
+    requires sound { IsSound (meaning P.Of.Load (P.load procs.old)) draft.now }
     ensures made { OnOk result (moment_of state.new (P.answers procs.new) ≡ draft.now) }
     ensures same_state { OnErr result (state.new ≡ state.old) }
     ensures same_answers { OnErr result (P.answers procs.new ≡ P.answers procs.old) }

@@ -1,9 +1,10 @@
 //! Which steps the events are, and when they may come.
 
 ghost use Rattle.std.specs.Prelude.{◌≡◌, ◌≤◌, ◌↔◌, ℕ, false, IfOk, IfSome, IfNone, OnOk, IsTrue};
-ghost use Rattle.hal_values.specs.Loads.{meaning_of, IsUpdate};
+ghost use Rattle.hal_values.specs.Loads.{IsUpdate};
 ghost use Rattle.exec_model.specs.Drafts.{on, IsLooked};
 ghost use Rattle.exec_model.specs.Events.{IsDrafted};
+ghost use Rattle.exec_model.specs.Meanings.{meaning};
 ghost use Rattle.exec_model.specs.Moments.{moment_of};
 ghost use Rattle.exec_model.specs.Sound.{IsSound};
 ghost use Rattle.exec_model.specs.Steps.{written, block_left, preempted, IsActed, IsAllowed};
@@ -84,8 +85,8 @@ fn drafted_act<P: Procs>(
     lanes: u8,
     process: u8,
 ) -> Result<Option<Draft<P>>, AllocError>
-    requires { IsSound (meaning_of P.Of.tables P.Of.next P.Of.block P.Of.own (P.load procs.old)) (moment_of state.now (P.answers procs.old)) }
-    ensures drafted { IfOk result (IsDrafted (meaning_of P.Of.tables P.Of.next P.Of.block P.Of.own (P.load procs.old)) lanes (moment_of state.now (P.answers procs.old)) (Event.Act process)) }
+    requires { IsSound (meaning P.Of.Load (P.load procs.old)) (moment_of state.now (P.answers procs.old)) }
+    ensures drafted { IfOk result (IsDrafted (meaning P.Of.Load (P.load procs.old)) lanes (moment_of state.now (P.answers procs.old)) (Event.Act process)) }
     ensures closes { IfOk result (λ made. IfSome made (λ draft. draft.closes ≡ None)) }
     ensures same { (P.load procs.new ≡ P.load procs.old) × (P.answers procs.new ≡ P.answers procs.old) }
 {
@@ -115,8 +116,8 @@ fn drafted_open<P: Procs>(
     lanes: u8,
     process: u8,
 ) -> Result<Option<Draft<P>>, AllocError>
-    requires { IsSound (meaning_of P.Of.tables P.Of.next P.Of.block P.Of.own (P.load procs.old)) (moment_of state.now (P.answers procs.old)) }
-    ensures drafted { IfOk result (IsDrafted (meaning_of P.Of.tables P.Of.next P.Of.block P.Of.own (P.load procs.old)) lanes (moment_of state.now (P.answers procs.old)) (Event.Open process)) }
+    requires { IsSound (meaning P.Of.Load (P.load procs.old)) (moment_of state.now (P.answers procs.old)) }
+    ensures drafted { IfOk result (IsDrafted (meaning P.Of.Load (P.load procs.old)) lanes (moment_of state.now (P.answers procs.old)) (Event.Open process)) }
     ensures closes { IfOk result (λ made. IfSome made (λ draft. draft.closes ≡ None)) }
     ensures same { (P.load procs.new ≡ P.load procs.old) × (P.answers procs.new ≡ P.answers procs.old) }
 {
@@ -153,8 +154,8 @@ fn drafted_tick<P: Procs>(
     lanes: u8,
     time: u64,
 ) -> Result<Option<Draft<P>>, AllocError>
-    requires { IsSound (meaning_of P.Of.tables P.Of.next P.Of.block P.Of.own (P.load procs.old)) (moment_of state.now (P.answers procs.old)) }
-    ensures drafted { IfOk result (IsDrafted (meaning_of P.Of.tables P.Of.next P.Of.block P.Of.own (P.load procs.old)) lanes (moment_of state.now (P.answers procs.old)) (Event.Tick time)) }
+    requires { IsSound (meaning P.Of.Load (P.load procs.old)) (moment_of state.now (P.answers procs.old)) }
+    ensures drafted { IfOk result (IsDrafted (meaning P.Of.Load (P.load procs.old)) lanes (moment_of state.now (P.answers procs.old)) (Event.Tick time)) }
     ensures closes { IfOk result (λ made. IfSome made (λ draft. draft.closes ≡ None)) }
     ensures same { (P.load procs.new ≡ P.load procs.old) × (P.answers procs.new ≡ P.answers procs.old) }
 {
@@ -183,8 +184,8 @@ fn drafted_preempt<P: Procs>(
     lanes: u8,
     process: u8,
 ) -> Result<Option<Draft<P>>, AllocError>
-    requires { IsSound (meaning_of P.Of.tables P.Of.next P.Of.block P.Of.own (P.load procs.old)) (moment_of state.now (P.answers procs.old)) }
-    ensures drafted { IfOk result (IsDrafted (meaning_of P.Of.tables P.Of.next P.Of.block P.Of.own (P.load procs.old)) lanes (moment_of state.now (P.answers procs.old)) (Event.Preempt process)) }
+    requires { IsSound (meaning P.Of.Load (P.load procs.old)) (moment_of state.now (P.answers procs.old)) }
+    ensures drafted { IfOk result (IsDrafted (meaning P.Of.Load (P.load procs.old)) lanes (moment_of state.now (P.answers procs.old)) (Event.Preempt process)) }
     ensures closes { IfOk result (λ made. IfSome made (λ draft. draft.closes ≡ None)) }
     ensures same { (P.load procs.new ≡ P.load procs.old) × (P.answers procs.new ≡ P.answers procs.old) }
 {
@@ -208,8 +209,8 @@ fn drafted_block<P: Procs>(
     process: u8,
     turns: u16,
 ) -> Result<Option<Draft<P>>, AllocError>
-    requires { IsSound (meaning_of P.Of.tables P.Of.next P.Of.block P.Of.own (P.load procs.old)) (moment_of state.now (P.answers procs.old)) }
-    ensures drafted { IfOk result (IsDrafted (meaning_of P.Of.tables P.Of.next P.Of.block P.Of.own (P.load procs.old)) lanes (moment_of state.now (P.answers procs.old)) (Event.Block process turns)) }
+    requires { IsSound (meaning P.Of.Load (P.load procs.old)) (moment_of state.now (P.answers procs.old)) }
+    ensures drafted { IfOk result (IsDrafted (meaning P.Of.Load (P.load procs.old)) lanes (moment_of state.now (P.answers procs.old)) (Event.Block process turns)) }
     ensures closes { IfOk result (λ made. IfSome made (λ draft. IsLooked (P.looks procs.new) state.now.store draft.closes)) }
     ensures same { (P.load procs.new ≡ P.load procs.old) × (P.answers procs.new ≡ P.answers procs.old) }
 {
@@ -237,8 +238,8 @@ pub(crate) fn drafted<P: Procs>(
     lanes: u8,
     event: Event,
 ) -> Result<Option<Draft<P>>, AllocError>
-    requires { IsSound (meaning_of P.Of.tables P.Of.next P.Of.block P.Of.own (P.load procs.old)) (moment_of state.now (P.answers procs.old)) }
-    ensures drafted { IfOk result (IsDrafted (meaning_of P.Of.tables P.Of.next P.Of.block P.Of.own (P.load procs.old)) lanes (moment_of state.now (P.answers procs.old)) event) }
+    requires { IsSound (meaning P.Of.Load (P.load procs.old)) (moment_of state.now (P.answers procs.old)) }
+    ensures drafted { IfOk result (IsDrafted (meaning P.Of.Load (P.load procs.old)) lanes (moment_of state.now (P.answers procs.old)) event) }
     ensures looked { IfOk result (λ made. IfSome made (λ draft. IsLooked (P.looks procs.new) state.now.store draft.closes)) }
     ensures same { (P.load procs.new ≡ P.load procs.old) × (P.answers procs.new ≡ P.answers procs.old) }
 {
@@ -273,10 +274,10 @@ pub(crate) fn first_event<P: Procs>(
     state: &State,
     lanes: u8,
 ) -> Result<Option<Event>, AllocError>
-    requires sound { IsSound (meaning_of P.Of.tables P.Of.next P.Of.block P.Of.own (P.load procs.old)) (moment_of state.now (P.answers procs.old)) }
+    requires sound { IsSound (meaning P.Of.Load (P.load procs.old)) (moment_of state.now (P.answers procs.old)) }
     requires lanes { 1 ≤ lanes }
     ensures of_process { IfOk result (λ found. IfSome found IsOfProcess) }
-    ensures found { IfOk result (λ found. IfSome found (IsAllowed (meaning_of P.Of.tables P.Of.next P.Of.block P.Of.own (P.load procs.old)) lanes (moment_of state.now (P.answers procs.old)))) }
+    ensures found { IfOk result (λ found. IfSome found (IsAllowed (meaning P.Of.Load (P.load procs.old)) lanes (moment_of state.now (P.answers procs.old)))) }
     ensures none { IfOk result (λ found. IfNone found ((p : ℕ) → is_ready (row_in state.now.rows p) ≡ false)) }
     ensures same { (P.load procs.new ≡ P.load procs.old) × (P.answers procs.new ≡ P.answers procs.old) }
 {

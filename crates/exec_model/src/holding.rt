@@ -1,9 +1,9 @@
 //! Which lock groups a request touches, and whether another process holds one of them.
 
 ghost use Rattle.std.specs.Prelude.{◌≡◌, ◌≢◌, ◌↔◌, ◌<◌, ◌≤◌, ℕ, IsTrue, IfOk, OnOk, MatchBool, bit_and, length, slice_get};
-ghost use Rattle.hal_values.specs.Loads.{meaning_of};
 ghost use Rattle.hal_values.specs.Tables.{process_count};
 ghost use Rattle.exec_model.specs.Holding.{touch_groups};
+ghost use Rattle.exec_model.specs.Meanings.{meaning};
 ghost use Rattle.exec_model.specs.Moments.{moment_of};
 ghost use Rattle.exec_model.specs.Processes.{NotLower};
 ghost use Rattle.exec_model.specs.Steps.{block_groups, cell_group, touched_groups, IsHolder};
@@ -73,7 +73,7 @@ pub(crate) fn is_held<P: Procs>(
     touch: Touch,
 ) -> Result<bool, AllocError>
     requires { length state.now.rows ≡ process_count (P.Of.tables (P.load procs.old)) }
-    ensures held { IfOk result (λ held. MatchBool held ((o : ℕ) × IsHolder (meaning_of P.Of.tables P.Of.next P.Of.block P.Of.own (P.load procs.old)) (moment_of state.now (P.answers procs.old)) process (touch_groups touch) o) ((o : ℕ) → IsHolder (meaning_of P.Of.tables P.Of.next P.Of.block P.Of.own (P.load procs.old)) (moment_of state.now (P.answers procs.old)) process (touch_groups touch) o → ⊥)) }
+    ensures held { IfOk result (λ held. MatchBool held ((o : ℕ) × IsHolder (meaning P.Of.Load (P.load procs.old)) (moment_of state.now (P.answers procs.old)) process (touch_groups touch) o) ((o : ℕ) → IsHolder (meaning P.Of.Load (P.load procs.old)) (moment_of state.now (P.answers procs.old)) process (touch_groups touch) o → ⊥)) }
     ensures same { (P.load procs.new ≡ P.load procs.old) × (P.answers procs.new ≡ P.answers procs.old) }
 {
     let rows = state.rows.as_slice();

@@ -1,6 +1,6 @@
 ghost use Rattle.std.specs.Prelude.{◌≡◌, ◌++◌, ◌∷◌, [], IfOk, OnErr, MatchBool};
 ghost use Rattle.std.specs.Bool.{OnTrue, OnFalse};
-ghost use Rattle.hal_values.specs.Loads.{meaning_of};
+ghost use Rattle.exec_model.specs.Meanings.{meaning};
 ghost use Rattle.exec_model.specs.Moments.{moment_of};
 ghost use Rattle.exec_model.specs.Running.{IsSame};
 ghost use Rattle.exec_model.specs.Sound.{IsSound, KeepsClock};
@@ -47,13 +47,13 @@ impl<P: Procs + Drop> Model for Plain<P> {
 
     ghost Value = { Running P };
 
+    ghost use Rattle.exec_model.specs.Meanings.{meaning};
     ghost use Rattle.exec_model.specs.Moments.{moment_of};
     ghost use Rattle.exec_model.specs.Running.{IsRunning};
-    ghost use Rattle.hal_values.specs.Loads.{meaning_of};
 
     ghost view = { λ plain. record { procs = plain.procs; state = plain.state; journal = plain.journal; lanes = plain.lanes } };
 
-    ghost invariant = { λ plain. IsRunning (meaning_of P.Of.tables P.Of.next P.Of.block P.Of.own (P.load plain.procs)) (moment_of plain.state (P.answers plain.procs)) plain.lanes };
+    ghost invariant = { λ plain. IsRunning (meaning P.Of.Load (P.load plain.procs)) (moment_of plain.state (P.answers plain.procs)) plain.lanes };
 }
 
 /// Makes the step of an event, if it may come, and writes the event down; or leaves all as it is.
@@ -65,10 +65,10 @@ fn make_step<P: Procs>(
     lanes: u8,
     event: Event,
 ) -> Result<bool, AllocError>
-    requires sound { IsSound (meaning_of P.Of.tables P.Of.next P.Of.block P.Of.own (P.load procs.old)) (moment_of state.old (P.answers procs.old)) }
+    requires sound { IsSound (meaning P.Of.Load (P.load procs.old)) (moment_of state.old (P.answers procs.old)) }
     requires clock { KeepsClock (moment_of state.old (P.answers procs.old)) event }
-    ensures allowed { IfOk result (λ made. MatchBool made (IsAllowed (meaning_of P.Of.tables P.Of.next P.Of.block P.Of.own (P.load procs.old)) lanes (moment_of state.old (P.answers procs.old)) event) (IsAllowed (meaning_of P.Of.tables P.Of.next P.Of.block P.Of.own (P.load procs.old)) lanes (moment_of state.old (P.answers procs.old)) event → ⊥)) }
-    ensures made { IfOk result (λ made. OnTrue made (moment_of state.new (P.answers procs.new) ≡ stepped (meaning_of P.Of.tables P.Of.next P.Of.block P.Of.own (P.load procs.old)) (moment_of state.old (P.answers procs.old)) event)) }
+    ensures allowed { IfOk result (λ made. MatchBool made (IsAllowed (meaning P.Of.Load (P.load procs.old)) lanes (moment_of state.old (P.answers procs.old)) event) (IsAllowed (meaning P.Of.Load (P.load procs.old)) lanes (moment_of state.old (P.answers procs.old)) event → ⊥)) }
+    ensures made { IfOk result (λ made. OnTrue made (moment_of state.new (P.answers procs.new) ≡ stepped (meaning P.Of.Load (P.load procs.old)) (moment_of state.old (P.answers procs.old)) event)) }
     ensures written { IfOk result (λ made. OnTrue made (journal.new ≡ journal.old ++ event ∷ [])) }
     ensures not_made { IfOk result (λ made. OnFalse made (IsSame state.old (P.answers procs.old) journal.old state.new (P.answers procs.new) journal.new)) }
     ensures refused { OnErr result (IsSame state.old (P.answers procs.old) journal.old state.new (P.answers procs.new) journal.new) }
@@ -90,8 +90,8 @@ impl<P: Procs + Drop> Plain<P> {
     ghost use Rattle.std.specs.Prelude.{◌≡◌, ◌≤◌, ◌↔◌, ◌++◌, ◌∷◌, [], IsTrue, IfOk, IfSome, IsNone, OnErr, replicate};
     ghost use Rattle.std.specs.Bool.{OnTrue, OnFalse};
     ghost use Rattle.hal_base.specs.declared.limits.TheConstants.{LANE_LIMIT};
-    ghost use Rattle.hal_values.specs.Loads.{meaning_of};
     ghost use Rattle.hal_values.specs.Tables.{process_count};
+    ghost use Rattle.exec_model.specs.Meanings.{meaning};
     ghost use Rattle.exec_model.specs.Opening.{opening};
     ghost use Rattle.exec_model.specs.Running.{running_moment, IsUnmoved};
     ghost use Rattle.exec_model.specs.Runs.{IsOfProcess, IsQuiet};
@@ -130,8 +130,8 @@ impl<P: Procs + Drop> Plain<P> {
     /// Tick has to keep the clock within the sum that scripts may have.
     pub fn step(&mut self, event: Event) -> Result<bool, AllocError>
         requires { KeepsClock (running_moment P.answers self.old) event }
-        ensures allowed { IfOk result (λ made. IsTrue made ↔ IsAllowed (meaning_of P.Of.tables P.Of.next P.Of.block P.Of.own (P.load self.old.procs)) self.old.lanes (running_moment P.answers self.old) event) }
-        ensures made { IfOk result (λ made. OnTrue made (running_moment P.answers self.new ≡ stepped (meaning_of P.Of.tables P.Of.next P.Of.block P.Of.own (P.load self.old.procs)) (running_moment P.answers self.old) event)) }
+        ensures allowed { IfOk result (λ made. IsTrue made ↔ IsAllowed (meaning P.Of.Load (P.load self.old.procs)) self.old.lanes (running_moment P.answers self.old) event) }
+        ensures made { IfOk result (λ made. OnTrue made (running_moment P.answers self.new ≡ stepped (meaning P.Of.Load (P.load self.old.procs)) (running_moment P.answers self.old) event)) }
         ensures written { IfOk result (λ made. OnTrue made (self.new.journal ≡ self.old.journal ++ event ∷ [])) }
         ensures not_made { IfOk result (λ made. OnFalse made (IsUnmoved P.answers self.old self.new)) }
         ensures refused { OnErr result (IsUnmoved P.answers self.old self.new) }
@@ -152,7 +152,7 @@ impl<P: Procs + Drop> Plain<P> {
     /// An event Act, Open or Block that may come now, or None where no row is Ready.
     pub fn next_event(&mut self) -> Result<Option<Event>, AllocError>
         ensures of_process { IfOk result (λ found. IfSome found IsOfProcess) }
-        ensures found { IfOk result (λ found. IfSome found (IsAllowed (meaning_of P.Of.tables P.Of.next P.Of.block P.Of.own (P.load self.old.procs)) self.old.lanes (running_moment P.answers self.old))) }
+        ensures found { IfOk result (λ found. IfSome found (IsAllowed (meaning P.Of.Load (P.load self.old.procs)) self.old.lanes (running_moment P.answers self.old))) }
         ensures none { IfOk result (λ found. IsNone found ↔ IsQuiet (running_moment P.answers self.old)) }
         ensures same { IsUnmoved P.answers self.old self.new }
         ensures load { P.load self.new.procs ≡ P.load self.old.procs }

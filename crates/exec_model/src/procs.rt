@@ -1,9 +1,10 @@
 ghost use Rattle.std.specs.Prelude.{◌≡◌, ◌≢◌, ℕ, ◌+◌, ◌-◌, ◌<◌, ◌≤◌, List, Option, Some, None, slice_index, IfOk, IfSome, OnOk, OnErr, IsSomeAnd};
 ghost use Rattle.hal_values.specs.Answers.{Answered};
-ghost use Rattle.hal_values.specs.Loads.{meaning_of, FitsNext, IsUpdate};
+ghost use Rattle.hal_values.specs.Loads.{FitsNext, IsUpdate};
 ghost use Rattle.hal_values.specs.Requests.{HasProcess};
 ghost use Rattle.hal_values.specs.Tables.{IsSnapshot};
 ghost use Rattle.hal_values.specs.declared.value.Value.{Value};
+ghost use Rattle.exec_model.specs.Meanings.{meaning};
 ghost use Rattle.exec_model.specs.Processes.{Look, look_at, told_answer, SameLooksBut, SameRoomsBut, HasRooms, NotLower};
 ghost use Rattle.exec_model.specs.Moments.{answers_in, pushed_answer};
 
@@ -69,7 +70,7 @@ pub trait Procs {
     fn tell(&mut self, process: u8, answer: Answer)
         requires exists { HasProcess (Self.Of.tables (load self.old)) process }
         requires room { 0 < slice_index (rooms self.old) process }
-        requires fits { IsSomeAnd (told_answer (look_at (looks self.old) process) answer) (λ given. FitsNext (meaning_of Self.Of.tables Self.Of.next Self.Of.block Self.Of.own (load self.old)) process (answers_in (answers self.old) process) given) }
+        requires fits { IsSomeAnd (told_answer (look_at (looks self.old) process) answer) (λ given. FitsNext (meaning Self.Of.Load (load self.old)) process (answers_in (answers self.old) process) given) }
         ensures told { IfSome (told_answer (look_at (looks self.old) process) answer) (λ given. answers self.new ≡ pushed_answer (answers self.old) process given) }
         ensures load { load self.new ≡ load self.old }
         ensures room { slice_index (rooms self.new) process + 1 ≡ slice_index (rooms self.old) process }

@@ -1,7 +1,7 @@
 ghost use Rattle.std.specs.Prelude.{ℕ, List};
-ghost use Rattle.hal_values.specs.Loads.{meaning_of};
 ghost use Rattle.exec_model.specs.declared.event.Event.{Event};
 ghost use Rattle.exec_model.specs.declared.script.ScriptLine.{ScriptLine};
+ghost use Rattle.exec_model.specs.Meanings.{meaning};
 ghost use Rattle.exec_model.specs.Moments.{Moment};
 ghost use Rattle.exec_model.specs.Opening.{opening};
 ghost use Rattle.exec_model.specs.Sound.{IsStamped};
@@ -13,6 +13,6 @@ use hal_values::Load;
 /// same stamp. So the order of the Ready rows is decided by marks, priorities and stamps alone.
 pub fn ready_rows_have_stamps_of_their_own<Q: Load>(load: &Q)
     ensures { (script : List ScriptLine) (lanes : ℕ) (journal : List Event) (m : Moment)
-        → Steps (meaning_of Q.tables Q.next Q.block Q.own load.now) lanes (opening (Q.tables load.now) script) journal m
+        → Steps (meaning Q.Load load.now) lanes (opening (Q.tables load.now) script) journal m
         → IsStamped m }
 {}

@@ -1,10 +1,11 @@
 //! How processes are told their answers.
 
 ghost use Rattle.std.specs.Prelude.{◌≡◌, ◌+◌, ◌<◌, ◌↔◌, IsTrue, count_by, slice_index, length};
-ghost use Rattle.hal_values.specs.Loads.{meaning_of, FitsNext};
+ghost use Rattle.hal_values.specs.Loads.{FitsNext};
 ghost use Rattle.hal_values.specs.Requests.{HasProcess};
 ghost use Rattle.hal_values.specs.Tables.{process_count};
 ghost use Rattle.exec_model.specs.Drafts.{reply_answer, told_all, closed_first, IsLooked};
+ghost use Rattle.exec_model.specs.Meanings.{meaning};
 ghost use Rattle.exec_model.specs.Moments.{answers_in, pushed_answer};
 ghost use Rattle.exec_model.specs.Processes.{SameRoomsBut, HasRooms};
 ghost use Rattle.exec_model.specs.Telling.{FitOne, FitTold, FitClosed, HasRoomFor, LowersByOne, LowersFor, TellsFew, is_for};
@@ -17,7 +18,7 @@ use hal_values::{Answer, Value};
 fn tell_reply<P: Procs>(procs: &mut P, process: u8, reply: &Reply)
     requires exists { HasProcess (P.Of.tables (P.load procs.old)) process }
     requires room { 0 < slice_index (P.rooms procs.old) process }
-    requires fits { FitsNext (meaning_of P.Of.tables P.Of.next P.Of.block P.Of.own (P.load procs.old)) process (answers_in (P.answers procs.old) process) (reply_answer reply.now) }
+    requires fits { FitsNext (meaning P.Of.Load (P.load procs.old)) process (answers_in (P.answers procs.old) process) (reply_answer reply.now) }
     ensures told { P.answers procs.new ≡ pushed_answer (P.answers procs.old) process (reply_answer reply.now) }
     ensures load { P.load procs.new ≡ P.load procs.old }
     ensures room { slice_index (P.rooms procs.new) process + 1 ≡ slice_index (P.rooms procs.old) process }
@@ -36,7 +37,7 @@ fn tell_reply<P: Procs>(procs: &mut P, process: u8, reply: &Reply)
 /// was done over.
 pub(crate) fn tell_closed<P: Procs>(procs: &mut P, store: &[Value], closes: Option<(u8, u16)>)
     requires looked { IsLooked (P.looks procs.old) store.now closes }
-    requires fits { FitClosed (meaning_of P.Of.tables P.Of.next P.Of.block P.Of.own (P.load procs.old)) store.now (P.answers procs.old) closes }
+    requires fits { FitClosed (meaning P.Of.Load (P.load procs.old)) store.now (P.answers procs.old) closes }
     requires room { HasRooms (P.Of.tables (P.load procs.old)) (P.rooms procs.old) }
     requires lists { length (P.answers procs.old) ≡ process_count (P.Of.tables (P.load procs.old)) }
     ensures told { P.answers procs.new ≡ closed_first store.now closes (P.answers procs.old) }
@@ -55,7 +56,7 @@ pub(crate) fn tell_closed<P: Procs>(procs: &mut P, store: &[Value], closes: Opti
 /// Tells a process an answer; there is nothing to be told to a process that doesn't exist.
 fn tell_one<P: Procs>(procs: &mut P, given: &Told)
     requires lists { length (P.answers procs.old) ≡ process_count (P.Of.tables (P.load procs.old)) }
-    requires fits { FitOne (meaning_of P.Of.tables P.Of.next P.Of.block P.Of.own (P.load procs.old)) (P.answers procs.old) given.now }
+    requires fits { FitOne (meaning P.Of.Load (P.load procs.old)) (P.answers procs.old) given.now }
     requires room { HasProcess (P.Of.tables (P.load procs.old)) given.now.process → 0 < slice_index (P.rooms procs.old) given.now.process }
     ensures told { P.answers procs.new ≡ pushed_answer (P.answers procs.old) given.now.process (reply_answer given.now.reply) }
     ensures load { P.load procs.new ≡ P.load procs.old }
@@ -69,7 +70,7 @@ fn tell_one<P: Procs>(procs: &mut P, given: &Told)
 /// Tells the processes their answers, one after another.
 pub(crate) fn tell_all<P: Procs>(procs: &mut P, told: &[Told])
     requires lists { length (P.answers procs.old) ≡ process_count (P.Of.tables (P.load procs.old)) }
-    requires fit { FitTold (meaning_of P.Of.tables P.Of.next P.Of.block P.Of.own (P.load procs.old)) (P.answers procs.old) told.now }
+    requires fit { FitTold (meaning P.Of.Load (P.load procs.old)) (P.answers procs.old) told.now }
     requires room { HasRoomFor (P.Of.tables (P.load procs.old)) (P.rooms procs.old) told.now }
     ensures told { P.answers procs.new ≡ told_all (P.answers procs.old) told.now }
     ensures load { P.load procs.new ≡ P.load procs.old }

@@ -4,12 +4,12 @@ ghost use Rattle.std.specs.Prelude.{◌≡◌, ◌++◌, ◌<◌, [], ℕ, List,
 ghost use Rattle.std.specs.List.{range_with_len};
 ghost use Rattle.std.specs.String.{string_bytes};
 ghost use Rattle.hal_values.specs.declared.tables.ReportName.{ReportName};
-ghost use Rattle.hal_values.specs.Loads.{meaning_of};
 ghost use Rattle.hal_values.specs.Tables.{process_count};
 ghost use Rattle.exec_model.specs.declared.status.End.{End};
 ghost use Rattle.exec_model.specs.Effects.{bit_value};
 ghost use Rattle.exec_model.specs.Moments.{moment_of, event_in};
 ghost use Rattle.hal_values.specs.ReportElements.{elements};
+ghost use Rattle.exec_model.specs.Meanings.{meaning};
 ghost use Rattle.exec_model.specs.Report.{how_text, end_line, live_line, value_lines, own_values, report, process_name};
 ghost use Rattle.exec_model.specs.Rows.{is_active, row_in};
 ghost use Rattle.exec_model.specs.Running.{running_moment};
@@ -130,8 +130,8 @@ pub fn report_text<P: Procs + Drop>(
     owns: Vec<Listing<Value>>,
 ) -> Result<Vec<u8>, AllocError>
     requires names { AreArrays (P.Of.tables (P.load plain.now.procs)).names }
-    requires owns { owns.items ≡ own_values (meaning_of P.Of.tables P.Of.next P.Of.block P.Of.own (P.load plain.now.procs)) (running_moment P.answers plain.now) }
-    ensures { IfOk result (λ text. text.items ≡ report (meaning_of P.Of.tables P.Of.next P.Of.block P.Of.own (P.load plain.now.procs)) (running_moment P.answers plain.now)) }
+    requires owns { owns.items ≡ own_values (meaning P.Of.Load (P.load plain.now.procs)) (running_moment P.answers plain.now) }
+    ensures { IfOk result (λ text. text.items ≡ report (meaning P.Of.Load (P.load plain.now.procs)) (running_moment P.answers plain.now)) }
 {
     let tables = plain.procs().tables();
     let state = plain.state();

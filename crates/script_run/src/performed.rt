@@ -1,7 +1,7 @@
 ghost use Rattle.std.specs.Prelude.{◌≡◌, [], ℕ, IfOk, map, replicate};
 ghost use Rattle.std.specs.List.{range_with_len};
-ghost use Rattle.hal_values.specs.Loads.{meaning_of};
 ghost use Rattle.hal_values.specs.Tables.{process_count};
+ghost use Rattle.exec_model.specs.Meanings.{meaning};
 ghost use Rattle.exec_model.specs.Moments.{answers_in};
 ghost use Rattle.exec_model.specs.Running.{running_moment};
 ghost use Rattle.exec_model.specs.Runs.{IsRunTo};
@@ -39,7 +39,7 @@ pub fn played<P: Procs + Drop>(
     script: &Script,
 ) -> Result<Plain<P>, AllocError>
     requires { P.answers procs ≡ replicate (process_count (P.Of.tables (P.load procs))) [] }
-    ensures run { IfOk result (λ plain. IsRunTo (meaning_of P.Of.tables P.Of.next P.Of.block P.Of.own (P.load procs)) script.now 1 plain.journal (running_moment P.answers plain)) }
+    ensures run { IfOk result (λ plain. IsRunTo (meaning P.Of.Load (P.load procs)) script.now 1 plain.journal (running_moment P.answers plain)) }
     ensures load { IfOk result (λ plain. P.load plain.procs ≡ P.load procs) }
 {
     let mut plain = Plain::start(alloc, procs, script, 1)?;
@@ -66,7 +66,7 @@ pub fn play<P: Owners + Drop>(
 ) -> Result<Performed, AllocError>
     requires names { AreArrays (P.Of.tables (P.load procs)).names }
     requires fresh { P.answers procs ≡ replicate (process_count (P.Of.tables (P.load procs))) [] }
-    ensures { IfOk result (λ performed. Performs (meaning_of P.Of.tables P.Of.next P.Of.block P.Of.own (P.load procs)) script.now performed.journal performed.report.items) }
+    ensures { IfOk result (λ performed. Performs (meaning P.Of.Load (P.load procs)) script.now performed.journal performed.report.items) }
 {
     let plain = played(alloc, procs, script)?;
     let owns = owns_of(alloc, plain.procs())?;

@@ -2,8 +2,8 @@
 
 ghost use Rattle.std.specs.Prelude.{◌≡◌, ◌≢◌, ◌<◌, ◌≤◌, ◌+◌, ◌↔◌, ◌++◌, ◌∷◌, ℕ, [], Some, slice_get, sum_by, IfSome, IfNone, OnOk, IsTrue};
 ghost use Rattle.hal_base.specs.declared.limits.TheConstants.{PROCESS_LIMIT, TICK_SUM_LIMIT};
-ghost use Rattle.hal_values.specs.Loads.{meaning_of};
 ghost use Rattle.hal_values.specs.Tables.{process_count};
+ghost use Rattle.exec_model.specs.Meanings.{meaning};
 ghost use Rattle.exec_model.specs.Opening.{opening};
 ghost use Rattle.exec_model.specs.Running.{running_moment};
 ghost use Rattle.exec_model.specs.Runs.{IsLowestNamed, IsUnknown, IsRunTo};
@@ -18,9 +18,9 @@ use std::alloc::AllocError;
 
 /// Makes the step of an event that may come.
 fn make<P: Procs + Drop>(plain: &mut Plain<P>, event: Event) -> Result<(), AllocError>
-    requires allowed { IsAllowed (meaning_of P.Of.tables P.Of.next P.Of.block P.Of.own (P.load plain.old.procs)) plain.old.lanes (running_moment P.answers plain.old) event }
+    requires allowed { IsAllowed (meaning P.Of.Load (P.load plain.old.procs)) plain.old.lanes (running_moment P.answers plain.old) event }
     requires clock { KeepsClock (running_moment P.answers plain.old) event }
-    ensures made { OnOk result (running_moment P.answers plain.new ≡ stepped (meaning_of P.Of.tables P.Of.next P.Of.block P.Of.own (P.load plain.old.procs)) (running_moment P.answers plain.old) event) }
+    ensures made { OnOk result (running_moment P.answers plain.new ≡ stepped (meaning P.Of.Load (P.load plain.old.procs)) (running_moment P.answers plain.old) event) }
     ensures written { OnOk result (plain.new.journal ≡ plain.old.journal ++ event ∷ []) }
     ensures load { P.load plain.new.procs ≡ P.load plain.old.procs }
     ensures lanes { plain.new.lanes ≡ plain.old.lanes }
@@ -31,7 +31,7 @@ fn make<P: Procs + Drop>(plain: &mut Plain<P>, event: Event) -> Result<(), Alloc
 
 /// Makes at most `count` events of processes, and fewer only where no process is Ready any more.
 fn run_events<P: Procs + Drop>(plain: &mut Plain<P>, count: u32) -> Result<(), AllocError>
-    ensures made { OnOk result (Continues (meaning_of P.Of.tables P.Of.next P.Of.block P.Of.own (P.load plain.old.procs)) plain.old.lanes (running_moment P.answers plain.old) count plain.old.journal plain.new.journal (running_moment P.answers plain.new)) }
+    ensures made { OnOk result (Continues (meaning P.Of.Load (P.load plain.old.procs)) plain.old.lanes (running_moment P.answers plain.old) count plain.old.journal plain.new.journal (running_moment P.answers plain.new)) }
     ensures load { P.load plain.new.procs ≡ P.load plain.old.procs }
     ensures lanes { plain.new.lanes ≡ plain.old.lanes }
 {
@@ -47,7 +47,7 @@ fn run_events<P: Procs + Drop>(plain: &mut Plain<P>, count: u32) -> Result<(), A
 /// Lets the clock go on.
 fn tick<P: Procs + Drop>(plain: &mut Plain<P>, time: u64) -> Result<(), AllocError>
     requires { plain.old.state.clock + time ≤ TICK_SUM_LIMIT }
-    ensures made { OnOk result (RunsLine (meaning_of P.Of.tables P.Of.next P.Of.block P.Of.own (P.load plain.old.procs)) plain.old.lanes (running_moment P.answers plain.old) (ScriptLine.Tick time) plain.old.journal plain.new.journal (running_moment P.answers plain.new)) }
+    ensures made { OnOk result (RunsLine (meaning P.Of.Load (P.load plain.old.procs)) plain.old.lanes (running_moment P.answers plain.old) (ScriptLine.Tick time) plain.old.journal plain.new.journal (running_moment P.answers plain.new)) }
     ensures load { P.load plain.new.procs ≡ P.load plain.old.procs }
     ensures lanes { plain.new.lanes ≡ plain.old.lanes }
 {
@@ -88,7 +88,7 @@ fn named(tables: &Tables, name: &[u8]) -> Option<u8>
 
 /// The process of this name gives way, if there is one.
 fn preempt<P: Procs + Drop>(plain: &mut Plain<P>, name: &[u8]) -> Result<(), AllocError>
-    ensures made { OnOk result (RunsLine (meaning_of P.Of.tables P.Of.next P.Of.block P.Of.own (P.load plain.old.procs)) plain.old.lanes (running_moment P.answers plain.old) (ScriptLine.Preempt name.now) plain.old.journal plain.new.journal (running_moment P.answers plain.new)) }
+    ensures made { OnOk result (RunsLine (meaning P.Of.Load (P.load plain.old.procs)) plain.old.lanes (running_moment P.answers plain.old) (ScriptLine.Preempt name.now) plain.old.journal plain.new.journal (running_moment P.answers plain.new)) }
     ensures load { P.load plain.new.procs ≡ P.load plain.old.procs }
     ensures lanes { plain.new.lanes ≡ plain.old.lanes }
 {
@@ -102,7 +102,7 @@ fn preempt<P: Procs + Drop>(plain: &mut Plain<P>, name: &[u8]) -> Result<(), All
 /// Makes the events of a script line.
 fn run_line<P: Procs + Drop>(plain: &mut Plain<P>, line: &ScriptLine) -> Result<(), AllocError>
     requires { plain.old.state.clock + asked_time line.now ≤ TICK_SUM_LIMIT }
-    ensures made { OnOk result (RunsLine (meaning_of P.Of.tables P.Of.next P.Of.block P.Of.own (P.load plain.old.procs)) plain.old.lanes (running_moment P.answers plain.old) line.now plain.old.journal plain.new.journal (running_moment P.answers plain.new)) }
+    ensures made { OnOk result (RunsLine (meaning P.Of.Load (P.load plain.old.procs)) plain.old.lanes (running_moment P.answers plain.old) line.now plain.old.journal plain.new.journal (running_moment P.answers plain.new)) }
     ensures load { P.load plain.new.procs ≡ P.load plain.old.procs }
     ensures lanes { plain.new.lanes ≡ plain.old.lanes }
 {
@@ -117,7 +117,7 @@ fn run_line<P: Procs + Drop>(plain: &mut Plain<P>, line: &ScriptLine) -> Result<
 /// Makes the events of script lines.
 fn run_lines<P: Procs + Drop>(plain: &mut Plain<P>, lines: &[ScriptLine]) -> Result<(), AllocError>
     requires { plain.old.state.clock + sum_by asked_time lines.now ≤ TICK_SUM_LIMIT }
-    ensures made { OnOk result (RunsLines (meaning_of P.Of.tables P.Of.next P.Of.block P.Of.own (P.load plain.old.procs)) plain.old.lanes (running_moment P.answers plain.old) lines.now plain.old.journal plain.new.journal (running_moment P.answers plain.new)) }
+    ensures made { OnOk result (RunsLines (meaning P.Of.Load (P.load plain.old.procs)) plain.old.lanes (running_moment P.answers plain.old) lines.now plain.old.journal plain.new.journal (running_moment P.answers plain.new)) }
     ensures load { P.load plain.new.procs ≡ P.load plain.old.procs }
     ensures lanes { plain.new.lanes ≡ plain.old.lanes }
 {
@@ -142,8 +142,8 @@ fn has_no_open_block(rows: &[Row]) -> bool
 /// The open UPDATE blocks are done, one after another, in the order of the Ready rows.
 fn complete_blocks<P: Procs + Drop>(plain: &mut Plain<P>) -> Result<(), AllocError>
     requires one_lane { plain.old.lanes ≡ 1 }
-    requires sound { IsSound (meaning_of P.Of.tables P.Of.next P.Of.block P.Of.own (P.load plain.old.procs)) (running_moment P.answers plain.old) }
-    ensures made { OnOk result (RunsBlocks (meaning_of P.Of.tables P.Of.next P.Of.block P.Of.own (P.load plain.old.procs)) (running_moment P.answers plain.old) plain.old.journal plain.new.journal (running_moment P.answers plain.new)) }
+    requires sound { IsSound (meaning P.Of.Load (P.load plain.old.procs)) (running_moment P.answers plain.old) }
+    ensures made { OnOk result (RunsBlocks (meaning P.Of.Load (P.load plain.old.procs)) (running_moment P.answers plain.old) plain.old.journal plain.new.journal (running_moment P.answers plain.new)) }
     ensures load { P.load plain.new.procs ≡ P.load plain.old.procs }
     ensures lanes { plain.new.lanes ≡ plain.old.lanes }
 {
@@ -168,7 +168,7 @@ pub(crate) fn run_script<P: Procs + Drop>(
     requires fresh { plain.old.journal ≡ [] }
     requires opening { running_moment P.answers plain.old ≡ opening (P.Of.tables (P.load plain.old.procs)) script.now }
     requires one_lane { plain.old.lanes ≡ 1 }
-    ensures run { OnOk result (IsRunTo (meaning_of P.Of.tables P.Of.next P.Of.block P.Of.own (P.load plain.old.procs)) script.now 1 plain.new.journal (running_moment P.answers plain.new)) }
+    ensures run { OnOk result (IsRunTo (meaning P.Of.Load (P.load plain.old.procs)) script.now 1 plain.new.journal (running_moment P.answers plain.new)) }
     ensures load { P.load plain.new.procs ≡ P.load plain.old.procs }
     ensures lanes { plain.new.lanes ≡ plain.old.lanes }
 {

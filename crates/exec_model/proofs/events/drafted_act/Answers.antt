@@ -1,9 +1,10 @@
 use Rattle.std.proofs.Common.{◌≡◌, ℕ, List, ap, sym, subst, ◌∙◌}
 use Rattle.hal_values.specs.Answers.{Answered}
-use Rattle.hal_values.specs.Loads.{Meaning, meaning_of}
+use Rattle.hal_values.specs.Loads.{Meaning}
 use Rattle.exec_model.specs.declared.row.Row.{Row}
 use Rattle.exec_model.specs.Drafts.{Drafted, on, unchanged}
 use Rattle.exec_model.specs.Holding.{touch_groups}
+use Rattle.exec_model.specs.Meanings.{meaning}
 use Rattle.exec_model.specs.Moments.{Moment, moment_of}
 use Rattle.exec_model.specs.Order.{IsInFirst}
 use Rattle.exec_model.specs.Rows.{row_in}
@@ -14,7 +15,7 @@ use Rattle.exec_model.proofs.events.drafted_act.Goals as goal
 
 pub returns-clause-drafted : goal.returns-clause-drafted
 returns-clause-drafted g c =
-    let q : Meaning = meaning_of g.P.Of.Load.tables g.P.Of.Load.next g.P.Of.Load.block g.P.Of.Load.own (g.P.Procs.load c.args.procs.now) in
+    let q : Meaning = meaning g.P.Of.Load (g.P.Procs.load c.args.procs.now) in
     let m : Moment = moment_of c.args.state.now (g.P.Procs.answers c.args.procs.now) in
     let p = c.args.process in
     let load = c.is_held.ensures.same.0 ∙ c.ask.ensures.same.0 in
@@ -24,7 +25,7 @@ returns-clause-drafted g c =
     ∙ ap (λ t. touched_groups t c.in_ok-request.request) (c.tables.ensures ∙ ap g.P.Of.Load.tables c.ask.ensures.same.0)
     ∙ ap (touched_groups q.tables) c.in_ok-request.ensures.asked in
     let held = not_held _ _ c.in_ok-is_held.field-0 c.in_ok-is_held.ensures.held c.if-branch.false in
-    let free = subst (λ l. (o : ℕ) → IsHolder (meaning_of g.P.Of.Load.tables g.P.Of.Load.next g.P.Of.Load.block g.P.Of.Load.own l) (moment_of c.args.state.now (g.P.Procs.answers c.ask.new.self)) p (touch_groups c.touch_of-touch.result) o → ⊥) c.ask.ensures.same.0 held in
+    let free = subst (λ l. (o : ℕ) → IsHolder (meaning g.P.Of.Load l) (moment_of c.args.state.now (g.P.Procs.answers c.ask.new.self)) p (touch_groups c.touch_of-touch.result) o → ⊥) c.ask.ensures.same.0 held in
     let free_then = subst (λ (a : List (List Answered)). (o : ℕ) → IsHolder q (moment_of c.args.state.now a) p (touch_groups c.touch_of-touch.result) o → ⊥) c.ask.ensures.same.1 free in
     let fresh : c.in_ok-draft.draft ≡ unchanged m = c.in_ok-draft.ensures ∙ ap (λ (a : List (List Answered)). unchanged (moment_of c.args.state.now a)) answers in
     let made : c.act.new.draft ≡ on (λ n. event_done q m (event.Act p)) (unchanged m) =

@@ -1,10 +1,11 @@
 use Rattle.std.proofs.Common.{◌≡◌, List, Some, ap, sym, subst, ◌∙◌}
 use Rattle.hal_values.specs.declared.value.Value.{Value}
 use Rattle.hal_values.specs.Answers.{Answered}
-use Rattle.hal_values.specs.Loads.{Meaning, meaning_of}
+use Rattle.hal_values.specs.Loads.{Meaning}
 use Rattle.exec_model.specs.declared.event.Event.TheVariants as event
 use Rattle.exec_model.specs.declared.row.Row.{Row}
 use Rattle.exec_model.specs.Drafts.{Drafted, on, closing_of}
+use Rattle.exec_model.specs.Meanings.{meaning}
 use Rattle.exec_model.specs.Moments.{Moment, moment_of}
 use Rattle.exec_model.specs.Order.{IsInFirst}
 use Rattle.exec_model.specs.Rows.{row_in}
@@ -14,7 +15,7 @@ use Rattle.exec_model.proofs.events.drafted_block.Goals as goal
 
 pub returns-then-branch-turns-clause-drafted : goal.returns-then-branch-turns-clause-drafted
 returns-then-branch-turns-clause-drafted g c = λ can.
-    let q : Meaning = meaning_of g.P.Of.Load.tables g.P.Of.Load.next g.P.Of.Load.block g.P.Of.Load.own (g.P.Procs.load c.args.procs.now) in
+    let q : Meaning = meaning g.P.Of.Load (g.P.Procs.load c.args.procs.now) in
     let m : Moment = moment_of c.args.state.now (g.P.Procs.answers c.args.procs.now) in
     let found : block_of q m c.args.process c.in_ok-block.field-0 ≡ Some c.block.new.writes.items =
     ap (λ (store : List Value). q.block c.args.process (Rattle.exec_model.specs.Moments.answers_of m c.args.process) store c.in_ok-block.field-0) (sym c.as_slice.ensures) ∙ c.in_ok-block.ensures.found in
@@ -22,7 +23,7 @@ returns-then-branch-turns-clause-drafted g c = λ can.
 
 pub returns-clause-drafted : goal.returns-clause-drafted
 returns-clause-drafted g c =
-    let q : Meaning = meaning_of g.P.Of.Load.tables g.P.Of.Load.next g.P.Of.Load.block g.P.Of.Load.own (g.P.Procs.load c.args.procs.now) in
+    let q : Meaning = meaning g.P.Of.Load (g.P.Procs.load c.args.procs.now) in
     let m : Moment = moment_of c.args.state.now (g.P.Procs.answers c.args.procs.now) in
     let p = c.args.process in
     let load = c.block.ensures.same.0 in

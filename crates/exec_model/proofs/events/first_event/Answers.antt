@@ -1,8 +1,9 @@
 use Rattle.std.proofs.Common.{◌≡◌, false, List, IfSome, ap, sym, subst, ◌∙◌}
 use Rattle.std.proofs.lemmas.Bool.{true≢false}
-use Rattle.hal_values.specs.Loads.{Meaning, meaning_of, IsUpdate}
+use Rattle.hal_values.specs.Loads.{Meaning, IsUpdate}
 use Rattle.hal_values.specs.Requests.{HasProcess}
 use Rattle.exec_model.specs.declared.row.Row.{Row}
+use Rattle.exec_model.specs.Meanings.{meaning}
 use Rattle.exec_model.specs.Moments.{Moment, moment_of, row_of}
 use Rattle.exec_model.specs.Order.{IsInFirst}
 use Rattle.exec_model.specs.Rows.{row_in}
@@ -12,7 +13,7 @@ use Rattle.exec_model.proofs.events.first_event.Goals as goal
 
 pub returns-then-is_update-clause-found : goal.returns-then-is_update-clause-found
 returns-then-is_update-clause-found g c =
-    let q : Meaning = meaning_of g.P.Of.Load.tables g.P.Of.Load.next g.P.Of.Load.block g.P.Of.Load.own (g.P.Procs.load c.args.procs.now) in
+    let q : Meaning = meaning g.P.Of.Load (g.P.Procs.load c.args.procs.now) in
     let m : Moment = moment_of c.args.state.now (g.P.Procs.answers c.args.procs.now) in
     let found : IsInFirst 1 c.as_slice-rows.result.now c.in-Some.process = subst (λ o. IfSome o (IsInFirst 1 c.as_slice-rows.result.now)) c.in-Some.is c.in_ok-process.ensures.found in
     let early : IsInFirst 1 m.rows c.in-Some.process = subst (λ (rows : List Row). IsInFirst 1 rows c.in-Some.process) c.as_slice-rows.ensures found in
@@ -22,7 +23,7 @@ returns-then-is_update-clause-found g c =
 
 pub returns-clause-found : goal.returns-clause-found
 returns-clause-found g c =
-    let q : Meaning = meaning_of g.P.Of.Load.tables g.P.Of.Load.next g.P.Of.Load.block g.P.Of.Load.own (g.P.Procs.load c.args.procs.now) in
+    let q : Meaning = meaning g.P.Of.Load (g.P.Procs.load c.args.procs.now) in
     let m : Moment = moment_of c.args.state.now (g.P.Procs.answers c.args.procs.now) in
     let found : IsInFirst 1 c.as_slice-rows.result.now c.in-Some.process = subst (λ o. IfSome o (IsInFirst 1 c.as_slice-rows.result.now)) c.in-Some.is c.in_ok-process.ensures.found in
     let early : IsInFirst 1 m.rows c.in-Some.process = subst (λ (rows : List Row). IsInFirst 1 rows c.in-Some.process) c.as_slice-rows.ensures found in
