@@ -13,5 +13,6 @@ mod Tests
 mod Tables
 mod Casing
 mod Counted
+mod Spinning
 mod Jumped
 mod Passing

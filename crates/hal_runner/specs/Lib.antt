@@ -5,6 +5,7 @@ pub mod Ways
 pub mod Runners
 pub mod Quick
 pub mod Turns
+pub mod Bare
 pub mod Calls
 pub mod Prepared
 pub mod Loading

@@ -3,6 +3,7 @@
 
 mod acting;
 mod answering;
+mod bare_loops;
 mod calling;
 mod cases;
 mod choosing;
