@@ -1,6 +1,7 @@
 //! The words of HAL/S: what a word is, and which words a file has. The definitions stand in `specs/`.
 #![tactic(auto)]
 
+mod bounded;
 mod boxed_literal;
 mod literal;
 mod name;
