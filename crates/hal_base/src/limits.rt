@@ -46,7 +46,7 @@ pub const TICK_LIMIT: u64 = 1_000_000_000;
 pub const TICK_SUM_LIMIT: u64 = 2_000_000_000_000;
 
 /// How many bytes a name has at most.
-pub const NAME_LIMIT: u32 = 32;
+pub const NAME_LIMIT: usize = 32;
 
 /// How many channels there are; they are counted from 0.
 pub const CHANNEL_COUNT: u8 = 32;
@@ -55,7 +55,25 @@ pub const CHANNEL_COUNT: u8 = 32;
 pub const BIT_LIMIT: u8 = 32;
 
 /// How many bytes a text has at most.
-pub const CHARACTER_LIMIT: u8 = 255;
+pub const CHARACTER_LIMIT: usize = 255;
 
 /// How many bytes the items of one WRITE give at most, the blank before each counted.
-pub const LINE_LIMIT: u32 = 1_000;
+pub const LINE_LIMIT: usize = 1_000;
+
+/// How many places a dimension of an array has at most, and how many copies a structure.
+pub const SIZE_LIMIT: u16 = 32_767;
+
+/// The least INTEGER SINGLE.
+pub const SINGLE_LEAST: i32 = -32_768;
+
+/// The greatest INTEGER SINGLE.
+pub const SINGLE_MOST: i32 = 32_767;
+
+/// How many turns an UPDATE block has at most.
+pub const TURN_LIMIT: u16 = 65_535;
+
+/// The greatest priority; the least is 0.
+pub const PRIORITY_LIMIT: i32 = 255;
+
+/// The greatest group and the greatest number of an error; the least is 1.
+pub const ERROR_LIMIT: u32 = 255;
