@@ -7,7 +7,9 @@ ghost use Rattle.hal_values.specs.Tables.{event_count};
 ghost use Rattle.exec_rows.specs.Checks.{is_between, is_kind, is_of_kind, is_cell, is_postfix, are_few, are_tables, is_time, has_expression, has_process, has_event, is_write, has_spot, is_when, is_cycle, is_guard, is_plan, is_pause, is_plain, is_written, is_ask, are_cycles};
 
 use crate::scripted::Ask;
-use hal_base::{CELL_LIMIT, EVENT_LIMIT, PROCESS_LIMIT};
+use hal_base::{
+    BIT_LIMIT, CELL_LIMIT, EVENT_LIMIT, PROCESS_LIMIT, SINGLE_LEAST, SINGLE_MOST, TURN_LIMIT,
+};
 use hal_values::{
     Cell, Cycle, Guard, Item, Kind, Listing, Pause, Plan, Request, Spot, Tables, Value, When,
 };
@@ -15,15 +17,12 @@ use hal_values::{
 /// The time limit either way, in milliseconds.
 const TIME_LIMIT: u64 = 2_147_483_648_000;
 
-/// How many turns an UPDATE block has at most.
-const TURN_LIMIT: u32 = 65_535;
-
 fn is_right_kind(kind: Kind) -> bool
     ensures { result ≡ is_kind kind }
 {
     match kind {
         Kind::Single | Kind::Double => true,
-        Kind::Bits(n) => 1 <= n && n <= 32,
+        Kind::Bits(n) => 1 <= n && n <= BIT_LIMIT,
         Kind::Text(n) => 1 <= n,
     }
 }
@@ -45,7 +44,7 @@ fn is_right_value(kind: Kind, value: &Value) -> bool
     ensures { result ≡ is_of_kind kind value.now }
 {
     match (kind, value) {
-        (Kind::Single, Value::Int(number)) => -32_768 <= *number && *number <= 32_767,
+        (Kind::Single, Value::Int(number)) => SINGLE_LEAST <= *number && *number <= SINGLE_MOST,
         (Kind::Double, Value::Int(number)) => is_double(*number),
         (Kind::Bits(n), Value::Bits { len, word }) => *len == n && has_bits(*word, n),
         (Kind::Text(n), Value::Text(text)) => text.bytes().len() <= usize::from(n),
@@ -264,7 +263,7 @@ fn are_right_writes(tables: &Tables, writes: &[(u16, Value)]) -> bool
 fn are_few_turns(turns: u16) -> bool
     ensures { result ≡ nat_le turns turn_limit }
 {
-    u32::from(turns) <= TURN_LIMIT
+    turns <= TURN_LIMIT
 }
 
 fn is_right_ask(tables: &Tables, ask: &Ask) -> bool

@@ -12,6 +12,7 @@ ghost use Rattle.hal_calls.specs.Faults.{IsMiscalledBy, IsOfNoProgram};
 use crate::contended::contended_units;
 use crate::programs::has_program;
 use crate::rules::first_fault;
+use hal_base::rules::NO_PROGRAM;
 use hal_base::{Fault, Place, Refusal, Rule};
 use hal_names::Names;
 use hal_reach::Units;
@@ -26,7 +27,7 @@ pub fn check_program(names: &Names<'_>) -> Result<(), Fault>
         return Ok(());
     }
     Err(Fault::Broken(Refusal {
-        rule: Rule(905),
+        rule: Rule(NO_PROGRAM),
         place: Place {
             unit: 0,
             line: 1,

@@ -8,6 +8,9 @@ ghost use Rattle.hal_calls.specs.Rules as table;
 use crate::blocks::{lone_among, named_among};
 use crate::placed::{misplaced, nested};
 use hal_base::Place;
+use hal_base::rules::{
+    MISPLACED_TASK, NESTED_ON_ERROR, RECURSIVE_BLOCK, SHARED_BLOCK_NOT_REENTRANT,
+};
 use hal_names::Names;
 use hal_phrases::Phrase;
 use hal_scope::ruled;
@@ -22,10 +25,10 @@ fn fault(
 ) -> Option<(u16, Place)>
     ensures { result ≡ table.fault_with (seen_names names.now) recursive.now contended.now (seen_phrase phrase.now) }
 {
-    let later = ruled(904, misplaced(names, phrase));
-    let later = ruled(903, nested(phrase)).or(later);
-    let later = ruled(902, lone_among(contended, phrase)).or(later);
-    ruled(901, named_among(recursive, phrase)).or(later)
+    let later = ruled(MISPLACED_TASK, misplaced(names, phrase));
+    let later = ruled(NESTED_ON_ERROR, nested(phrase)).or(later);
+    let later = ruled(SHARED_BLOCK_NOT_REENTRANT, lone_among(contended, phrase)).or(later);
+    ruled(RECURSIVE_BLOCK, named_among(recursive, phrase)).or(later)
 }
 
 /// The first one that one of the phrases breaks, and where.

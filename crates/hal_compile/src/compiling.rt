@@ -11,6 +11,7 @@ ghost use Rattle.hal_compile.specs.Compiling.{Compiles, FilesBreakBy, IsOfMemory
 
 use crate::lacking::Lacking;
 use crate::linking::{BEGINNING, image_in};
+use hal_base::rules::{NO_IMAGE, TOO_MANY_CELLS};
 use hal_base::{Fault, Place, Refusal, Rule};
 use hal_calls::{check_calls, check_program};
 use hal_code::ImageParts;
@@ -26,18 +27,12 @@ use hal_tree::File;
 use hal_types::check_types;
 use std::alloc::Global;
 
-/// The rule that a set without an image breaks.
-const UNCOMPILED: Rule = Rule(410);
-
-/// The rule that a set breaks that has too many cells.
-const CELLS: Rule = Rule(951);
-
 /// Rule 951, broken at the beginning of the set.
 fn overfull() -> Fault
     ensures { IsToldOfCells result }
 {
     Fault::Broken(Refusal {
-        rule: CELLS,
+        rule: Rule(TOO_MANY_CELLS),
         place: BEGINNING,
     })
 }
@@ -47,7 +42,7 @@ fn uncompiled(place: Place) -> Fault
     ensures { IsToldAt place result }
 {
     Fault::Broken(Refusal {
-        rule: UNCOMPILED,
+        rule: Rule(NO_IMAGE),
         place,
     })
 }

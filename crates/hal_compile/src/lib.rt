@@ -12,5 +12,4 @@ mod texts;
 
 pub use faults::image_fault;
 pub use laws::{a_set_has_one_meaning, a_set_with_a_meaning_breaks_nothing};
-pub use linking::TURN_LIMIT;
 pub use texts::image_of_texts;

@@ -21,7 +21,7 @@ ghost use Rattle.hal_compile.specs.Compiling.{Fits, IsImageOf};
 
 use crate::fitness::is_narrow;
 use crate::lacking::Lacking;
-use hal_base::Place;
+use hal_base::{Place, TURN_LIMIT};
 use hal_code::ImageParts;
 use hal_constants::Known;
 use hal_link::{Unlinked, link};
@@ -32,9 +32,6 @@ use hal_storage::sets::{Set, bodies_of};
 use hal_tree::File;
 use hal_verify::spread_kept;
 use std::alloc::{AllocError, Global};
-
-/// How many turns an UPDATE block has at most.
-pub const TURN_LIMIT: u16 = 65_535;
 
 /// The beginning of a set.
 pub(crate) const BEGINNING: Place = Place {

@@ -10,21 +10,19 @@ ghost use Rattle.hal_compile.specs.Texts.{BreakBy, IsOverfull, MakesImage};
 use crate::compiling::image_of;
 use crate::linking::BEGINNING;
 use crate::reading::{FilesRead, readings_of};
+use hal_base::rules::TOO_MANY_WORDS_IN_SET;
 use hal_base::{Fault, Refusal, Rule, TOKEN_SUM_LIMIT};
 use hal_code::ImageParts;
 use hal_right_images::images::an_image_of_checked_texts_is_whole;
 use hal_tree::File;
 use std::alloc::Global;
 
-/// The rule that a set with too many words breaks.
-const OVERFULL: Rule = Rule(953);
-
 /// Rule 953, broken by the set.
 fn overfull() -> Fault
     ensures { IsOverfull result }
 {
     Fault::Broken(Refusal {
-        rule: OVERFULL,
+        rule: Rule(TOO_MANY_WORDS_IN_SET),
         place: BEGINNING,
     })
 }

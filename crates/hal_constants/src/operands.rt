@@ -4,6 +4,7 @@ ghost use Rattle.std.specs.Prelude.{◌≡◌, IsTrue};
 ghost use Rattle.hal_operations.specs.Operands.{HasComponents, IsStorable, Takes, TakesBoth};
 ghost use Rattle.hal_constants.specs.Operands as operands;
 
+use hal_base::{BIT_LIMIT, CHARACTER_LIMIT};
 use hal_operations::{Op1, Op2};
 use hal_values::{Kind, Value};
 
@@ -11,7 +12,7 @@ use hal_values::{Kind, Value};
 fn is_string(len: u8, word: u32) -> bool
     ensures { result ≡ operands.is_string len word }
 {
-    1 <= len && len <= 32 && u64::from(word) < 2u64.pow(u32::from(len))
+    1 <= len && len <= BIT_LIMIT && u64::from(word) < 2u64.pow(u32::from(len))
 }
 
 fn takes_integer(op: Op1) -> bool
@@ -109,10 +110,10 @@ pub fn is_storable(kind: Kind, value: &Value) -> bool
         (Kind::Single, Value::Int(_)) => true,
         (Kind::Double, Value::Int(_)) => true,
         (Kind::Bits(n), Value::Bits { len, word }) => {
-            1 <= n && (n <= 32 && is_string(*len, *word))
+            1 <= n && (n <= BIT_LIMIT && is_string(*len, *word))
         }
-        (Kind::Text(n), Value::Int(_)) => 1 <= n && u16::from(n) <= 255,
-        (Kind::Text(n), Value::Text(_)) => 1 <= n && u16::from(n) <= 255,
+        (Kind::Text(n), Value::Int(_)) => 1 <= n && usize::from(n) <= CHARACTER_LIMIT,
+        (Kind::Text(n), Value::Text(_)) => 1 <= n && usize::from(n) <= CHARACTER_LIMIT,
         _ => false,
     }
 }

@@ -15,6 +15,7 @@ use crate::constants::{constant_of, signed};
 use crate::known::Known;
 use crate::naming::{constant_named, is_value_item, literal_constant};
 use crate::operands::is_storable;
+use hal_base::{BIT_LIMIT, CHARACTER_LIMIT};
 use hal_kinds::{constant_of as constant_values, is_marked};
 use hal_names::Names;
 use hal_operations::fit;
@@ -64,11 +65,17 @@ pub fn kind_of(
         Type::Boolean { place: _ } => Some(Kind::Bits(1)),
         Type::Event { place: _ } => Some(Kind::Bits(1)),
         Type::Bit { place: _, size } => {
-            let len = size_of(32, &constant_of(size, names, known, phrase))?;
+            let len = size_of(
+                u16::from(BIT_LIMIT),
+                &constant_of(size, names, known, phrase),
+            )?;
             Some(Kind::Bits(len as u8))
         }
         Type::Character { place: _, size } => {
-            let len = size_of(255, &constant_of(size, names, known, phrase))?;
+            let len = size_of(
+                CHARACTER_LIMIT as u16,
+                &constant_of(size, names, known, phrase),
+            )?;
             Some(Kind::Text(len as u8))
         }
         Type::Structure { .. } => None,

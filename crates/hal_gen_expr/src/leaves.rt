@@ -142,7 +142,7 @@ fn raised_to(literal: LiteralValue) -> Option<Instr>
     match literal {
         LiteralValue::Integer(number) => integer_instr(number),
         LiteralValue::Text(text) => {
-            if text.bytes().len() <= usize::from(CHARACTER_LIMIT) {
+            if text.bytes().len() <= CHARACTER_LIMIT {
                 Some(Instr::Int(0))
             } else {
                 None

@@ -4,6 +4,7 @@ ghost use Rattle.std.specs.Prelude.{◌≡◌, IsTrue};
 ghost use Rattle.hal_operations.specs.Operands.{HasComponents, Takes, TakesBoth};
 ghost use Rattle.hal_constants.specs.Operands as operands;
 
+use hal_base::BIT_LIMIT;
 use hal_operations::{Op1, Op2};
 use hal_values::Value;
 
@@ -11,7 +12,7 @@ use hal_values::Value;
 fn is_string(len: u8, word: u32) -> bool
     ensures { result ≡ operands.is_string len word }
 {
-    1 <= len && len <= 32 && u64::from(word) < 2u64.pow(u32::from(len))
+    1 <= len && len <= BIT_LIMIT && u64::from(word) < 2u64.pow(u32::from(len))
 }
 
 fn takes_integer(op: Op1) -> bool

@@ -13,7 +13,8 @@ use crate::falling::{fallen_all, filled};
 use crate::laying::laid;
 use crate::repetition::count_of_all;
 use crate::suiting::{initials_fault, missigned_initial};
-use hal_base::Place;
+use hal_base::rules::WRONG_NUMBER_OF_INITIAL_VALUES;
+use hal_base::{CELL_LIMIT, Place};
 use hal_constants::{Known, kind_of_item};
 use hal_kinds::{class_of_type, constant_of, initial_of};
 use hal_names::Names;
@@ -63,7 +64,7 @@ fn spread(
     let Some(cells) = cells else {
         return Ok(None);
     };
-    if count_of_all(values) != cells || 65536 < cells {
+    if count_of_all(values) != cells || u128::from(CELL_LIMIT) < cells {
         return Ok(None);
     }
     let laid = laid(alloc, names, known, structure, parts)?;
@@ -180,7 +181,7 @@ fn counted(
 {
     let cells = cells_of_item(names, known, phrase, common, item);
     ruled(
-        706,
+        WRONG_NUMBER_OF_INITIAL_VALUES,
         miscounted(item.name.place, count_of_all(values), cells),
     )
 }

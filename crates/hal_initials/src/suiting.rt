@@ -11,6 +11,7 @@ ghost use Rattle.hal_constants.specs.SeenKnown.{seen_known};
 ghost use Rattle.hal_initials.specs.Suiting as suiting;
 
 use hal_base::Place;
+use hal_base::rules::{NOT_CONSTANT, WRONG_KIND_OF_OPERAND};
 use hal_constants::{Constant, Known, constant_of, is_storable, signed_literal, signed_name};
 use hal_kinds::{Class, chosen, class_in, class_of, class_of_literal, data_named};
 use hal_names::Names;
@@ -65,10 +66,10 @@ fn value_fault(
     ensures { result ≡ suiting.value_fault wanted kind place class constant.now }
 {
     if !takes(wanted, class) {
-        return Some((702, place));
+        return Some((WRONG_KIND_OF_OPERAND, place));
     }
     if overflows(kind, constant) {
-        Some((704, place))
+        Some((NOT_CONSTANT, place))
     } else {
         None
     }

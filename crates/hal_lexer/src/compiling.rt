@@ -23,6 +23,7 @@ use crate::compiled::Compiled;
 use crate::definitions::Definitions;
 use crate::frames::{Frames, Part};
 use crate::text_words::next_word;
+use hal_base::rules::RECURSIVE_REPLACEMENT;
 use hal_base::{Fault, Place};
 use hal_pieces::broken;
 use hal_words::{Name, Word};
@@ -91,7 +92,7 @@ fn open<'a>(
     ensures broken { IfErr result (λ fault. IsMemory fault ⊎ ((is_among (names_of frames.old) name ≡ true) × IsBrokenAt 205 place fault)) }
 {
     if frames.has(&name) {
-        return Err(broken(205, place));
+        return Err(broken(RECURSIVE_REPLACEMENT, place));
     }
     let part = Part {
         rest: text,

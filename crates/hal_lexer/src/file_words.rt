@@ -14,6 +14,7 @@ use crate::replacing::Replacements;
 use crate::temporaries::misplaced;
 use crate::text_words::word_of;
 use crate::token_list::Tokens;
+use hal_base::rules::{MALFORMED_REPLACE, MISPLACED_TEMPORARY, REPLACE_PARAMETERS_LEFT_OUT};
 use hal_base::{Fault, Place};
 use hal_pieces::{Item, Piece, broken};
 use hal_words::{Name, Reserved, Symbol, Word};
@@ -29,7 +30,7 @@ pub(crate) fn words<'a>(alloc: Global, items: &[Item<'a>]) -> Result<Tokens, Fau
 {
     let tokens = replaced_words(alloc, items)?;
     if let Some(place) = misplaced(tokens.as_slice()) {
-        return Err(broken(324, place));
+        return Err(broken(MISPLACED_TEMPORARY, place));
     }
     Ok(tokens)
 }
@@ -159,8 +160,9 @@ fn formless(behind: &[Item]) -> u16
     ensures { result ≡ formless (map seen_item behind.now) }
 {
     match behind {
-        [first, second, ..] if are_parameters(&first.piece, &second.piece) => 313,
-        _ => 207,
+        [first, second, ..] if are_parameters(&first.piece, &second.piece) =>
+            REPLACE_PARAMETERS_LEFT_OUT,
+        _ => MALFORMED_REPLACE,
     }
 }
 

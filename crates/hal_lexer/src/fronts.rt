@@ -8,6 +8,7 @@ ghost use Rattle.hal_pieces.specs.Seen.{seen};
 ghost use Rattle.hal_lexer.specs.Texts.{IsText, IsNoMark};
 
 use hal_base::Rule;
+use hal_base::rules::UNENDED_LITERAL_OR_COMMENT;
 use hal_pieces::{Piece, comment_end, first_piece, is_blank};
 
 /// The piece that the text goes on with, behind blanks and comments, and what follows it. None where no
@@ -28,7 +29,7 @@ pub(crate) fn front(text: &[u8]) -> Option<(Piece<'_>, &[u8])>
         } else if begins_comment(rest) {
             let inside = without(rest, 2);
             let Some(size) = comment_end(inside) else {
-                return Some((Piece::Wrong(Rule(202)), &[]));
+                return Some((Piece::Wrong(Rule(UNENDED_LITERAL_OR_COMMENT)), &[]));
             };
             rest = without(inside, size);
         } else {

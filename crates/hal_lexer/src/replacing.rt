@@ -26,6 +26,7 @@ use crate::text_words::is_replace;
 use crate::token_list::Tokens;
 use crate::walk::Walk;
 use crate::writing::write_given;
+use hal_base::rules::MALFORMED_REPLACE;
 use hal_base::{Fault, Place};
 use hal_pieces::broken;
 use hal_words::{Name, Word};
@@ -85,7 +86,7 @@ impl<'a> Replacements<'a> {
             return self.put_name(alloc, tokens, name, place);
         }
         if is_replace(&word) {
-            return Err(broken(207, place));
+            return Err(broken(MALFORMED_REPLACE, place));
         }
         tokens.push(word, place)
     }

@@ -13,6 +13,7 @@ ghost use Rattle.hal_lexer.specs.Opened.{IsSpoilt};
 ghost use Rattle.hal_lexer.specs.Texts.{IsNoMark, IsText};
 
 use crate::fronts::front;
+use hal_base::rules::{MALFORMED_INCLUDE, MALFORMED_REPLACE, STRAY_BYTE};
 use hal_base::{Fault, Place};
 use hal_pieces::{Piece, broken};
 use hal_words::{BoxedLiteral, Literal, Reserved, Word};
@@ -26,7 +27,7 @@ pub(crate) fn word_of(alloc: Global, piece: &Piece, place: Place) -> Result<Word
     match piece {
         Piece::Word(word) => word.copy(alloc).map_err(Fault::Memory),
         Piece::Text(literal) => text(alloc, literal).map_err(Fault::Memory),
-        Piece::Replacement(_) | Piece::Open => Err(broken(201, place)),
+        Piece::Replacement(_) | Piece::Open => Err(broken(STRAY_BYTE, place)),
         Piece::Wrong(rule) => Err(broken(rule.0, place)),
     }
 }
@@ -46,7 +47,7 @@ fn word_of_text(alloc: Global, piece: &Piece, place: Place) -> Result<Word, Faul
 {
     match piece {
         Piece::Word(Word::Reserved(Reserved::Include)) => {
-            Err(broken(103, Place { column: 1, ..place }))
+            Err(broken(MALFORMED_INCLUDE, Place { column: 1, ..place }))
         }
         _ => word_of(alloc, piece, place),
     }
@@ -79,7 +80,7 @@ pub(crate) fn next_word(
     };
     let word = word_of_text(alloc, &piece, place)?;
     if is_replace(&word) {
-        return Err(broken(207, place));
+        return Err(broken(MALFORMED_REPLACE, place));
     }
     Ok(Some((word, rest)))
 }

@@ -1,3 +1,4 @@
+use hal_base::rules::TOO_MANY_WORDS_IN_UNIT;
 use hal_base::{Fault, Place, TOKEN_LIMIT};
 use hal_pieces::broken;
 use hal_words::{Token, Word};
@@ -54,7 +55,7 @@ impl Tokens {
             Explains (map word_item self.old ++ item (Is word) place ∷ rest) fault) }
     {
         if self.items.len() >= TOKEN_LIMIT as usize {
-            return Err(broken(206, place));
+            return Err(broken(TOO_MANY_WORDS_IN_UNIT, place));
         }
         if self.items.push(Token { word, place }).is_err() {
             return Err(Fault::Memory(AllocError));

@@ -7,6 +7,7 @@ ghost use Rattle.hal_limits.specs.Limits.{IsBeyondBy, IsWithin, Tells};
 
 use crate::cells::cell_count;
 use crate::reached::view_cells;
+use hal_base::rules::{TOO_MANY_CELLS, TOO_MANY_EVENTS, TOO_MANY_PROCESSES};
 use hal_base::{CELL_LIMIT, EVENT_LIMIT, Fault, PROCESS_LIMIT, Place, Refusal, Rule};
 use hal_constants::Known;
 use hal_names::Names;
@@ -22,16 +23,16 @@ fn broken(alloc: Global, names: &Names<'_>, known: &Known) -> Result<Option<u16>
     ensures { IfOk result (Tells (seen_names names.now) (seen_known known.now)) }
 {
     if CELL_LIMIT < cell_count(alloc, names, known)? {
-        return Ok(Some(951));
+        return Ok(Some(TOO_MANY_CELLS));
     }
     if VIEW_LIMIT < view_cells(alloc, names, known)? {
-        return Ok(Some(951));
+        return Ok(Some(TOO_MANY_CELLS));
     }
     if (PROCESS_LIMIT as usize) < processes_of(alloc, names)?.len() {
-        return Ok(Some(952));
+        return Ok(Some(TOO_MANY_PROCESSES));
     }
     if (EVENT_LIMIT as usize) < declared_events(alloc, names)?.len() {
-        return Ok(Some(954));
+        return Ok(Some(TOO_MANY_EVENTS));
     }
     Ok(None)
 }

@@ -12,6 +12,10 @@ use crate::passed::mispassed;
 use crate::placed::misplaced;
 use crate::updates::{nested, returned, unheld};
 use hal_base::Place;
+use hal_base::rules::{
+    BARRED_CALL_IN_UPDATE, BARRED_IN_UPDATE, LOCK_DATA_OUTSIDE_UPDATE, LOCK_DATA_PASSED,
+    MISPLACED_LOCK, NESTED_UPDATE, RETURN_IN_UPDATE,
+};
 use hal_constants::Known;
 use hal_names::Names;
 use hal_phrases::Phrase;
@@ -26,13 +30,13 @@ fn fault(
 ) -> Option<(u16, Place)>
     ensures { result ≡ table.fault_with (seen_names names.now) (seen_known known.now) units.now (seen_phrase phrase.now) }
 {
-    let later = ruled(807, returned(phrase));
-    let later = ruled(806, mispassed(names, phrase)).or(later);
-    let later = ruled(805, misplaced(names, known, phrase)).or(later);
-    let later = ruled(804, misled(names, units, phrase)).or(later);
-    let later = ruled(803, barred_within(names, phrase)).or(later);
-    let later = ruled(802, nested(phrase)).or(later);
-    ruled(801, unheld(names, phrase)).or(later)
+    let later = ruled(RETURN_IN_UPDATE, returned(phrase));
+    let later = ruled(LOCK_DATA_PASSED, mispassed(names, phrase)).or(later);
+    let later = ruled(MISPLACED_LOCK, misplaced(names, known, phrase)).or(later);
+    let later = ruled(BARRED_CALL_IN_UPDATE, misled(names, units, phrase)).or(later);
+    let later = ruled(BARRED_IN_UPDATE, barred_within(names, phrase)).or(later);
+    let later = ruled(NESTED_UPDATE, nested(phrase)).or(later);
+    ruled(LOCK_DATA_OUTSIDE_UPDATE, unheld(names, phrase)).or(later)
 }
 
 /// The first rule of locks that one of the phrases breaks, and where.

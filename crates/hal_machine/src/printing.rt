@@ -14,6 +14,7 @@ ghost use Rattle.hal_machine.specs.Seen.{core_seen, stack_seen, setting_seen, st
 
 use crate::machine::{Machine, Setting};
 use crate::step::{Rest, Stepped, Wait};
+use hal_base::LINE_LIMIT;
 use hal_operations::{Op1, apply1};
 use hal_values::{ErrNo, Line, Request, Text, Value};
 use std::alloc::AllocError;
@@ -23,9 +24,6 @@ const LONG_LINE: ErrNo = ErrNo {
     group: 3,
     number: 3,
 };
-
-/// How long a line is at most that is printed.
-const LENGTH_LIMIT: usize = 1_000;
 
 /// The line of these bytes.
 fn line_of(bytes: &[u8]) -> Line
@@ -100,10 +98,10 @@ impl Machine {
         ensures does { Does setting.now.image.now result self.new (act_print (setting_seen setting.now) channel (core_seen self.old)) }
         ensures room { self.new.blocks.room ≡ self.old.blocks.room }
     {
-        if self.line.len() <= LENGTH_LIMIT {
+        if self.line.len() <= LINE_LIMIT {
             return Ok(self.print_line(setting, channel));
         }
-        let line = line_of(self.line.as_slice().split_at(LENGTH_LIMIT).0);
+        let line = line_of(self.line.as_slice().split_at(LINE_LIMIT).0);
         self.line.clear();
         self.go_on();
         self.raised_before(

@@ -5,6 +5,7 @@ ghost use Rattle.hal_states.specs.Times.{limited, thousandths, nearest_priority,
 ghost use Rattle.hal_machine.specs.Seen.{again_seen};
 
 use crate::step::Again;
+use hal_base::PRIORITY_LIMIT;
 use hal_values::Cycle;
 
 /// The latest time, in milliseconds.
@@ -48,14 +49,14 @@ pub(crate) fn thousandths(time: u64) -> i64
 pub(crate) fn is_priority(priority: i32) -> bool
     ensures { result ≡ is_priority priority }
 {
-    !(priority < 0) && !(255 < priority)
+    !(priority < 0) && !(PRIORITY_LIMIT < priority)
 }
 
 /// The nearest priority.
 pub(crate) fn nearest_priority(priority: i32) -> u8
     ensures { result ≡ nearest_priority priority }
 {
-    priority.min(255).max(0).unsigned_abs() as u8
+    priority.min(PRIORITY_LIMIT).max(0).unsigned_abs() as u8
 }
 
 /// How a process goes on.

@@ -4,6 +4,7 @@ ghost use Rattle.std.specs.Prelude.{◌≡◌, ◌^◌, nat_lt};
 ghost use Rattle.hal_states.specs.OfKinds.{nothing, lies_within, is_of, of_kind};
 ghost use Rattle.hal_states.specs.Modes.{has_bit};
 
+use hal_base::{SINGLE_LEAST, SINGLE_MOST};
 use hal_values::{Kind, Text, Value};
 
 /// Zero, zeros or the empty text.
@@ -38,7 +39,7 @@ fn is_of(kind: Kind, value: &Value) -> bool
     ensures { result ≡ is_of kind value.now }
 {
     match (kind, value) {
-        (Kind::Single, Value::Int(number)) => lies_within(-32_768, 32_767, *number),
+        (Kind::Single, Value::Int(number)) => lies_within(SINGLE_LEAST, SINGLE_MOST, *number),
         (Kind::Double, Value::Int(number)) => lies_within(i32::MIN, i32::MAX, *number),
         (Kind::Bits(bits), Value::Bits { len, word }) => *len == bits
             && has_bits_below(bits, *word),

@@ -9,6 +9,7 @@ ghost use Rattle.hal_names.specs.SeenNames.{seen_names};
 ghost use Rattle.hal_operands.specs.Pairs as pairs;
 
 use hal_base::Place;
+use hal_base::rules::{BITS_BESIDE_COMPARISON, BITS_COMPARED_BY_ORDER, WRONG_KIND_OF_OPERAND};
 use hal_kinds::{Class, beside, class_of, joined};
 use hal_names::Names;
 use hal_phrases::{Node, Phrase, Role};
@@ -47,12 +48,12 @@ fn compared_fault(
             if is_equality(relation) {
                 None
             } else {
-                Some((708, place))
+                Some((BITS_COMPARED_BY_ORDER, place))
             }
         }
-        (Class::Integer, Class::Bits | Class::Text) => Some((702, at)),
-        (Class::Bits, Class::Integer | Class::Text) => Some((702, at)),
-        (Class::Text, Class::Integer | Class::Bits) => Some((702, at)),
+        (Class::Integer, Class::Bits | Class::Text) => Some((WRONG_KIND_OF_OPERAND, at)),
+        (Class::Bits, Class::Integer | Class::Text) => Some((WRONG_KIND_OF_OPERAND, at)),
+        (Class::Text, Class::Integer | Class::Bits) => Some((WRONG_KIND_OF_OPERAND, at)),
         _ => None,
     }
 }
@@ -86,7 +87,7 @@ fn joined_fault(
         }
         before = joined(before, class);
         if before.is_none() {
-            return Some((702, tree.place()));
+            return Some((WRONG_KIND_OF_OPERAND, tree.place()));
         }
     }
     None
@@ -140,7 +141,7 @@ fn mixed_behind(
     let mut before = first;
     for tree in trees {
         if is_bits(before) && is_comparison(tree) {
-            return Some((717, place));
+            return Some((BITS_BESIDE_COMPARISON, place));
         }
         before = beside(before, class_of(tree, names, block));
     }
@@ -159,7 +160,7 @@ fn mixed_before(
 {
     let (second, _) = trees.split_first()?;
     if is_comparison(first) && is_bits(class_of(second, names, block)) {
-        Some((717, second.place()))
+        Some((BITS_BESIDE_COMPARISON, second.place()))
     } else {
         None
     }

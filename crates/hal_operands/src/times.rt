@@ -11,6 +11,7 @@ use crate::pairs::pair_fault;
 use crate::want::Want;
 use crate::wants::misfit_at;
 use hal_base::Place;
+use hal_base::rules::{OPERAND_NOT_AN_EVENT, SEVERAL_ELEMENTS, TIME_NOT_AN_INTEGER};
 use hal_kinds::{Class, class_of};
 use hal_names::Names;
 use hal_phrases::{Node, Phrase, Role};
@@ -72,8 +73,8 @@ fn misfit_of_time(class: Class) -> Option<u16>
 {
     match class {
         Class::Integer => None,
-        Class::Array => Some(720),
-        _ => Some(713),
+        Class::Array => Some(SEVERAL_ELEMENTS),
+        _ => Some(TIME_NOT_AN_INTEGER),
     }
 }
 
@@ -156,7 +157,7 @@ fn event_fault(names: &Names<'_>, block: usize, tree: &Expr) -> Option<(u16, Pla
     if is_event_part(names, block, tree) {
         None
     } else {
-        Some((714, tree.place()))
+        Some((OPERAND_NOT_AN_EVENT, tree.place()))
     }
 }
 

@@ -9,6 +9,7 @@ ghost use Rattle.hal_operands.specs.Wants as wants;
 
 use crate::want::Want;
 use hal_base::Place;
+use hal_base::rules::{CONDITION_AS_VALUE, SEVERAL_ELEMENTS, WRONG_KIND_OF_OPERAND};
 use hal_kinds::{Class, class_of, class_of_name, class_of_reference};
 use hal_names::Names;
 use hal_phrases::{Node, Phrase, Role};
@@ -45,7 +46,11 @@ fn misfit_of_value(want: Want, class: Class) -> Option<u16>
         Want::Text => matches!(class, Class::Text),
         Want::String => matches!(class, Class::Bits | Class::Text),
     };
-    if fits { None } else { Some(702) }
+    if fits {
+        None
+    } else {
+        Some(WRONG_KIND_OF_OPERAND)
+    }
 }
 
 /// The rule that a condition breaks where this is wanted.
@@ -55,7 +60,7 @@ fn misfit_of_condition(want: Want) -> Option<u16>
 {
     match want {
         Want::Anything | Want::Truth | Want::Single => None,
-        _ => Some(703),
+        _ => Some(CONDITION_AS_VALUE),
     }
 }
 
@@ -77,8 +82,8 @@ pub fn misfit(want: Want, class: Class) -> Option<u16>
 {
     match class {
         Class::Condition => misfit_of_condition(want),
-        Class::Structure => misfit_of_whole(702, want),
-        Class::Array => misfit_of_whole(720, want),
+        Class::Structure => misfit_of_whole(WRONG_KIND_OF_OPERAND, want),
+        Class::Array => misfit_of_whole(SEVERAL_ELEMENTS, want),
         Class::Integer | Class::Bits | Class::Text => misfit_of_value(want, class),
     }
 }
@@ -98,8 +103,8 @@ fn misfit_of_receiver(class: Class) -> Option<u16>
     ensures { result ≡ wants.misfit_of_receiver class }
 {
     match class {
-        Class::Structure => Some(702),
-        Class::Array => Some(720),
+        Class::Structure => Some(WRONG_KIND_OF_OPERAND),
+        Class::Array => Some(SEVERAL_ELEMENTS),
         _ => None,
     }
 }

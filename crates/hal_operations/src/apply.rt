@@ -15,6 +15,7 @@ use crate::strings::{BitString, and, are_equal, joined as joined_bits, not, one_
 use crate::texts::{
     index, is_before, is_width, joined, left_justified, right_justified, trimmed, width,
 };
+use hal_base::BIT_LIMIT;
 use hal_values::{ErrNo, Text, Value};
 
 /// An integer as a value.
@@ -38,7 +39,7 @@ fn of_integer(op: Op1, a: i32) -> Result<Value, ErrNo>
         Op1::Odd => Ok(one_bit(a.unsigned_abs() % 2 == 1).value()),
         Op1::Character => Ok(Value::Text(decimal(a))),
         Op1::Bit => Ok(Value::Bits {
-            len: 32,
+            len: BIT_LIMIT,
             word: two_complement(a),
         }),
         _ => Ok(Value::Int(a)),

@@ -6,6 +6,7 @@ ghost use Rattle.hal_operations.specs.Operands.{IsString};
 ghost use Rattle.hal_operations.specs.Strings.{bits_of, string, one_bit, bitwise, differ, are_equal, joined, fitted_string};
 ghost use Rattle.hal_operations.specs.Parts.{taken, patched_string};
 
+use hal_base::BIT_LIMIT;
 use hal_values::Value;
 
 /// A string of bits: the last `len` bits of a word whose other bits are zeros.
@@ -122,7 +123,7 @@ pub(crate) fn joined(m: u8, x: u32, n: u8, y: u32) -> BitString
     requires right { IsString n y }
     ensures { value.Bits result.len result.word ≡ string (joined (bits_of m x) (bits_of n y)) }
 {
-    let len = (m + n).min(32);
+    let len = (m + n).min(BIT_LIMIT);
     let whole = (u64::from(x) << n) + u64::from(y);
     BitString {
         len,

@@ -4,6 +4,7 @@ ghost use Rattle.std.specs.Prelude.{◌≡◌, ◌≤◌, length, take, reverse,
 ghost use Rattle.hal_operations.specs.Texts.{blanks, joined_text, is_before, index, left_justified, right_justified, is_width, width, after_blanks, trimmed};
 ghost use Rattle.hal_operations.specs.Parts.{taken, patched_text};
 
+use hal_base::CHARACTER_LIMIT;
 use hal_values::Text;
 
 /// The first `n` bytes.
@@ -19,7 +20,7 @@ pub(crate) fn front(n: u8, text: &[u8]) -> Text
 fn blanks(n: u8) -> Text
     ensures { result ≡ blanks n }
 {
-    front(n, &[b' '; 255])
+    front(n, &[b' '; CHARACTER_LIMIT])
 }
 
 /// Joins bytes to a text, of which the first 255 are kept then.
@@ -27,7 +28,7 @@ fn blanks(n: u8) -> Text
 pub(crate) fn append(text: &mut Text, bytes: &[u8])
     ensures { text.new ≡ joined_text text.old bytes.now }
 {
-    let room = 255 - text.bytes().len();
+    let room = CHARACTER_LIMIT - text.bytes().len();
     text.extend(bytes.split_at(room.min(bytes.len())).0);
 }
 
@@ -97,7 +98,7 @@ pub(crate) fn is_width(n: i32) -> bool
 pub(crate) fn width(n: i32) -> u8
     ensures { result ≡ width n }
 {
-    n.clamp(0, 255) as u8
+    n.clamp(0, CHARACTER_LIMIT as i32) as u8
 }
 
 /// Without the blanks that it begins with.

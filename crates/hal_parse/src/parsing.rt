@@ -8,6 +8,7 @@ ghost use Rattle.hal_parse.specs.Stuck.{IsStuckAt};
 
 use crate::files::read_file;
 use crate::stuck::{place_of, stuck_in_file};
+use hal_base::rules::SYNTAX_ERROR;
 use hal_base::{Fault, NESTING_LIMIT, Refusal, Rule};
 use hal_tree::File;
 use hal_words::Token;
@@ -53,7 +54,7 @@ fn unread(alloc: Global, words: &[Token], unit: u32) -> Fault
 {
     match stuck_in_file(alloc, words, NESTING_LIMIT) {
         Ok(rest) => Fault::Broken(Refusal {
-            rule: Rule(401),
+            rule: Rule(SYNTAX_ERROR),
             place: place_of(words, rest.len(), unit),
         }),
         Err(error) => Fault::Memory(error),

@@ -10,11 +10,9 @@ ghost use Rattle.hal_pieces.specs.Seen.{seen};
 use crate::bytes::is_digit;
 use crate::piece::Piece;
 use crate::runs::{Class, front};
-use hal_base::Rule;
+use hal_base::rules::{INVALID_LITERAL, UNENDED_LITERAL_OR_COMMENT};
+use hal_base::{BIT_LIMIT, Rule};
 use hal_words::Word;
-
-/// A bit string has at most so many bits.
-const MOST_BITS: usize = 32;
 
 /// Bit strings are below this.
 const BITS_LIMIT: u64 = 4_294_967_296;
@@ -50,7 +48,10 @@ pub(crate) fn bits<'a>(base: Base, before: usize, text: &[u8]) -> (Piece<'a>, us
     let (bytes, rest) = front(Class::NoQuote, text);
     match rest {
         [b'\'', ..] => (bits_or_wrong(base, bytes), before + (bytes.len() + 2)),
-        _ => (Piece::Wrong(Rule(202)), before + (text.len() + 1)),
+        _ => (
+            Piece::Wrong(Rule(UNENDED_LITERAL_OR_COMMENT)),
+            before + (text.len() + 1),
+        ),
     }
 }
 
@@ -60,7 +61,7 @@ fn bits_or_wrong<'a>(base: Base, bytes: &[u8]) -> Piece<'a>
 {
     match bits_between(base, bytes) {
         Some((len, word)) => Piece::Word(Word::Bits { len, word }),
-        None => Piece::Wrong(Rule(204)),
+        None => Piece::Wrong(Rule(INVALID_LITERAL)),
     }
 }
 
@@ -138,7 +139,7 @@ fn digits_within(bits: usize, count: usize, number: u64) -> Option<(u8, u32)>
     ensures { result ≡ digits_within bits count number }
 {
     let len = bits.saturating_mul(count);
-    if len <= MOST_BITS && number < BITS_LIMIT {
+    if len <= BIT_LIMIT as usize && number < BITS_LIMIT {
         Some((len as u8, number as u32))
     } else {
         None
@@ -150,7 +151,7 @@ fn decimal_within(number: u64) -> Option<(u8, u32)>
     ensures { result ≡ decimal_within number }
 {
     if number < BITS_LIMIT {
-        Some((bit_count(32, number), number as u32))
+        Some((bit_count(BIT_LIMIT, number), number as u32))
     } else {
         None
     }

@@ -13,6 +13,7 @@ use crate::names::{
     behind_blanks, behind_run, blanks, is_namelike, is_word, run_bytes, short_name,
 };
 use crate::piece::Piece;
+use hal_base::rules::{MALFORMED_INCLUDE, NAME_TOO_LONG};
 use hal_base::{Fault, Place};
 use hal_words::{Name, Reserved, Word};
 use std::alloc::AllocError;
@@ -40,8 +41,8 @@ pub fn push_directive<'a>(items: &mut Vec<Item<'a>>, text: &[u8], start: Place) 
     match directive_at(text, start) {
         Directive::Other => Ok(()),
         Directive::Include { begin, at, name } => push_include(items, begin, at, name),
-        Directive::LongName { begin: _, at } => Err(broken(203, at)),
-        Directive::Wrong { begin } => Err(broken(103, begin)),
+        Directive::LongName { begin: _, at } => Err(broken(NAME_TOO_LONG, at)),
+        Directive::Wrong { begin } => Err(broken(MALFORMED_INCLUDE, begin)),
     }
 }
 

@@ -6,6 +6,7 @@ ghost use Rattle.hal_pieces.specs.Reading.{Reads, TellsOf};
 
 use crate::item::Item;
 use crate::lines::push_line;
+use hal_base::rules::UNENDED_LITERAL_OR_COMMENT;
 use hal_base::{Fault, Place, Refusal, Rule, first_line};
 use std::alloc::Global;
 
@@ -20,7 +21,7 @@ pub fn items<'a>(alloc: Global, text: &'a [u8], unit: u32) -> Result<Vec<Item<'a
     match comment {
         None => Ok(items),
         Some(place) => Err(Fault::Broken(Refusal {
-            rule: Rule(202),
+            rule: Rule(UNENDED_LITERAL_OR_COMMENT),
             place,
         })),
     }

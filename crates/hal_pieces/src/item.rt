@@ -6,6 +6,7 @@ ghost use Rattle.hal_pieces.specs.Seen.{seen};
 ghost use Rattle.hal_pieces.specs.Faults.{IsBrokenAt, IsRight};
 
 use crate::piece::Piece;
+use hal_base::rules::MALFORMED_INCLUDE;
 use hal_base::{Fault, Place, Refusal, Rule};
 use hal_words::{Reserved, Word};
 
@@ -26,7 +27,7 @@ pub fn refusal_of(piece: &Piece, place: Place) -> Option<Refusal>
     match piece {
         Piece::Wrong(rule) => Some(Refusal { rule: *rule, place }),
         Piece::Word(Word::Reserved(Reserved::Include)) => Some(Refusal {
-            rule: Rule(103),
+            rule: Rule(MALFORMED_INCLUDE),
             place: Place { column: 1, ..place },
         }),
         _ => None,

@@ -11,11 +11,9 @@ use crate::bit_literals::{Base, base_of, bits};
 use crate::names::in_capitals;
 use crate::piece::Piece;
 use crate::runs::{Class, front};
-use hal_base::Rule;
+use hal_base::rules::NAME_TOO_LONG;
+use hal_base::{NAME_LIMIT, Rule};
 use hal_words::{Name, Word, left_out, reserved_word};
-
-/// The most bytes of a name; every listed word is shorter.
-const MOST: usize = 32;
 
 /// The word that a letter begins, and its size.
 #[tactic(auto, using(crate::proofs::LongRuns::letters_long, crate::proofs::LongRuns::letters_are))]
@@ -24,8 +22,9 @@ pub(crate) fn letters(text: &[u8]) -> (Piece<'_>, usize)
     ensures size { result.1 ≡ (letters text.now).1 }
 {
     let (run, after) = front(Class::NameByte, text);
-    if MOST < run.len() {
-        return (Piece::Wrong(Rule(203)), run.len());
+    // Every listed word is shorter.
+    if NAME_LIMIT < run.len() {
+        return (Piece::Wrong(Rule(NAME_TOO_LONG)), run.len());
     }
     let name = in_capitals(run);
     match base_of(name.bytes()) {

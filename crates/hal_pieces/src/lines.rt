@@ -14,6 +14,7 @@ use crate::directives::push_directive;
 use crate::item::{Item, broken, refusal_of};
 use crate::kinds::{Kind, line_kind};
 use crate::replacements::piece_behind;
+use hal_base::rules::{EXPONENT_OR_SUBSCRIPT_LINE, UNKNOWN_KIND_OF_LINE};
 use hal_base::{Fault, Place};
 use std::alloc::AllocError;
 
@@ -46,8 +47,8 @@ pub fn push_line<'a>(
             Ok(comment)
         }
         Kind::Main => push_main_line(items, line, start, comment),
-        Kind::Script => Err(broken(101, start)),
-        Kind::Other => Err(broken(102, start)),
+        Kind::Script => Err(broken(EXPONENT_OR_SUBSCRIPT_LINE, start)),
+        Kind::Other => Err(broken(UNKNOWN_KIND_OF_LINE, start)),
     }
 }
 

@@ -8,18 +8,16 @@ ghost use Rattle.hal_pieces.specs.Seen.{seen};
 
 use crate::bytes::is_plain;
 use crate::piece::Piece;
-use hal_base::Rule;
+use hal_base::rules::{INVALID_LITERAL, STRAY_BYTE, UNENDED_LITERAL_OR_COMMENT};
+use hal_base::{CHARACTER_LIMIT, Rule};
 use hal_words::Literal;
-
-/// The most bytes of a literal.
-const MOST: usize = 255;
 
 /// A text literal, behind the quote that begins it, and its size with both quotes.
 pub(crate) fn literal(text: &[u8]) -> (Piece<'_>, usize)
     ensures what { seen result.0 ≡ (literal text.now).0 }
     ensures size { result.1 ≡ (literal text.now).1 }
 {
-    let mut bytes = [0; MOST];
+    let mut bytes = [0; CHARACTER_LIMIT];
     let mut count = 0;
     let mut plain = true;
     let mut rest = text;
@@ -30,7 +28,10 @@ pub(crate) fn literal(text: &[u8]) -> (Piece<'_>, usize)
         rest = more;
     }
     if rest.is_empty() {
-        return (Piece::Wrong(Rule(202)), text.len() + 1);
+        return (
+            Piece::Wrong(Rule(UNENDED_LITERAL_OR_COMMENT)),
+            text.len() + 1,
+        );
     }
     (
         literal_of(&bytes, count, plain),
@@ -54,25 +55,25 @@ fn next_byte(text: &[u8]) -> Option<(u8, &[u8])>
 }
 
 /// Stores a byte of a literal, if it has room; a tab is a blank there.
-fn store(bytes: &mut [u8; 255], count: usize, byte: u8)
+fn store(bytes: &mut [u8; CHARACTER_LIMIT], count: usize, byte: u8)
     ensures length { length bytes.new ≡ 255 }
     ensures stored { count < 255 → take (count + 1) bytes.new
         ≡ take count bytes.old ++ blank_for_tab byte ∷ [] }
 {
-    if count < MOST {
+    if count < CHARACTER_LIMIT {
         bytes[count] = if byte == b'\t' { b' ' } else { byte };
     }
 }
 
 /// The literal of so many stored bytes.
-fn literal_of<'a>(bytes: &[u8; 255], count: usize, plain: bool) -> Piece<'a>
+fn literal_of<'a>(bytes: &[u8; CHARACTER_LIMIT], count: usize, plain: bool) -> Piece<'a>
     ensures { seen result ≡ text_or_wrong plain count (take count bytes.now) }
 {
     if !plain {
-        Piece::Wrong(Rule(201))
-    } else if count <= MOST {
+        Piece::Wrong(Rule(STRAY_BYTE))
+    } else if count <= CHARACTER_LIMIT {
         Piece::Text(Literal::new(&bytes[..count]))
     } else {
-        Piece::Wrong(Rule(204))
+        Piece::Wrong(Rule(INVALID_LITERAL))
     }
 }

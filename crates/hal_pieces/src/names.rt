@@ -10,6 +10,7 @@ ghost use Rattle.hal_pieces.specs.Names.{short};
 
 use crate::bytes::capital;
 use crate::runs::{Class, front};
+use hal_base::NAME_LIMIT;
 use hal_words::{Name, left_out, reserved_word};
 
 /// With how many blanks a text begins.
@@ -45,7 +46,7 @@ pub fn behind_run(text: &[u8]) -> &[u8]
 pub fn short_name(run: &[u8]) -> Option<Name>
     ensures { result ≡ short (map capital run.now) }
 {
-    if run.len() > 32 {
+    if run.len() > NAME_LIMIT {
         return None;
     }
     Some(in_capitals(run))
@@ -56,7 +57,7 @@ pub(crate) fn in_capitals(run: &[u8]) -> Name
     requires { length run.now ≤ 32 }
     ensures { result ≡ map capital run.now }
 {
-    let mut capitals = [0; 32];
+    let mut capitals = [0; NAME_LIMIT];
     for i in 0..run.len() {
         capitals[i] = capital(run[i]);
     }

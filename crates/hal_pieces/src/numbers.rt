@@ -10,6 +10,7 @@ use crate::bytes::{is_digit, is_letter};
 use crate::piece::Piece;
 use crate::runs::{Class, front};
 use hal_base::Rule;
+use hal_base::rules::{INVALID_LITERAL, LETTER_BEHIND_NUMBER};
 use hal_words::Word;
 
 /// Numbers are below this before their point.
@@ -59,13 +60,13 @@ fn integer<'a>(whole: &[u8], rest: &[u8]) -> Piece<'a>
     ensures { seen result ≡ integer_piece whole.now rest.now }
 {
     if is_followed(rest) {
-        return Piece::Wrong(Rule(208));
+        return Piece::Wrong(Rule(LETTER_BEHIND_NUMBER));
     }
     let number = capped_value(whole);
     if number < NUMBER_LIMIT {
         Piece::Word(Word::Integer(number as u32))
     } else {
-        Piece::Wrong(Rule(204))
+        Piece::Wrong(Rule(INVALID_LITERAL))
     }
 }
 
@@ -74,14 +75,14 @@ fn decimal<'a>(whole: &[u8], fraction: &[u8], rest: &[u8]) -> Piece<'a>
     ensures { seen result ≡ decimal_piece whole.now fraction.now rest.now }
 {
     if is_followed(rest) {
-        return Piece::Wrong(Rule(208));
+        return Piece::Wrong(Rule(LETTER_BEHIND_NUMBER));
     }
     let number = capped_value(whole);
     match fraction_value(fraction) {
         Some(thousandths) if number < NUMBER_LIMIT => {
             Piece::Word(Word::Decimal(number * 1000 + thousandths))
         }
-        _ => Piece::Wrong(Rule(204)),
+        _ => Piece::Wrong(Rule(INVALID_LITERAL)),
     }
 }
 

@@ -8,6 +8,7 @@ use crate::literals::literal;
 use crate::numbers::{begins_number, number};
 use crate::signs::signs;
 use hal_base::Rule;
+use hal_base::rules::STRAY_BYTE;
 use hal_words::{Literal, Word};
 
 /// What a line begins with.
@@ -32,7 +33,7 @@ pub fn first_piece(text: &[u8]) -> (Piece<'_>, usize)
     ensures size { result.1 ≡ (piece text.now).1 }
 {
     match text {
-        [] => (Piece::Wrong(Rule(201)), 1),
+        [] => (Piece::Wrong(Rule(STRAY_BYTE)), 1),
         [first, rest @ ..] => {
             if is_letter(*first) {
                 letters(text)

@@ -6,6 +6,7 @@ ghost use Rattle.hal_pieces.specs.Seen.{seen};
 
 use crate::piece::Piece;
 use hal_base::Rule;
+use hal_base::rules::{AT_SIGN_LEFT_OUT, PERCENT_SIGN_LEFT_OUT, SLASH_LEFT_OUT, STRAY_BYTE};
 use hal_words::{Reserved, Symbol, Word};
 
 /// The symbol that a byte begins, the longer one before the shorter, and its size.
@@ -56,9 +57,9 @@ fn sign<'a>(byte: u8) -> Piece<'a>
         b':' => Piece::Word(Word::Symbol(Symbol::Colon)),
         b'$' => Piece::Word(Word::Symbol(Symbol::Dollar)),
         b'#' => Piece::Word(Word::Symbol(Symbol::Number)),
-        b'/' => Piece::Wrong(Rule(304)),
-        b'%' => Piece::Wrong(Rule(316)),
-        b'@' => Piece::Wrong(Rule(321)),
-        _ => Piece::Wrong(Rule(201)),
+        b'/' => Piece::Wrong(Rule(SLASH_LEFT_OUT)),
+        b'%' => Piece::Wrong(Rule(PERCENT_SIGN_LEFT_OUT)),
+        b'@' => Piece::Wrong(Rule(AT_SIGN_LEFT_OUT)),
+        _ => Piece::Wrong(Rule(STRAY_BYTE)),
     }
 }

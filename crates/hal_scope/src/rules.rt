@@ -11,6 +11,10 @@ use crate::labels::{astray, misclosed, misled};
 use crate::repeated::undeclared;
 use crate::uses::{misused, unknown};
 use hal_base::Place;
+use hal_base::rules::{
+    NO_GROUP_AROUND, NO_GROUP_OF_NAME_AROUND, REPEATED_NAME, UNDECLARED_PARAMETER,
+    UNKNOWN_COMPONENT, UNKNOWN_NAME, WRONG_CLOSING_NAME, WRONG_KIND_OF_NAME,
+};
 use hal_names::Names;
 use hal_phrases::Phrase;
 
@@ -29,14 +33,14 @@ pub fn ruled(rule: u16, place: Option<Place>) -> Option<(u16, Place)>
 pub(crate) fn fault(names: &Names<'_>, phrase: &Phrase<'_>) -> Option<(u16, Place)>
     ensures { result ≡ fault rows (seen_names names.now) (seen_phrase phrase.now) }
 {
-    let later = ruled(608, lacks(names, phrase));
-    let later = ruled(607, astray(names, phrase)).or(later);
-    let later = ruled(606, undeclared(names, phrase)).or(later);
-    let later = ruled(605, misled(names, phrase)).or(later);
-    let later = ruled(604, misclosed(names, phrase)).or(later);
-    let later = ruled(603, misused(names, phrase)).or(later);
-    let later = ruled(602, repeated(names, phrase)).or(later);
-    ruled(601, unknown(names, phrase)).or(later)
+    let later = ruled(UNKNOWN_COMPONENT, lacks(names, phrase));
+    let later = ruled(NO_GROUP_AROUND, astray(names, phrase)).or(later);
+    let later = ruled(UNDECLARED_PARAMETER, undeclared(names, phrase)).or(later);
+    let later = ruled(NO_GROUP_OF_NAME_AROUND, misled(names, phrase)).or(later);
+    let later = ruled(WRONG_CLOSING_NAME, misclosed(names, phrase)).or(later);
+    let later = ruled(WRONG_KIND_OF_NAME, misused(names, phrase)).or(later);
+    let later = ruled(REPEATED_NAME, repeated(names, phrase)).or(later);
+    ruled(UNKNOWN_NAME, unknown(names, phrase)).or(later)
 }
 
 /// The first rule that one of the phrases breaks, and where.

@@ -14,6 +14,7 @@ use crate::reaches::{place_of_sub, reach_of};
 use crate::selections::{copies_at, copy_subs, declared_for, extent_at};
 use crate::spans::{array_subs, later_subs};
 use hal_base::Place;
+use hal_base::rules::NOT_CONSTANT;
 use hal_constants::Known;
 use hal_names::Names;
 use hal_phrases::{Node, Phrase};
@@ -45,7 +46,7 @@ fn range_fault(
         return None;
     }
     if is_outside(reach_of(names, known, phrase, size, sub)) {
-        Some((704, place_of_sub(sub)))
+        Some((NOT_CONSTANT, place_of_sub(sub)))
     } else {
         None
     }

@@ -8,7 +8,8 @@ ghost use Rattle.hal_names.specs.SeenNames.{seen_names};
 ghost use Rattle.hal_constants.specs.SeenKnown.{seen_known};
 ghost use Rattle.hal_sizes.specs.Constancy as constancy;
 
-use hal_base::{BIT_LIMIT, CHARACTER_LIMIT, Place};
+use hal_base::rules::{CHANNEL_OUT_OF_RANGE, NOT_CONSTANT, SIZE_OUT_OF_RANGE};
+use hal_base::{BIT_LIMIT, CHANNEL_COUNT, CHARACTER_LIMIT, Place, SIZE_LIMIT};
 use hal_constants::{Constant, Known, constant_of, signed_name, size_of_integer};
 use hal_names::Names;
 use hal_phrases::{Node, Phrase, Role};
@@ -21,8 +22,8 @@ fn unsettled(place: Place, constant: &Constant) -> Option<(u16, Place)>
     ensures { result ≡ constancy.unsettled place constant.now }
 {
     match constant {
-        Constant::Open => Some((704, place)),
-        Constant::Failed => Some((704, place)),
+        Constant::Open => Some((NOT_CONSTANT, place)),
+        Constant::Failed => Some((NOT_CONSTANT, place)),
         _ => None,
     }
 }
@@ -37,7 +38,7 @@ fn missized(limit: u16, place: Place, constant: &Constant) -> Option<(u16, Place
             if size_of_integer(limit, *number).is_some() {
                 None
             } else {
-                Some((710, place))
+                Some((SIZE_OUT_OF_RANGE, place))
             }
         }
         Constant::Worth(_) => None,
@@ -50,7 +51,7 @@ fn missized(limit: u16, place: Place, constant: &Constant) -> Option<(u16, Place
 fn is_channel(number: i32) -> bool
     ensures { result ≡ constancy.is_channel number }
 {
-    0 <= number && number <= 31
+    0 <= number && number < CHANNEL_COUNT as i32
 }
 
 /// A channel.
@@ -63,12 +64,12 @@ fn mischannelled(place: Place, constant: &Constant) -> Option<(u16, Place)>
             if is_channel(*number) {
                 None
             } else {
-                Some((718, place))
+                Some((CHANNEL_OUT_OF_RANGE, place))
             }
         }
-        Constant::Worth(_) => Some((718, place)),
+        Constant::Worth(_) => Some((CHANNEL_OUT_OF_RANGE, place)),
         Constant::Unfit => None,
-        _ => Some((718, place)),
+        _ => Some((CHANNEL_OUT_OF_RANGE, place)),
     }
 }
 
@@ -85,15 +86,15 @@ fn inconstant_as(
 {
     let place = tree.place();
     match role {
-        Role::Dimension => missized(32767, place, &constant_of(tree, names, known, phrase)),
-        Role::Copies => missized(32767, place, &constant_of(tree, names, known, phrase)),
+        Role::Dimension => missized(SIZE_LIMIT, place, &constant_of(tree, names, known, phrase)),
+        Role::Copies => missized(SIZE_LIMIT, place, &constant_of(tree, names, known, phrase)),
         Role::BitLength => missized(
             u16::from(BIT_LIMIT),
             place,
             &constant_of(tree, names, known, phrase),
         ),
         Role::TextLength => missized(
-            u16::from(CHARACTER_LIMIT),
+            CHARACTER_LIMIT as u16,
             place,
             &constant_of(tree, names, known, phrase),
         ),

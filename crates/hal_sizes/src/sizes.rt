@@ -12,6 +12,7 @@ ghost use Rattle.hal_sizes.specs.Sizes as sizes;
 
 use crate::counts::times;
 use crate::extent::Extent;
+use hal_base::SIZE_LIMIT;
 use hal_constants::{Known, constant_of, size_of};
 use hal_names::Names;
 use hal_phrases::Phrase;
@@ -26,7 +27,7 @@ pub(crate) fn size_in(
 ) -> Option<u16>
     ensures { result ≡ sizes.size_in (seen_names names.now) (seen_known known.now) (seen_phrase phrase.now) (seen_expression tree.now) }
 {
-    size_of(32767, &constant_of(tree, names, known, phrase))
+    size_of(SIZE_LIMIT, &constant_of(tree, names, known, phrase))
 }
 
 /// The size of the first dimension, 0 where there is none.

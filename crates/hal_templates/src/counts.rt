@@ -3,6 +3,8 @@
 ghost use Rattle.std.specs.Prelude.{◌≡◌};
 ghost use Rattle.hal_templates.specs.Counts as counts;
 
+use hal_base::CELL_LIMIT;
+
 /// The sum of two counts.
 pub(crate) fn add(one: u128, other: u128) -> u128
     ensures { result ≡ counts.add one other }
@@ -21,5 +23,5 @@ pub(crate) fn times(one: u128, other: u128) -> u128
 pub(crate) fn is_few(count: u128) -> bool
     ensures { result ≡ counts.is_few count }
 {
-    count <= 65536
+    count <= u128::from(CELL_LIMIT)
 }

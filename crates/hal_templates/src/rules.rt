@@ -8,6 +8,7 @@ ghost use Rattle.hal_templates.specs.Rules as table;
 
 use crate::templates::{differing, doubled, lacking};
 use hal_base::Place;
+use hal_base::rules::{DIFFERING_TEMPLATE, REPEATED_UNIT_NAME, TEMPLATE_WITHOUT_UNIT};
 use hal_constants::Known;
 use hal_names::Names;
 use hal_phrases::Phrase;
@@ -24,9 +25,9 @@ fn fault(
     ensures { IfOk result (λ found. found ≡ table.fault_with (seen_names names.now) (seen_known known.now) (seen_phrase phrase.now)) }
 {
     let differing = differing(alloc, names, known, phrase)?;
-    let later = ruled(503, doubled(names, phrase));
-    let later = ruled(502, lacking(names, phrase)).or(later);
-    Ok(ruled(501, differing).or(later))
+    let later = ruled(REPEATED_UNIT_NAME, doubled(names, phrase));
+    let later = ruled(TEMPLATE_WITHOUT_UNIT, lacking(names, phrase)).or(later);
+    Ok(ruled(DIFFERING_TEMPLATE, differing).or(later))
 }
 
 /// The first rule of templates that one of the phrases breaks, and where, unless memory is wanting.

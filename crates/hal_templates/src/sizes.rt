@@ -12,6 +12,7 @@ ghost use Rattle.hal_templates.specs.Sizes as sizes;
 
 use crate::alike::may_be_number;
 use crate::reading::{sizes_given, type_given};
+use hal_base::SIZE_LIMIT;
 use hal_constants::{Known, constant_of, size_of};
 use hal_names::Names;
 use hal_phrases::Phrase;
@@ -26,7 +27,7 @@ pub(crate) fn size_in(
 ) -> Option<u16>
     ensures { result ≡ sizes.size_in (seen_names names.now) (seen_known known.now) (seen_phrase phrase.now) (seen_expression tree.now) }
 {
-    size_of(32767, &constant_of(tree, names, known, phrase))
+    size_of(SIZE_LIMIT, &constant_of(tree, names, known, phrase))
 }
 
 /// The sizes of two expressions, as far as they are known.

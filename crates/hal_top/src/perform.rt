@@ -9,9 +9,8 @@ ghost use Rattle.hal_top.specs.Works.{IsFit};
 
 use crate::outcome::Outcome;
 use crate::prepare::{Task, Work};
-use hal_base::Sink;
+use hal_base::{Sink, TURN_LIMIT};
 use hal_code::ImageParts;
-use hal_compile::TURN_LIMIT;
 use hal_object::write_image;
 use hal_report::drain;
 use hal_values::Listing;

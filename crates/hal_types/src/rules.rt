@@ -13,6 +13,12 @@ use hal_attributes::{
     overtyped, untyped,
 };
 use hal_base::Place;
+use hal_base::rules::{
+    CLASHING_ATTRIBUTES, DECIMAL_NOT_A_TIME, ERROR_OUT_OF_RANGE, EVENT_NOT_LATCHED,
+    EXPONENT_NOT_A_LITERAL, MISPLACED_ATTRIBUTE, MISPLACED_EVENT, MISPLACED_RESULT, MISSING_TYPE,
+    NESTED_TEMPLATE, NOT_A_PROCESS, SIZE_OUT_OF_RANGE, VARIABLE_NAMED_AS_TEMPLATE, WRONG_ARGUMENTS,
+    WRONG_KIND_OF_OPERAND, WRONG_TYPE_OF_FUNCTION,
+};
 use hal_constants::Known;
 use hal_initials::{misinitialed, missigned};
 use hal_names::Names;
@@ -32,15 +38,15 @@ use std::alloc::{AllocError, Global};
 fn attribute_fault(names: &Names<'_>, phrase: &Phrase<'_>) -> Option<(u16, Place)>
     ensures { result ≡ rules.fault attribute_rows (seen_names names.now) (seen_phrase phrase.now) }
 {
-    let later = ruled(725, misstored(names, phrase));
-    let later = ruled(724, no_result(phrase.node)).or(later);
-    let later = ruled(710, misleveled(phrase.node)).or(later);
-    let later = ruled(701, overtyped(phrase.node)).or(later);
-    let later = ruled(701, clashing(phrase.node)).or(later);
-    let later = ruled(327, misplaced_event(names, phrase)).or(later);
-    let later = ruled(326, nested(phrase.node)).or(later);
-    let later = ruled(325, named_as_template(phrase.node)).or(later);
-    ruled(323, untyped(phrase.node)).or(later)
+    let later = ruled(MISPLACED_ATTRIBUTE, misstored(names, phrase));
+    let later = ruled(WRONG_TYPE_OF_FUNCTION, no_result(phrase.node)).or(later);
+    let later = ruled(SIZE_OUT_OF_RANGE, misleveled(phrase.node)).or(later);
+    let later = ruled(CLASHING_ATTRIBUTES, overtyped(phrase.node)).or(later);
+    let later = ruled(CLASHING_ATTRIBUTES, clashing(phrase.node)).or(later);
+    let later = ruled(MISPLACED_EVENT, misplaced_event(names, phrase)).or(later);
+    let later = ruled(NESTED_TEMPLATE, nested(phrase.node)).or(later);
+    let later = ruled(VARIABLE_NAMED_AS_TEMPLATE, named_as_template(phrase.node)).or(later);
+    ruled(MISSING_TYPE, untyped(phrase.node)).or(later)
 }
 
 /// The first rule of operands that a phrase breaks, and where.
@@ -48,11 +54,11 @@ fn attribute_fault(names: &Names<'_>, phrase: &Phrase<'_>) -> Option<(u16, Place
 fn operand_fault(names: &Names<'_>, phrase: &Phrase<'_>) -> Option<(u16, Place)>
     ensures { result ≡ rules.fault operand_rows (seen_names names.now) (seen_phrase phrase.now) }
 {
-    let later = ruled(702, untaken(names, phrase));
+    let later = ruled(WRONG_KIND_OF_OPERAND, untaken(names, phrase));
     let later = mismatched(names, phrase).or(later);
     let later = unfit(names, phrase).or(later);
     let later = mistimed(names, phrase).or(later);
-    ruled(322, untimely(names, phrase)).or(later)
+    ruled(DECIMAL_NOT_A_TIME, untimely(names, phrase)).or(later)
 }
 
 /// The first rule of how names are used that a phrase breaks, and where.
@@ -63,11 +69,11 @@ fn use_fault(names: &Names<'_>, phrase: &Phrase<'_>) -> Option<(u16, Place)>
     let later = miscalled(names, phrase);
     let later = missubscripted(names, phrase).or(later);
     let later = misreceived(names, phrase).or(later);
-    let later = ruled(723, no_process(names, phrase)).or(later);
-    let later = ruled(715, unlatched(names, phrase)).or(later);
-    let later = ruled(719, no_error(phrase.node)).or(later);
-    let later = ruled(711, misreturned(names, phrase)).or(later);
-    ruled(328, no_exponent(phrase.node)).or(later)
+    let later = ruled(NOT_A_PROCESS, no_process(names, phrase)).or(later);
+    let later = ruled(EVENT_NOT_LATCHED, unlatched(names, phrase)).or(later);
+    let later = ruled(ERROR_OUT_OF_RANGE, no_error(phrase.node)).or(later);
+    let later = ruled(MISPLACED_RESULT, misreturned(names, phrase)).or(later);
+    ruled(EXPONENT_NOT_A_LITERAL, no_exponent(phrase.node)).or(later)
 }
 
 /// The first rule of types that a phrase breaks, the values of constants aside.
@@ -82,10 +88,10 @@ fn plain_fault(names: &Names<'_>, phrase: &Phrase<'_>) -> Option<(u16, Place)>
 fn size_fault(names: &Names<'_>, known: &Known, phrase: &Phrase<'_>) -> Option<(u16, Place)>
     ensures { result ≡ table.sized_plainly (seen_names names.now) (seen_known known.now) (seen_phrase phrase.now) }
 {
-    let later = ruled(702, missigned(names, phrase));
-    let later = ruled(705, misshaped(names, known, phrase)).or(later);
+    let later = ruled(WRONG_KIND_OF_OPERAND, missigned(names, phrase));
+    let later = ruled(WRONG_ARGUMENTS, misshaped(names, known, phrase)).or(later);
     let later = misranged(names, known, phrase).or(later);
-    let later = ruled(710, misdimensioned(phrase.node)).or(later);
+    let later = ruled(SIZE_OUT_OF_RANGE, misdimensioned(phrase.node)).or(later);
     inconstant(names, known, phrase).or(later)
 }
 

@@ -9,6 +9,9 @@ ghost use Rattle.hal_uses.specs.Calls as calls;
 
 use crate::signature::Signature;
 use hal_base::Place;
+use hal_base::rules::{
+    ARRAY_FUNCTION_LEFT_OUT, CONDITION_AS_VALUE, WRONG_ARGUMENTS, WRONG_KIND_OF_OPERAND,
+};
 use hal_kinds::{Class, chosen, class_of, data_named, has_copies_left};
 use hal_names::Names;
 use hal_operands::{Want, misfit_at};
@@ -46,12 +49,12 @@ fn second_fault(
     ensures { result ≡ calls.second_fault (seen_names names.now) block place wants.0 wants.1 (seen_expression first.now) (expressions (map seen_expression rest.now)) }
 {
     let Some((second, others)) = rest.split_first() else {
-        return Some((705, place));
+        return Some((WRONG_ARGUMENTS, place));
     };
     if others.is_empty() {
         two_faults(names, block, wants, first, second)
     } else {
-        Some((705, place))
+        Some((WRONG_ARGUMENTS, place))
     }
 }
 
@@ -70,7 +73,7 @@ fn one_fault(
     if rest.is_empty() {
         misfit_at(names, block, want, first)
     } else {
-        Some((705, place))
+        Some((WRONG_ARGUMENTS, place))
     }
 }
 
@@ -86,7 +89,7 @@ fn listed_fault(
     ensures { result ≡ calls.listed_fault (seen_names names.now) block place signature.first signature.second (expressions (map seen_expression arguments.now)) }
 {
     let Some((first, rest)) = arguments.split_first() else {
-        return Some((705, place));
+        return Some((WRONG_ARGUMENTS, place));
     };
     match signature.second {
         None => one_fault(names, block, place, signature.first, first, rest),
@@ -135,9 +138,15 @@ fn misfit_of_size(copied: bool, class: Class) -> Option<u16>
 {
     match class {
         Class::Array => None,
-        Class::Structure => { if copied { None } else { Some(702) } }
-        Class::Condition => Some(703),
-        _ => Some(702),
+        Class::Structure => {
+            if copied {
+                None
+            } else {
+                Some(WRONG_KIND_OF_OPERAND)
+            }
+        }
+        Class::Condition => Some(CONDITION_AS_VALUE),
+        _ => Some(WRONG_KIND_OF_OPERAND),
     }
 }
 
@@ -208,8 +217,8 @@ fn formed_fault(
     ensures { result ≡ calls.formed_fault (seen_names names.now) block place builtin (form_of builtin) (expressions (map seen_expression arguments.now)) }
 {
     match builtin.form() {
-        Form::Alone => Some((705, place)),
-        Form::Arrayed => Some((329, place)),
+        Form::Alone => Some((WRONG_ARGUMENTS, place)),
+        Form::Arrayed => Some((ARRAY_FUNCTION_LEFT_OUT, place)),
         Form::Listed => list_fault(names, block, place, builtin, arguments),
     }
 }
@@ -250,7 +259,7 @@ pub(crate) fn condition_fault(
 {
     for tree in arguments {
         if is_condition(class_of(tree, names, block)) {
-            return Some((703, tree.place()));
+            return Some((CONDITION_AS_VALUE, tree.place()));
         }
     }
     None

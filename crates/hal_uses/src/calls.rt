@@ -11,6 +11,7 @@ ghost use Rattle.hal_uses.specs.Calls as calls;
 
 use crate::arguments::{builtin_fault, condition_fault};
 use hal_base::Place;
+use hal_base::rules::{NOT_CALLABLE, WRONG_ARGUMENTS};
 use hal_kinds::{Choice, Data, class_in, data_at};
 use hal_names::Names;
 use hal_operands::{Want, misfit, misfit_at};
@@ -34,13 +35,13 @@ fn head_fault(
             if inputs.len() == arguments.len() {
                 condition_fault(names, block, arguments)
             } else {
-                Some((705, place))
+                Some((WRONG_ARGUMENTS, place))
             }
         }
-        Head::Program { place: _ } => Some((716, place)),
-        Head::Task { place: _ } => Some((716, place)),
-        Head::Compool { place: _ } => Some((716, place)),
-        Head::Procedure { .. } => Some((716, place)),
+        Head::Program { place: _ } => Some((NOT_CALLABLE, place)),
+        Head::Task { place: _ } => Some((NOT_CALLABLE, place)),
+        Head::Compool { place: _ } => Some((NOT_CALLABLE, place)),
+        Head::Procedure { .. } => Some((NOT_CALLABLE, place)),
     }
 }
 
@@ -89,15 +90,15 @@ fn product_fault(
     ensures { result ≡ calls.product_fault (seen_names names.now) block place found raised (expressions (map seen_expression arguments.now)) }
 {
     if raised {
-        return Some((716, place));
+        return Some((NOT_CALLABLE, place));
     }
     let Some((argument, others)) = arguments.split_first() else {
-        return Some((716, place));
+        return Some((NOT_CALLABLE, place));
     };
     if others.is_empty() {
         factors_fault(names, block, place, found, argument)
     } else {
-        Some((716, place))
+        Some((NOT_CALLABLE, place))
     }
 }
 
@@ -156,7 +157,7 @@ fn declared_fault(
             is_raised(names, phrase.around.parent),
             arguments,
         ),
-        _ => Some((716, place)),
+        _ => Some((NOT_CALLABLE, place)),
     }
 }
 
@@ -200,7 +201,7 @@ fn called_head_fault(
             if inputs.len() == arguments.len() && outputs.len() == receivers {
                 condition_fault(names, block, arguments)
             } else {
-                Some((705, place))
+                Some((WRONG_ARGUMENTS, place))
             }
         }
         Head::Program { place: _ } => None,
@@ -289,7 +290,7 @@ fn lone_fault(names: &Names<'_>, block: usize, place: Place, name: &Name) -> Opt
     let number = names.means(block, name)?;
     let declared = names.phrase(number)?;
     if lacks_arguments(declared.node) {
-        Some((705, place))
+        Some((WRONG_ARGUMENTS, place))
     } else {
         None
     }

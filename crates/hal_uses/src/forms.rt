@@ -9,7 +9,7 @@ ghost use Rattle.hal_phrases.specs.SeenPhrases.{seen_node, seen_phrase};
 ghost use Rattle.hal_names.specs.SeenNames.{seen_names};
 ghost use Rattle.hal_uses.specs.Forms as forms;
 
-use hal_base::Place;
+use hal_base::{ERROR_LIMIT, Place};
 use hal_names::Names;
 use hal_phrases::{Node, Phrase, Role};
 use hal_scope::unless;
@@ -128,7 +128,7 @@ pub fn misreturned(names: &Names<'_>, phrase: &Phrase<'_>) -> Option<Place>
 fn is_error_number(number: u32) -> bool
     ensures { result ≡ forms.is_error_number number }
 {
-    1 <= number && number <= 255
+    1 <= number && number <= ERROR_LIMIT
 }
 
 /// The group or the number of an error that is none.

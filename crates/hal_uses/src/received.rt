@@ -8,6 +8,7 @@ ghost use Rattle.hal_phrases.specs.SeenPhrases.{seen_node, seen_phrase};
 ghost use Rattle.hal_names.specs.SeenNames.{seen_names};
 ghost use Rattle.hal_uses.specs.Receivers as receivers;
 
+use hal_base::rules::{LOOP_VARIABLE_NOT_SINGLE, NOT_ASSIGNABLE, WRONG_ASSIGN_ARGUMENT};
 use hal_kinds::{Class, Data, chosen, constant_of, data_at, is_event_type};
 use hal_names::{Key, Names, Space};
 use hal_phrases::{Node, Phrase};
@@ -98,17 +99,17 @@ pub(crate) fn put_fault(
     match phrase.node {
         Node::Item { common, item } => {
             if is_event_type(type_of(common, item)) {
-                Some(722)
+                Some(WRONG_ASSIGN_ARGUMENT)
             } else if is_fixed(names, phrase, common, item) {
-                Some(709)
+                Some(NOT_ASSIGNABLE)
             } else if is_component(data_at(names, phrase, path), subscript) {
-                Some(722)
+                Some(WRONG_ASSIGN_ARGUMENT)
             } else {
                 None
             }
         }
         Node::TemporaryGroup { .. } => None,
-        _ => Some(722),
+        _ => Some(WRONG_ASSIGN_ARGUMENT),
     }
 }
 
@@ -142,10 +143,10 @@ fn counted_fault(
     ensures { result ≡ receivers.counted_fault (seen_names names.now) (seen_phrase phrase.now) (map seen_attribute common.now) (seen_declared item.now) found }
 {
     if !is_single_integer(found?) {
-        return Some(712);
+        return Some(LOOP_VARIABLE_NOT_SINGLE);
     }
     if is_fixed(names, phrase, common, item) {
-        Some(709)
+        Some(NOT_ASSIGNABLE)
     } else {
         None
     }
@@ -161,6 +162,6 @@ pub(crate) fn variable_fault(names: &Names<'_>, phrase: &Phrase<'_>) -> Option<u
             counted_fault(names, phrase, common, item, data_at(names, phrase, &[]))
         }
         Node::TemporaryGroup { .. } => None,
-        _ => Some(712),
+        _ => Some(LOOP_VARIABLE_NOT_SINGLE),
     }
 }

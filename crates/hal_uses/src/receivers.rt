@@ -8,6 +8,7 @@ ghost use Rattle.hal_uses.specs.Receivers as receivers;
 
 use crate::received::{may_receive, put_fault, variable_fault};
 use hal_base::Place;
+use hal_base::rules::{LOOP_VARIABLE_NOT_SINGLE, NOT_ASSIGNABLE, WRONG_ASSIGN_ARGUMENT};
 use hal_names::Names;
 use hal_phrases::{Node, Phrase, Role};
 use hal_scope::builtin_named;
@@ -23,7 +24,7 @@ fn received(names: &Names<'_>, block: usize, place: Place, name: &Name) -> Optio
     if may_receive(names, &phrase) {
         None
     } else {
-        Some((709, place))
+        Some((NOT_ASSIGNABLE, place))
     }
 }
 
@@ -35,7 +36,7 @@ fn put(names: &Names<'_>, block: usize, reference: &Reference) -> Option<(u16, P
     match names.means(block, &reference.name) {
         None => {
             if builtin_named(&reference.name).is_some() {
-                Some((722, reference.place))
+                Some((WRONG_ASSIGN_ARGUMENT, reference.place))
             } else {
                 None
             }
@@ -55,7 +56,7 @@ fn varied(names: &Names<'_>, block: usize, place: Place, name: &Name) -> Option<
     match names.means(block, name) {
         None => {
             if builtin_named(name).is_some() {
-                Some((712, place))
+                Some((LOOP_VARIABLE_NOT_SINGLE, place))
             } else {
                 None
             }

@@ -9,6 +9,7 @@ ghost use Rattle.hal_names.specs.SeenNames.{seen_names};
 ghost use Rattle.hal_uses.specs.Subscripts as subscripts;
 
 use hal_base::Place;
+use hal_base::rules::{MISPLACED_COMPONENT_SUBSCRIPT, WRONG_NUMBER_OF_SUBSCRIPTS};
 use hal_kinds::{
     Choice, Class, Data, chosen, class_of_head, data_at, is_event_type, is_miscounted,
 };
@@ -35,12 +36,12 @@ fn component_fault(has: bool, choice: Choice) -> Option<u16>
 {
     if has {
         if 1 < choice.components {
-            Some(707)
+            Some(WRONG_NUMBER_OF_SUBSCRIPTS)
         } else {
             None
         }
     } else if 0 < choice.components {
-        Some(721)
+        Some(MISPLACED_COMPONENT_SUBSCRIPT)
     } else {
         None
     }
@@ -51,7 +52,7 @@ fn choice_fault(eventful: bool, found: Data, choice: Choice) -> Option<u16>
     ensures { result ≡ subscripts.choice_fault eventful found choice }
 {
     if is_miscounted(found, choice) {
-        return Some(707);
+        return Some(WRONG_NUMBER_OF_SUBSCRIPTS);
     }
     component_fault(is_string(found.class) && !eventful, choice)
 }

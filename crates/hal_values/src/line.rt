@@ -1,10 +1,11 @@
 use arrayvec::ArrayVec;
+use hal_base::LINE_LIMIT;
 use std::marker::Model;
 
 /// The items of a WRITE, a blank before each: at most 1,000 bytes. A contract sees the list of bytes.
 #[derive(Drop)]
 pub struct Line {
-    bytes: ArrayVec<u8, 1000>,
+    bytes: ArrayVec<u8, LINE_LIMIT>,
 }
 
 impl Model for Line {

@@ -1,10 +1,11 @@
 use arrayvec::ArrayVec;
+use hal_base::CHARACTER_LIMIT;
 use std::marker::Model;
 
 /// A text of at most 255 bytes. A contract sees the list of its bytes.
 #[derive(Drop)]
 pub struct Text {
-    bytes: ArrayVec<u8, 255>,
+    bytes: ArrayVec<u8, CHARACTER_LIMIT>,
 }
 
 impl Model for Text {

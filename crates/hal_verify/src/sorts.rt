@@ -9,7 +9,7 @@ ghost use Rattle.hal_code.specs.Sorts.{I, B, T, is_kind, is_initial, same_kind, 
 ghost use Rattle.hal_verify.specs.SeenSorts.{seen_sort};
 
 use crate::sort::Sort;
-use hal_base::{BIT_LIMIT, CHARACTER_LIMIT};
+use hal_base::{BIT_LIMIT, CHARACTER_LIMIT, SINGLE_LEAST, SINGLE_MOST};
 use hal_code::{ResultKind, Target};
 use hal_operations::{Op1, Op2};
 use hal_values::{Kind, Value};
@@ -35,7 +35,7 @@ pub(crate) fn is_kind(kind: Kind) -> bool
         Kind::Single => true,
         Kind::Double => true,
         Kind::Bits(bits) => 1 <= bits && bits <= BIT_LIMIT,
-        Kind::Text(most) => 1 <= most && most <= CHARACTER_LIMIT,
+        Kind::Text(most) => 1 <= most && usize::from(most) <= CHARACTER_LIMIT,
     }
 }
 
@@ -59,7 +59,7 @@ fn is_of(kind: Kind, value: &Value) -> bool
     ensures { result ≡ is_of kind value.now }
 {
     match (kind, value) {
-        (Kind::Single, Value::Int(number)) => lies_within(-32_768, 32_767, *number),
+        (Kind::Single, Value::Int(number)) => lies_within(SINGLE_LEAST, SINGLE_MOST, *number),
         (Kind::Double, Value::Int(number)) => lies_within(i32::MIN, i32::MAX, *number),
         (Kind::Bits(bits), Value::Bits { len, word }) => *len == bits
             && has_bits_below(bits, *word),

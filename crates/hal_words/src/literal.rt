@@ -1,12 +1,13 @@
 ghost use Rattle.std.specs.Prelude.{◌≡◌, ◌≤◌, length};
 
 use crate::bounded::Bounded;
+use hal_base::CHARACTER_LIMIT;
 use std::marker::Model;
 
 /// A text literal of at most 255 bytes, which a contract sees as the list of its bytes.
 #[derive(Clone, Copy, PartialEq, Eq)]
 pub struct Literal {
-    text: Bounded<255>,
+    text: Bounded<CHARACTER_LIMIT>,
 }
 
 impl Model for Literal {

@@ -1,12 +1,13 @@
 ghost use Rattle.std.specs.Prelude.{◌≡◌, ◌≤◌, length};
 
 use crate::bounded::Bounded;
+use hal_base::NAME_LIMIT;
 use std::marker::Model;
 
 /// A name of the source in capitals, which a contract sees as the list of its bytes.
 #[derive(Clone, Copy, PartialEq, Eq, Hash)]
 pub struct Name {
-    text: Bounded<32>,
+    text: Bounded<NAME_LIMIT>,
 }
 
 impl Model for Name {

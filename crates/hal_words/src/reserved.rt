@@ -4,6 +4,13 @@ ghost use Rattle.std.specs.Prelude.{◌≡◌, map};
 ghost use Rattle.hal_words.specs.Reserved.{left_out_words, look_up, reserved_words};
 ghost use Rattle.hal_words.specs.Tables.{entry};
 
+use hal_base::rules::{
+    ACCESS_LEFT_OUT, COLUMN_LEFT_OUT, EQUATE_LEFT_OUT, FILE_LEFT_OUT, GO_LEFT_OUT, LINE_LEFT_OUT,
+    MATRIX_LEFT_OUT, NAME_LEFT_OUT, NONHAL_LEFT_OUT, PAGE_LEFT_OUT, READALL_LEFT_OUT,
+    REMOTE_LEFT_OUT, SCALAR_LEFT_OUT, SKIP_LEFT_OUT, SUBBIT_LEFT_OUT, TAB_LEFT_OUT,
+    VECTOR_LEFT_OUT,
+};
+
 /// A reserved word.
 #[derive(Clone, Copy, Debug, PartialEq, Eq)]
 pub enum Reserved {
@@ -171,23 +178,23 @@ const RESERVED: [(&str, Reserved); 78] = [
 
 /// The words of HAL/S that the profile leaves out, and the rule that each of them breaks.
 const LEFT_OUT: [(&str, u16); 17] = [
-    ("SCALAR", 301),
-    ("VECTOR", 302),
-    ("MATRIX", 303),
-    ("GO", 305),
-    ("READALL", 306),
-    ("FILE", 307),
-    ("SKIP", 308),
-    ("TAB", 309),
-    ("COLUMN", 310),
-    ("LINE", 311),
-    ("PAGE", 312),
-    ("NAME", 314),
-    ("SUBBIT", 315),
-    ("NONHAL", 317),
-    ("ACCESS", 318),
-    ("REMOTE", 319),
-    ("EQUATE", 320),
+    ("SCALAR", SCALAR_LEFT_OUT),
+    ("VECTOR", VECTOR_LEFT_OUT),
+    ("MATRIX", MATRIX_LEFT_OUT),
+    ("GO", GO_LEFT_OUT),
+    ("READALL", READALL_LEFT_OUT),
+    ("FILE", FILE_LEFT_OUT),
+    ("SKIP", SKIP_LEFT_OUT),
+    ("TAB", TAB_LEFT_OUT),
+    ("COLUMN", COLUMN_LEFT_OUT),
+    ("LINE", LINE_LEFT_OUT),
+    ("PAGE", PAGE_LEFT_OUT),
+    ("NAME", NAME_LEFT_OUT),
+    ("SUBBIT", SUBBIT_LEFT_OUT),
+    ("NONHAL", NONHAL_LEFT_OUT),
+    ("ACCESS", ACCESS_LEFT_OUT),
+    ("REMOTE", REMOTE_LEFT_OUT),
+    ("EQUATE", EQUATE_LEFT_OUT),
 ];
 
 /// The reserved word that is written so.

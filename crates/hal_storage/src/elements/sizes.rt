@@ -9,6 +9,7 @@ ghost use Rattle.hal_names.specs.SeenNames.{seen_names};
 ghost use Rattle.hal_constants.specs.SeenKnown.{seen_known};
 ghost use Rattle.hal_meaning.specs.Elements as elements;
 
+use hal_base::SIZE_LIMIT;
 use hal_constants::{Known, constant_of, size_of};
 use hal_names::Names;
 use hal_phrases::Phrase;
@@ -19,7 +20,7 @@ use std::alloc::{AllocError, Global};
 pub(crate) fn size_given(names: &Names<'_>, known: &Known, phrase: &Phrase<'_>, size: &Expr) -> u16
     ensures { result ≡ elements.size_given (seen_names names.now) (seen_known known.now) (seen_phrase phrase.now) (seen_expression size.now) }
 {
-    size_of(32767, &constant_of(size, names, known, phrase)).unwrap_or(1)
+    size_of(SIZE_LIMIT, &constant_of(size, names, known, phrase)).unwrap_or(1)
 }
 
 /// The sizes that a list gives.

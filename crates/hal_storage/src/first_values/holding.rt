@@ -6,6 +6,7 @@ ghost use Rattle.hal_meaning.specs.InitialValues as initial;
 ghost use Rattle.hal_values.specs.declared.value.Kind.TheVariants as kind;
 ghost use Rattle.hal_values.specs.declared.value.Value.TheVariants as value;
 
+use hal_base::{SINGLE_LEAST, SINGLE_MOST};
 use hal_operations::mend_fit;
 use hal_values::{Kind, Text, Value};
 
@@ -25,7 +26,7 @@ pub fn nothing(kind: Kind) -> Value
 fn is_single(number: i32) -> bool
     ensures { result ≡ kinds.lies_within (negsuc 32767) (pos 32767) number }
 {
-    !(number < -32768) && !(32767 < number)
+    !(number < SINGLE_LEAST) && !(SINGLE_MOST < number)
 }
 
 /// Whether an integer is one that a DOUBLE holds.
