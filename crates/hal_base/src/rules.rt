@@ -186,7 +186,7 @@ pub const BITS_COMPARED_BY_ORDER: u16 = 708;
 /// What receives a value can't be changed.
 pub const NOT_ASSIGNABLE: u16 = 709;
 
-/// A dimension, a length, a number of copies or the level of a part is outside its limits.
+/// A dimension, a length, the level of a part, or a number of copies or of dimensions is outside its limits.
 pub const SIZE_OUT_OF_RANGE: u16 = 710;
 
 /// RETURN has a value outside a FUNCTION, or none inside one.
