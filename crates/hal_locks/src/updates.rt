@@ -23,7 +23,7 @@ pub(crate) fn named_in(node: Node<'_>) -> Option<Identifier>
         Node::Reference { role: _, reference } => (reference.place, reference.name),
         Node::SubscriptName { name } => (name.place, name.name),
         Node::InitialName { name } => (name.place, name.name),
-        Node::CallForm { place, name, .. } => (place, *name),
+        Node::CallForm { place, name, .. } => (*place, *name),
         Node::StructureType { place, template } => (place, *template),
         Node::Variable { name } => (name.place, name.name),
         Node::Call { name, .. } => (name.place, name.name),

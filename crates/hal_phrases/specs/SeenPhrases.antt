@@ -30,7 +30,7 @@ seen_node (node.InitialName name) = Phrases.OfInitialName (seen_name name.now)
 seen_node (node.Label name) = Phrases.OfLabel (seen_name name.now)
 seen_node (node.Expression role tree) = Phrases.OfExpression role (seen_expression tree.now)
 seen_node (node.Decimal role place) = Phrases.OfDecimal role place
-seen_node (node.CallForm place name arguments) = Phrases.OfCallForm place name.now (expressions (map seen_expression arguments.now))
+seen_node (node.CallForm place name arguments) = Phrases.OfCallForm place.now name.now (expressions (map seen_expression arguments.now))
 seen_node (node.Reference role reference) = Phrases.OfReference role (seen_reference reference.now)
 seen_node (node.SubscriptName name) = Phrases.OfSubscriptName (seen_name name.now)
 seen_node (node.Assignment receivers value) = Phrases.OfAssignment (map seen_reference receivers.now) (seen_expression value.now)
@@ -47,10 +47,10 @@ seen_node (node.Update place labels) = Phrases.OfUpdate place (map seen_name lab
 seen_node (node.RealTime place) = Phrases.OfRealTime place
 seen_node (node.Process name) = Phrases.OfProcess (seen_name name.now)
 seen_node (node.Event event) = Phrases.OfEvent (seen_event event.now)
-seen_node (node.Handler place selector) = Phrases.OfHandler place (seen_selector selector)
-seen_node (node.Response place selector) = Phrases.OfResponse place (seen_selector selector)
-seen_node (node.OffError place selector) = Phrases.OfOffError place (seen_selector selector)
-seen_node (node.SendError group_at group number_at number) = Phrases.OfSendError group_at group number_at number
+seen_node (node.Handler place selector) = Phrases.OfHandler place (seen_selector selector.now)
+seen_node (node.Response place selector) = Phrases.OfResponse place (seen_selector selector.now)
+seen_node (node.OffError place selector) = Phrases.OfOffError place (seen_selector selector.now)
+seen_node (node.SendError group_at group number_at number) = Phrases.OfSendError group_at.now group number_at.now number
 
 -- a phrase
 abbrev pub seen_phrase : rust-phrase.Phrase → Phrases.Phrase

@@ -114,7 +114,7 @@ pub(crate) fn gather_expression<'a>(
                 into,
                 below,
                 Node::CallForm {
-                    place: *place,
+                    place,
                     name,
                     arguments,
                 },

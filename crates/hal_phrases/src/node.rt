@@ -16,7 +16,8 @@ use hal_tree::{
 use hal_words::Name;
 use std::alloc::AllocError;
 
-/// What a phrase is. A constructor of the trees of which a rule speaks has a variant of its own, without what stands below where no rule asks for it.
+/// What a phrase is. A constructor of the trees of which a rule speaks has a variant of its own, without what stands below where no rule asks for it. A set has
+/// many phrases, and most passes look at all of them: so what takes more than 40 bytes is a reference.
 #[derive(Clone, Copy)]
 pub enum Node<'a> {
     /// A file, by its prefaces and the name of its unit.
@@ -90,7 +91,7 @@ pub enum Node<'a> {
     },
     /// `name(argument, ..)`
     CallForm {
-        place: Place,
+        place: &'a Place,
         name: &'a Name,
         arguments: &'a [Expr],
     },
@@ -160,21 +161,21 @@ pub enum Node<'a> {
     /// ON ERROR with a statement.
     Handler {
         place: Place,
-        selector: Selector,
+        selector: &'a Selector,
     },
     /// ON ERROR with SYSTEM or IGNORE.
     Response {
         place: Place,
-        selector: Selector,
+        selector: &'a Selector,
     },
     OffError {
         place: Place,
-        selector: Selector,
+        selector: &'a Selector,
     },
     SendError {
-        group_at: Place,
+        group_at: &'a Place,
         group: u32,
-        number_at: Place,
+        number_at: &'a Place,
         number: u32,
     },
 }

@@ -255,7 +255,7 @@ fn gather_basic<'a>(
                 around,
                 Node::Handler {
                     place: *place,
-                    selector: *selector,
+                    selector,
                 },
             )?;
             gather_statement(into, around.inside(), handler)
@@ -268,7 +268,7 @@ fn gather_basic<'a>(
         } => {
             let node = Node::Response {
                 place: *place,
-                selector: *selector,
+                selector,
             };
             gather_response(into, around, node, event)
         }
@@ -278,7 +278,7 @@ fn gather_basic<'a>(
                 around,
                 Node::OffError {
                     place: *place,
-                    selector: *selector,
+                    selector,
                 },
             )
         }
@@ -292,9 +292,9 @@ fn gather_basic<'a>(
             into,
             around,
             Node::SendError {
-                group_at: *group_at,
+                group_at,
                 group: *group,
-                number_at: *number_at,
+                number_at,
                 number: *number,
             },
         ),

@@ -129,7 +129,7 @@ pub(crate) fn used(node: Node<'_>) -> Option<Use>
         Node::Reference { role, reference } => (reference.place, reference.name, usage_of(role)),
         Node::SubscriptName { name } => (name.place, name.name, Usage::Value),
         Node::InitialName { name } => (name.place, name.name, Usage::Value),
-        Node::CallForm { place, name, .. } => (place, *name, Usage::CallForm),
+        Node::CallForm { place, name, .. } => (*place, *name, Usage::CallForm),
         Node::StructureType { place, template } => (place, *template, Usage::StructureType),
         Node::Variable { name } => (name.place, name.name, Usage::Variable),
         Node::Call { name, .. } => (name.place, name.name, Usage::Called),

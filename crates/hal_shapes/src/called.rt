@@ -236,7 +236,7 @@ pub fn misshaped(names: &Names<'_>, known: &Known, phrase: &Phrase<'_>) -> Optio
             arguments,
         } => {
             let block = names.means(phrase.around.block, name)?;
-            form_fault(names, known, phrase, place, arguments, block)
+            form_fault(names, known, phrase, *place, arguments, block)
         }
         Node::Call {
             name,

@@ -314,7 +314,7 @@ pub fn miscalled(names: &Names<'_>, phrase: &Phrase<'_>) -> Option<(u16, Place)>
             place,
             name,
             arguments,
-        } => call_form_fault(names, phrase, place, name, arguments),
+        } => call_form_fault(names, phrase, *place, name, arguments),
         Node::Call {
             name,
             arguments,

@@ -170,15 +170,15 @@ pub fn no_error(node: Node<'_>) -> Option<Place>
     ensures { result ≡ forms.no_error (seen_node node.entry) }
 {
     match node {
-        Node::Handler { place: _, selector } => selector_fault(selector),
-        Node::Response { place: _, selector } => selector_fault(selector),
-        Node::OffError { place: _, selector } => selector_fault(selector),
+        Node::Handler { place: _, selector } => selector_fault(*selector),
+        Node::Response { place: _, selector } => selector_fault(*selector),
+        Node::OffError { place: _, selector } => selector_fault(*selector),
         Node::SendError {
             group_at,
             group,
             number_at,
             number,
-        } => error_fault(group_at, group, number_at, number),
+        } => error_fault(*group_at, group, *number_at, number),
         _ => None,
     }
 }
