@@ -247,7 +247,8 @@ pub fn link(alloc: Global, set: &Set<'_>, units: &Units<'_>) -> Result<ImagePart
     let outlines = outlines_of(alloc, set, units, &processes)?;
     let views = views_in(&whole, &processes, &outlines)?;
     let groups = all_groups(alloc, units, set.known)?;
-    let mut code = Vec::new(alloc);
+    // A phrase has about two instructions.
+    let mut code = Vec::with_capacity(alloc, set.names.phrases().len().saturating_mul(2))?;
     let mut blocks = Vec::new(alloc);
     link_outlines(&mut code, &mut blocks, &whole, &views, &groups, &outlines)?;
     image_with(

@@ -30,9 +30,13 @@ pub data Referent : Type 0 where
 abbrev pub event_referent : List Phrase → ℕ → Referent
 event_referent ps k = elim (event_of ps k) [ None ↦ Unmeant | Some e ↦ EventOf e ]
 
--- a constant; one that isn't known is 0, to which no accepted set comes
+-- the value of a constant; one that isn't known is 0, to which no accepted set comes
+abbrev pub constant_value : Known → ℕ → Value
+constant_value vs k = unwrap_or (value_at vs k) (value.Int (pos 0))
+
+-- a constant
 abbrev pub constant_referent : Known → ℕ → Referent
-constant_referent vs k = ConstantOf (unwrap_or (value_at vs k) (value.Int (pos 0)))
+constant_referent vs k = ConstantOf (constant_value vs k)
 
 -- a TEMPORARY variable of the group with this number
 abbrev pub temporary_referent : ℕ → Referent

@@ -9,7 +9,7 @@ use Rattle.hal_storage.specs.referents.Referents.{Referent, DataOf, ConstantOf, 
 
 abbrev pub seen_referent : rust-referent.Referent → Referent
 seen_referent (rust.Data declared stored shape) = DataOf declared (seen_storing stored) (seen_shape shape)
-seen_referent (rust.Constant value) = ConstantOf value
+seen_referent (rust.Constant value) = ConstantOf value.value
 seen_referent (rust.Event event) = EventOf event
 seen_referent (rust.Block unit) = BlockOf unit
 seen_referent rust.Nothing = Unmeant

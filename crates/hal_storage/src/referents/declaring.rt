@@ -48,13 +48,20 @@ fn event_referent(
 }
 
 /// The value of a constant; one that isn't known is 0, to which no accepted set comes.
-fn value_of(known: &Known, number: usize) -> Referent
-    ensures { seen_referent result ≡ referents.constant_referent (seen_known known.now) number }
+fn value_of(known: &Known, number: usize) -> Value
+    ensures { result ≡ referents.constant_value (seen_known known.now) number }
 {
     match known.value(number) {
-        None => Referent::Constant(Value::Int(0)),
-        Some(value) => Referent::Constant(value),
+        None => Value::Int(0),
+        Some(value) => value,
     }
+}
+
+/// A constant.
+fn constant_referent(alloc: Global, known: &Known, number: usize) -> Result<Referent, AllocError>
+    ensures { IfOk result (λ one. seen_referent one ≡ referents.constant_referent (seen_known known.now) number) }
+{
+    Ok(Referent::Constant(Box::new(alloc, value_of(known, number))?))
 }
 
 /// What an item declares that is stored so.
@@ -78,7 +85,7 @@ fn item_referent(
         return Ok(event_referent(names, processes, declared, phrase.number));
     }
     if is_value_item(common, item) {
-        return Ok(value_of(known, phrase.number));
+        return constant_referent(alloc, known, phrase.number);
     }
     Ok(Referent::Data {
         declared: phrase.number,
@@ -221,7 +228,7 @@ pub fn referents_of(
 {
     let processes = processes_of(alloc, names)?;
     let declared = declared_events(alloc, names)?;
-    let mut list = Vec::new(alloc);
+    let mut list = Vec::with_capacity(alloc, names.phrases().len())?;
     push_referents(
         alloc,
         &mut list,

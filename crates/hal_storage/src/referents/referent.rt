@@ -14,7 +14,8 @@ pub enum Referent {
         stored: Storing,
         shape: Shape,
     },
-    Constant(Value),
+    /// A constant. Its value is on the heap, so that a referent is small: each phrase has one, and few are constants.
+    Constant(Box<Value>),
     /// An event or a process, by the number of its event.
     Event(u16),
     /// A block that is called, by the number of its phrase.
