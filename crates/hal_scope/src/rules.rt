@@ -16,7 +16,7 @@ use hal_base::rules::{
     UNKNOWN_COMPONENT, UNKNOWN_NAME, WRONG_CLOSING_NAME, WRONG_KIND_OF_NAME,
 };
 use hal_names::Names;
-use hal_phrases::Phrase;
+use hal_phrases::{Node, Phrase};
 
 /// The rule and the place, where there is one.
 pub fn ruled(rule: u16, place: Option<Place>) -> Option<(u16, Place)>
@@ -28,9 +28,9 @@ pub fn ruled(rule: u16, place: Option<Place>) -> Option<(u16, Place)>
     }
 }
 
-/// The first rule that a phrase breaks, and where.
+/// The first rule that a phrase breaks that is no expression, and where.
 #[tactic(auto, using(crate::proofs::Lists::or_none), unfolding(crate::specs::Rules::fault))]
-pub(crate) fn fault(names: &Names<'_>, phrase: &Phrase<'_>) -> Option<(u16, Place)>
+fn fault_of_other(names: &Names<'_>, phrase: &Phrase<'_>) -> Option<(u16, Place)>
     ensures { result ≡ fault rows (seen_names names.now) (seen_phrase phrase.now) }
 {
     let later = ruled(UNKNOWN_COMPONENT, lacks(names, phrase));
@@ -41,6 +41,17 @@ pub(crate) fn fault(names: &Names<'_>, phrase: &Phrase<'_>) -> Option<(u16, Plac
     let later = ruled(WRONG_KIND_OF_NAME, misused(names, phrase)).or(later);
     let later = ruled(REPEATED_NAME, repeated(names, phrase)).or(later);
     ruled(UNKNOWN_NAME, unknown(names, phrase)).or(later)
+}
+
+/// The first rule that a phrase breaks, and where. No rule is about an expression: its names are phrases of their own.
+#[tactic(auto, using(crate::proofs::Silent::expression_is_right))]
+pub(crate) fn fault(names: &Names<'_>, phrase: &Phrase<'_>) -> Option<(u16, Place)>
+    ensures { result ≡ fault rows (seen_names names.now) (seen_phrase phrase.now) }
+{
+    match phrase.node {
+        Node::Expression { role: _, tree: _ } => None,
+        _ => fault_of_other(names, phrase),
+    }
 }
 
 /// The first rule that one of the phrases breaks, and where.
