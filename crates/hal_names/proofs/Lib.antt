@@ -9,3 +9,4 @@ pub mod Places
 pub mod Search
 mod Homes
 pub mod Spanned
+pub mod Declared

@@ -6,3 +6,4 @@ pub mod SeenNames
 pub mod Laws
 pub mod Tasks
 pub mod Spans
+pub mod Declarations

@@ -1,6 +1,7 @@
 //! What a name means, over the phrases of a set of files: the phrase that declares it in the nearest enclosing block, else in a template of the file.
 #![tactic(auto)]
 
+mod declarations;
 mod declaring;
 mod index;
 mod key;

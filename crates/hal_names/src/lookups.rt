@@ -11,6 +11,7 @@ ghost use Rattle.hal_names.specs.SeenNames.{seen_names};
 ghost use Rattle.hal_names.specs.Spans.{is_of};
 ghost use Rattle.hal_names.specs.Tasks.{is_task_in};
 
+use crate::declarations::declared_places;
 use crate::index::{index_of, number_of};
 use crate::key::Key;
 use crate::means::{included_before, nearest, unit_named};
@@ -27,11 +28,13 @@ impl<'a> Names<'a> {
     pub fn of(alloc: Global, phrases: Vec<Phrase<'a>>) -> Result<Names<'a>, AllocError>
         ensures { IfOk result (λ names. seen_names names ≡ map seen_phrase phrases.entry.items) }
     {
+        let declared = declared_places(alloc, phrases.as_slice())?;
         let index = index_of(alloc, phrases.as_slice())?;
         let tasks = homes_of(alloc, phrases.as_slice())?;
         let spans = spans_of(alloc, phrases.as_slice())?;
         Ok(Names {
             phrases,
+            declared,
             index,
             tasks,
             spans,
