@@ -10,12 +10,13 @@ use hal_names::Names;
 use std::alloc::{AllocError, Global};
 
 /// The numbers of the phrases of the processes, in order (language document, Units).
+#[tactic(auto, using(crate::proofs::Declared::processes_declared))]
 pub fn processes_of(alloc: Global, names: &Names<'_>) -> Result<Vec<usize>, AllocError>
     ensures { IfOk result (λ list. list.items ≡ bodies.processes_of (seen_names names.now)) }
 {
     let mut list = Vec::new(alloc);
-    let phrases = names.phrases();
-    for phrase in phrases {
+    let phrases = names.declarations(alloc)?;
+    for phrase in &phrases {
         if is_process(phrase.node) {
             list.push(phrase.number)?;
         }
@@ -24,12 +25,13 @@ pub fn processes_of(alloc: Global, names: &Names<'_>) -> Result<Vec<usize>, Allo
 }
 
 /// The numbers of the phrases of the units, in order (language document, Units).
+#[tactic(auto, using(crate::proofs::Declared::units_declared))]
 pub fn unit_numbers(alloc: Global, names: &Names<'_>) -> Result<Vec<usize>, AllocError>
     ensures { IfOk result (λ list. list.items ≡ places.unit_numbers (seen_names names.now)) }
 {
     let mut list = Vec::new(alloc);
-    let phrases = names.phrases();
-    for phrase in phrases {
+    let phrases = names.declarations(alloc)?;
+    for phrase in &phrases {
         if is_unit(phrase.node) {
             list.push(phrase.number)?;
         }

@@ -15,6 +15,7 @@ use hal_names::Names;
 use std::alloc::{AllocError, Global};
 
 /// The units of a set with these calls, whose numbers are these.
+#[tactic(auto, using(crate::proofs::Declared::units_among_declared))]
 fn units_with(
     alloc: Global,
     names: &Names<'_>,
@@ -24,8 +25,8 @@ fn units_with(
     ensures { IfOk result (λ units. map seen_unit units.items ≡ called.units_among numbers.now calls.now (seen_names names.now)) }
 {
     let mut units = Vec::new(alloc);
-    let phrases = names.phrases();
-    for phrase in phrases {
+    let phrases = names.declarations(alloc)?;
+    for phrase in &phrases {
         if is_unit(phrase.node) {
             let callees = places_called(alloc, numbers, calls, phrase.number)?;
             units.push(Unit {

@@ -6,4 +6,4 @@ use Rattle.hal_reach.proofs.numbers.processes_of.Given as goal
 
 abbrev pub invariant-loop-phrase : goal.invariant-loop-phrase
 invariant-loop-phrase l =
-    l.list.items ++ processes_of (map seen_phrase (drop l.phrase-index l.phrases)) ≡ processes_of (seen_names l.names)
+    l.list.items ++ processes_of (map seen_phrase (drop l.phrase-index l.phrase-items)) ≡ processes_of (seen_names l.names)

@@ -6,4 +6,4 @@ use Rattle.hal_reach.proofs.numbers.unit_numbers.Given as goal
 
 abbrev pub invariant-loop-phrase : goal.invariant-loop-phrase
 invariant-loop-phrase l =
-    l.list.items ++ unit_numbers (map seen_phrase (drop l.phrase-index l.phrases)) ≡ unit_numbers (seen_names l.names)
+    l.list.items ++ unit_numbers (map seen_phrase (drop l.phrase-index l.phrase-items)) ≡ unit_numbers (seen_names l.names)

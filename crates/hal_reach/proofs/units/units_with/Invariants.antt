@@ -7,4 +7,4 @@ use Rattle.hal_reach.proofs.units.units_with.Given as goal
 
 abbrev pub invariant-loop-phrase : goal.invariant-loop-phrase
 invariant-loop-phrase l =
-    map seen_unit l.units.items ++ units_among l.numbers l.calls (map seen_phrase (drop l.phrase-index l.phrases)) ≡ units_among l.numbers l.calls (seen_names l.names)
+    map seen_unit l.units.items ++ units_among l.numbers l.calls (map seen_phrase (drop l.phrase-index l.phrase-items)) ≡ units_among l.numbers l.calls (seen_names l.names)
