@@ -4,13 +4,18 @@ use Rattle.std.proofs.lemmas.Bool.{and_parts, eqb-true}
 use Rattle.std.proofs.lemmas.List.Elements.{All-nil, All-cons}
 use Rattle.hal_base.specs.declared.refusal.Place.{Place}
 use Rattle.hal_base.specs.declared.refusal.Refusal.{Refusal}
+use Rattle.hal_base.specs.declared.refusal.Fault.{Fault}
+use Rattle.hal_base.specs.declared.refusal.Fault.TheVariants as fault
 use Rattle.hal_words.specs.Letters.{is_blank}
 use Rattle.hal_words.specs.Numbers.{begins}
 use Rattle.hal_words.specs.Pieces.{Piece, Wrong, piece_or_text}
 use Rattle.hal_words.specs.Lines.{Item, item, Cell, place_at, main_cells}
 use Rattle.hal_words.specs.Items.{begins_comment, main_item, opens_text, items}
-use Rattle.hal_pieces.specs.Faults.{IsRight}
-use Rattle.hal_pieces.specs.Reading.{closing, inside, Reads, IsBrokenBy}
+use Rattle.hal_pieces.specs.declared.item.RightPiece.{RightPiece}
+use Rattle.hal_pieces.specs.declared.item.RightPiece.TheVariants as right
+use Rattle.hal_pieces.specs.Seen.{seen_right}
+use Rattle.hal_pieces.specs.Faults.{IsRight, IsFaultItem}
+use Rattle.hal_pieces.specs.Reading.{closing, inside, Reads, IsBrokenBy, TellsOf}
 use Rattle.hal_pieces.proofs.Cells.{items-blank, items-line_end, items-word}
 use Rattle.hal_pieces.proofs.InComments.{items-comment, inside-byte, inside-closed, inside-open}
 use Rattle.hal_pieces.proofs.Follow.{Reads-same, Reads-nothing}
@@ -67,9 +72,20 @@ Reads-word unit line column text sized one old is some plain blank comment found
     (All-cons (λ one. IsRight one.piece) one [] right (All-nil (λ one. IsRight one.piece)))
     (λ more. items-piece old unit line column text more sized is some plain blank comment ∙ ap (λ (o : Item). o ∷ items (old ++ o ∷ []) 0 (main_cells unit line (column + sized.1) (drop sized.1 text) ++ more)) found)
 
+-- a piece that is an item breaks no rule
+pub IsRight-seen : (one : RightPiece) → IsRight (seen_right one)
+IsRight-seen (right.Word word) = tt
+IsRight-seen (right.Replacement bytes) = tt
+IsRight-seen right.Open = tt
+
 -- a word that breaks a rule
-pub IsBrokenBy-word : (unit line column : ℕ) (text : List ℕ) (sized : Piece × ℕ) (old : List Item) (refusal : Refusal) → sized ≡ piece_or_text (opens_text old) text → 0 < length text → All (λ b. b ≢ 10) text → begins is_blank text ≡ false → begins_comment text ≡ false → main_item sized.0 (place_at unit line column) ≡ item (Wrong refusal.rule.0) refusal.place → IsBrokenBy (main_cells unit line column text) None old refusal
+IsBrokenBy-word : (unit line column : ℕ) (text : List ℕ) (sized : Piece × ℕ) (old : List Item) (refusal : Refusal) → sized ≡ piece_or_text (opens_text old) text → 0 < length text → All (λ b. b ≢ 10) text → begins is_blank text ≡ false → begins_comment text ≡ false → main_item sized.0 (place_at unit line column) ≡ item (Wrong refusal.rule.0) refusal.place → IsBrokenBy (main_cells unit line column text) None old refusal
 IsBrokenBy-word unit line column text sized old refusal is some plain blank comment found = λ more.
     let fault = item (Wrong refusal.rule.0) refusal.place in
     let same = items-piece old unit line column text more sized is some plain blank comment ∙ ap (λ (o : Item). o ∷ items (old ++ o ∷ []) 0 (main_cells unit line (column + sized.1) (drop sized.1 text) ++ more)) found in
     subst (λ (l : List Item). Contains l fault) (sym same) (0, omega arith, refl)
+
+-- an error that tells of a word
+pub TellsOf-word : (unit line column : ℕ) (text : List ℕ) (sized : Piece × ℕ) (old : List Item) (told : Fault) → sized ≡ piece_or_text (opens_text old) text → 0 < length text → All (λ b. b ≢ 10) text → begins is_blank text ≡ false → begins_comment text ≡ false → IsFaultItem (main_item sized.0 (place_at unit line column)) told → TellsOf (main_cells unit line column text) None old told
+TellsOf-word unit line column text sized old (fault.Broken refusal) is some plain blank comment found = IsBrokenBy-word unit line column text sized old refusal is some plain blank comment found
+TellsOf-word unit line column text sized old (fault.Memory error) is some plain blank comment found = tt

@@ -4,6 +4,8 @@ use Rattle.hal_words.specs.Pieces as definition
 use Rattle.hal_words.specs.Pieces.{Is}
 use Rattle.hal_pieces.specs.declared.piece.Piece.{Piece}
 use Rattle.hal_pieces.specs.declared.piece.Piece.TheVariants as code
+use Rattle.hal_pieces.specs.declared.item.RightPiece.{RightPiece}
+use Rattle.hal_pieces.specs.declared.item.RightPiece.TheVariants as right
 
 abbrev pub seen : Piece → definition.Piece
 seen (code.Word one) = Is one
@@ -11,3 +13,9 @@ seen (code.Text text) = Is (word.Text text)
 seen (code.Replacement bytes) = definition.Replacement bytes.now
 seen code.Open = definition.Open
 seen (code.Wrong rule) = definition.Wrong rule.0
+
+-- and those of them that break no rule
+abbrev pub seen_right : RightPiece → definition.Piece
+seen_right (right.Word one) = Is one
+seen_right (right.Replacement bytes) = definition.Replacement bytes.now
+seen_right right.Open = definition.Open

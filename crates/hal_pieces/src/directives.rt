@@ -8,11 +8,10 @@ ghost use Rattle.hal_pieces.specs.Directives.{cells_of, included_cells};
 ghost use Rattle.hal_pieces.specs.Faults.{IsMemory, seen_item};
 ghost use Rattle.hal_pieces.specs.Reading.{Reads, TellsOf};
 
-use crate::item::{Item, broken};
+use crate::item::{Item, RightPiece, broken};
 use crate::names::{
     behind_blanks, behind_run, blanks, is_namelike, is_word, run_bytes, short_name,
 };
-use crate::piece::Piece;
 use hal_base::rules::{MALFORMED_INCLUDE, NAME_TOO_LONG};
 use hal_base::{Fault, Place};
 use hal_words::{Name, Reserved, Word};
@@ -66,7 +65,7 @@ fn push_given<'a>(items: &mut Vec<Item<'a>>, word: Word, place: Place) -> Result
     ensures pushed { IfOk result (λ _. map seen_item items.new.items ≡ map seen_item items.old.items ++ item (Is word) place ∷ []) }
     ensures memory { IfErr result IsMemory }
 {
-    let piece = Piece::Word(word);
+    let piece = RightPiece::Word(word);
     if items.push(Item { piece, place }).is_err() {
         return Err(Fault::Memory(AllocError));
     }

@@ -10,13 +10,18 @@ use hal_base::rules::UNENDED_LITERAL_OR_COMMENT;
 use hal_base::{Fault, Place, Refusal, Rule, first_line};
 use std::alloc::Global;
 
+/// How many bytes of a file give an item, about. By this there is room for the items from the first, and they are seldom moved.
+const BYTES_OF_AN_ITEM: usize = 4;
+
 /// The items of unit number `unit`, or a rule that is broken at its place.
 pub fn items<'a>(alloc: Global, text: &'a [u8], unit: u32) -> Result<Vec<Item<'a>>, Fault>
     ensures found { IfOk result (λ found. map seen_item found.items ≡ file_items unit text.now) }
     ensures whole { IfOk result (λ found. HasNoFault (file_items unit text.now)) }
     ensures broken { IfErr result (Tells (file_items unit text.now)) }
 {
-    let mut items = Vec::new(alloc);
+    let mut items = Vec::with_capacity(alloc, text.len() / BYTES_OF_AN_ITEM).map_err(
+        Fault::Memory,
+    )?;
     let comment = push_lines(&mut items, text, unit)?;
     match comment {
         None => Ok(items),

@@ -1,37 +1,84 @@
-ghost use Rattle.std.specs.Prelude.{◌≡◌, IfSome, IfNone};
+ghost use Rattle.std.specs.Prelude.{◌≡◌, IfOk, IfErr, IfSome, IfNone};
+ghost use Rattle.hal_base.specs.declared.refusal.Place.{Place};
+ghost use Rattle.hal_words.specs.declared.word.Word.TheVariants as word;
 ghost use Rattle.hal_words.specs.Pieces.{Wrong};
 ghost use Rattle.hal_words.specs.Lines.{item};
 ghost use Rattle.hal_words.specs.Items.{main_item};
-ghost use Rattle.hal_pieces.specs.Seen.{seen};
-ghost use Rattle.hal_pieces.specs.Faults.{IsBrokenAt, IsRight};
+ghost use Rattle.hal_pieces.specs.Seen.{seen, seen_right};
+ghost use Rattle.hal_pieces.specs.Faults.{IsBrokenAt, IsFaultItem};
 
 use crate::piece::Piece;
 use hal_base::rules::MALFORMED_INCLUDE;
 use hal_base::{Fault, Place, Refusal, Rule};
-use hal_words::{Reserved, Word};
+use hal_words::{BoxedLiteral, Literal, Reserved, Word};
+use std::alloc::{AllocError, Global};
+
+/// A piece that breaks no rule. A text literal is on the heap here, so that a piece is small: a file has pieces by the ten
+/// thousand, and few of them are texts.
+#[derive(Drop)]
+pub enum RightPiece<'a> {
+    Word(Word),
+    /// The text of a definition, between two `"`.
+    Replacement(&'a [u8]),
+    /// A `"` that opens such a text, without another one on the line.
+    Open,
+}
 
 /// A piece and the place of its first byte.
 #[derive(Drop)]
 pub struct Item<'a> {
-    pub piece: Piece<'a>,
+    pub piece: RightPiece<'a>,
     pub place: Place,
 }
 
-/// The refusal of a piece on a main line. INCLUDE isn't for main lines. None where the piece breaks no
-/// rule.
-pub fn refusal_of(piece: &Piece, place: Place) -> Option<Refusal>
-    ensures right { IfNone result (IsRight (main_item (seen piece.now) place).piece) }
-    ensures found { IfNone result (main_item (seen piece.now) place ≡ item (seen piece.now) place) }
+/// The piece that stands at this place on a main line or in the text of a definition, where it breaks no rule.
+pub fn right_piece<'a>(
+    alloc: Global,
+    piece: &Piece<'a>,
+    place: Place,
+) -> Result<RightPiece<'a>, Fault>
+    ensures found { IfOk result (λ right. (at : Place) → main_item (seen piece.now) at ≡ item (seen_right right) at) }
+    ensures broken { IfErr result (IsFaultItem (main_item (seen piece.now) place)) }
+{
+    if let Some(refusal) = include_refused(piece, place) {
+        return Err(Fault::Broken(refusal));
+    }
+    kept(alloc, piece, place)
+}
+
+/// The refusal of the word INCLUDE, which is neither for main lines nor for the texts of definitions.
+fn include_refused(piece: &Piece, place: Place) -> Option<Refusal>
+    ensures found { IfNone result ((at : Place) → main_item (seen piece.now) at ≡ item (seen piece.now) at) }
     ensures broken { IfSome result (λ refusal. main_item (seen piece.now) place ≡ item (Wrong refusal.rule.0) refusal.place) }
 {
     match piece {
-        Piece::Wrong(rule) => Some(Refusal { rule: *rule, place }),
         Piece::Word(Word::Reserved(Reserved::Include)) => Some(Refusal {
             rule: Rule(MALFORMED_INCLUDE),
             place: Place { column: 1, ..place },
         }),
         _ => None,
     }
+}
+
+/// The piece as an item keeps it, though it be INCLUDE; or the rule that it is, broken at this place.
+fn kept<'a>(alloc: Global, piece: &Piece<'a>, place: Place) -> Result<RightPiece<'a>, Fault>
+    ensures same { IfOk result (λ right. seen_right right ≡ seen piece.now) }
+    ensures broken { IfErr result (IsFaultItem (item (seen piece.now) place)) }
+{
+    match piece {
+        Piece::Word(word) => Ok(RightPiece::Word(word.copy(alloc).map_err(Fault::Memory)?)),
+        Piece::Text(literal) => Ok(RightPiece::Word(text(alloc, literal).map_err(Fault::Memory)?)),
+        Piece::Replacement(bytes) => Ok(RightPiece::Replacement(bytes)),
+        Piece::Open => Ok(RightPiece::Open),
+        Piece::Wrong(rule) => Err(broken(rule.0, place)),
+    }
+}
+
+/// The word that is this literal.
+fn text(alloc: Global, literal: &Literal) -> Result<Word, AllocError>
+    ensures { IfOk result (λ made. made ≡ word.Text literal.now) }
+{
+    Ok(Word::Text(BoxedLiteral::new(alloc, *literal)?))
 }
 
 /// The fault of a rule that is broken at a place.

@@ -21,5 +21,5 @@ mod signs;
 pub use bytes::is_blank;
 pub use comments::comment_end;
 pub use file::items;
-pub use item::{Item, broken};
+pub use item::{Item, RightPiece, broken, right_piece};
 pub use piece::{Piece, first_piece};

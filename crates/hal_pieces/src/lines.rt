@@ -11,7 +11,7 @@ ghost use Rattle.hal_pieces.specs.Reading.{Reads, TellsOf};
 
 use crate::comments::comment_end;
 use crate::directives::push_directive;
-use crate::item::{Item, broken, refusal_of};
+use crate::item::{Item, broken, right_piece};
 use crate::kinds::{Kind, line_kind};
 use crate::replacements::piece_behind;
 use hal_base::rules::{EXPONENT_OR_SUBSCRIPT_LINE, UNKNOWN_KIND_OF_LINE};
@@ -184,9 +184,7 @@ fn push_piece<'a>(items: &mut Vec<Item<'a>>, text: &'a [u8], place: Place) -> Re
     ensures broken { IfErr result (TellsOf (main_cells place.unit place.line place.column text.now) None (map seen_item items.old.items)) }
 {
     let (piece, size) = piece_behind(items.as_slice(), text);
-    if let Some(refusal) = refusal_of(&piece, place) {
-        return Err(Fault::Broken(refusal));
-    }
+    let piece = right_piece(*items.allocator(), &piece, place)?;
     if items.push(Item { piece, place }).is_err() {
         return Err(Fault::Memory(AllocError));
     }

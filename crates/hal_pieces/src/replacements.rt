@@ -3,10 +3,10 @@
 ghost use Rattle.std.specs.Prelude.{◌≡◌, map};
 ghost use Rattle.hal_words.specs.Pieces.{piece_or_text, replacement};
 ghost use Rattle.hal_words.specs.Items.{are_opening, ends_parameters, is_by, is_replace, opens_text};
-ghost use Rattle.hal_pieces.specs.Seen.{seen};
+ghost use Rattle.hal_pieces.specs.Seen.{seen, seen_right};
 ghost use Rattle.hal_pieces.specs.Faults.{seen_item};
 
-use crate::item::Item;
+use crate::item::{Item, RightPiece};
 use crate::piece::{Piece, first_piece};
 use crate::runs::{Class, front};
 use hal_words::{Reserved, Symbol, Word};
@@ -42,8 +42,8 @@ fn opens_text(items: &[Item]) -> bool
 }
 
 /// REPLACE with at most two items behind it, or the end of a list of parameters and BY.
-fn are_opening(first: &Piece, second: &Piece, third: &Piece) -> bool
-    ensures { result ≡ are_opening (seen first.now) (seen second.now) (seen third.now) }
+fn are_opening(first: &RightPiece, second: &RightPiece, third: &RightPiece) -> bool
+    ensures { result ≡ are_opening (seen_right first.now) (seen_right second.now) (seen_right third.now) }
 {
     is_replace(first)
         || is_replace(second)
@@ -52,24 +52,27 @@ fn are_opening(first: &Piece, second: &Piece, third: &Piece) -> bool
 }
 
 /// The word REPLACE.
-fn is_replace(piece: &Piece) -> bool
-    ensures { result ≡ is_replace (seen piece.now) }
+fn is_replace(piece: &RightPiece) -> bool
+    ensures { result ≡ is_replace (seen_right piece.now) }
 {
-    matches!(piece, Piece::Word(Word::Reserved(Reserved::Replace)))
+    matches!(piece, RightPiece::Word(Word::Reserved(Reserved::Replace)))
 }
 
 /// The end of a list.
-fn ends_parameters(piece: &Piece) -> bool
-    ensures { result ≡ ends_parameters (seen piece.now) }
+fn ends_parameters(piece: &RightPiece) -> bool
+    ensures { result ≡ ends_parameters (seen_right piece.now) }
 {
-    matches!(piece, Piece::Word(Word::Symbol(Symbol::RightParenthesis)))
+    matches!(
+        piece,
+        RightPiece::Word(Word::Symbol(Symbol::RightParenthesis))
+    )
 }
 
 /// The word BY.
-fn is_by(piece: &Piece) -> bool
-    ensures { result ≡ is_by (seen piece.now) }
+fn is_by(piece: &RightPiece) -> bool
+    ensures { result ≡ is_by (seen_right piece.now) }
 {
-    matches!(piece, Piece::Word(Word::Reserved(Reserved::By)))
+    matches!(piece, RightPiece::Word(Word::Reserved(Reserved::By)))
 }
 
 /// The text of a replacement, behind the `"` that begins it, and its size with both marks.
