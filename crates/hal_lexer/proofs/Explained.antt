@@ -12,8 +12,8 @@ use Rattle.hal_base.specs.declared.limits.TheConstants.{TOKEN_LIMIT}
 use Rattle.hal_words.specs.Pieces.{Wrong}
 use Rattle.hal_words.specs.Lines.{Item, item}
 use Rattle.hal_words.specs.Replacing.{fault_of}
-use Rattle.hal_pieces.specs.Faults.{IsBrokenAt}
-use Rattle.hal_lexer.specs.Faults.{IsFaultItem, Explains}
+use Rattle.hal_pieces.specs.Faults.{IsBrokenAt, IsFaultItem}
+use Rattle.hal_lexer.specs.Faults.{Explains}
 
 slice_get_seam : (before : List Item) (one : Item) (rest : List Item) → slice_get (before ++ one ∷ rest) (length before) ≡ Some one
 slice_get_seam before one rest =

@@ -2,7 +2,9 @@
 use Rattle.std.proofs.Common.{◌≡◌, ◌<◌, ℕ, Bool, true, false, List, [], ◌∷◌, length, get_or, map, drop, nat_le, Option, Some, None, All, sym, ap, ◌∙◌, subst, arith}
 use Rattle.std.specs.Prelude.{if◌then◌else◌, ◌==◌}
 use Rattle.std.proofs.lemmas.List.{length-map, get_or-map}
+use Rattle.hal_base.specs.declared.refusal.Place.{Place}
 use Rattle.hal_words.specs.declared.reserved.Reserved.{Reserved}
+use Rattle.hal_words.specs.declared.reserved.Reserved.TheVariants as reserved
 use Rattle.hal_words.specs.declared.word.Word.{Word}
 use Rattle.hal_words.specs.declared.word.Word.TheVariants as word
 use Rattle.hal_words.specs.Letters.{is_letter}
@@ -10,17 +12,30 @@ use Rattle.hal_words.specs.Literals.{Base, base_of, inside}
 use Rattle.hal_words.specs.Numbers.{begins_number}
 use Rattle.hal_words.specs.Reserved.{reserved_words, left_out_words, look_up}
 use Rattle.hal_words.specs.Lines as lines
-use Rattle.hal_words.specs.Pieces.{Piece, Is, Wrong, known, bits_or_wrong, bits, with_base, number_piece, text_piece, literal_piece, sign, pair, longer, signs, letters, number, literal, run_of, piece}
-use Rattle.hal_pieces.specs.Seen.{seen}
+use Rattle.hal_words.specs.Lines.{item}
+use Rattle.hal_words.specs.Items.{main_item}
+use Rattle.hal_words.specs.Replacing.{as_word}
+use Rattle.hal_words.specs.Pieces.{Piece, Is, Replacement, Open, Wrong, known, bits_or_wrong, bits, with_base, number_piece, text_piece, literal_piece, sign, pair, longer, signs, letters, number, literal, run_of, piece}
+use Rattle.hal_pieces.specs.Seen.{seen_right}
 use Rattle.hal_pieces.specs.declared.item.Item.{Item}
 use Rattle.hal_pieces.specs.Faults.{seen_item}
 use Rattle.hal_lexer.specs.Texts.{IsNoMark, IsTextOf, HoldsText}
 
 -- the text of an item
-pub text_at : (items : List Item) (k : ℕ) (one : Item) → All HoldsText (map seen_item items) → k < length items → one ≡ get_or items k one → IsTextOf (seen one.piece)
+pub text_at : (items : List Item) (k : ℕ) (one : Item) → All HoldsText (map seen_item items) → k < length items → one ≡ get_or items k one → IsTextOf (seen_right one.piece)
 text_at items k one all within is =
     let below : k < length (map seen_item items) = omega (arith, length-map items seen_item) in
     subst (λ (found : lines.Item). HoldsText found) (get_or-map seen_item items k one (seen_item one) within ∙ ap seen_item (sym is)) (all k (seen_item one) below)
+
+main_no_mark : (one : Piece) (place : Place) → IsNoMark one → IsNoMark (main_item one place).piece
+main_no_mark (Is (word.Reserved reserved.Include)) place none = tt
+main_no_mark one place none = none
+
+-- what a piece without a `"` stands for in a text is a word there, or a fault
+pub as_word_of_text : (one other : Piece) (place : Place) → IsNoMark one → main_item one place ≡ item other place → as_word other place ≡ main_item one place
+as_word_of_text one (Replacement bytes) place none is = absurd (subst (λ (found : lines.Item). IsNoMark found.piece) is (main_no_mark one place none))
+as_word_of_text one Open place none is = absurd (subst (λ (found : lines.Item). IsNoMark found.piece) is (main_no_mark one place none))
+as_word_of_text one other place none is = sym is
 
 record NoMark (one : Piece) : Type 0 where
   is : IsNoMark one

@@ -11,10 +11,9 @@ use Rattle.hal_words.specs.Pieces.{Is, Wrong}
 use Rattle.hal_words.specs.Lines.{Item, item}
 use Rattle.hal_words.specs.Replacing.{Definitions, is_among, is_replace, text_items, within, replaced_word}
 use Rattle.hal_words.specs.Reserved.{look_up}
-use Rattle.hal_pieces.specs.Faults.{IsBrokenAt, IsMemory, Tells}
+use Rattle.hal_pieces.specs.Faults.{IsBrokenAt, IsFaultItem, IsMemory, Tells}
 use Rattle.hal_lexer.specs.declared.child.Child.{Child}
 use Rattle.hal_lexer.specs.Compiled.{Table}
-use Rattle.hal_lexer.specs.Faults.{IsFaultItem}
 use Rattle.hal_lexer.specs.Opened.{Opened, opened, begun, names_of, AreOpened, left_items, Leads, IsSpoilt}
 use Rattle.hal_lexer.proofs.Explained.{fault_item}
 use Rattle.hal_lexer.proofs.Within.{within_open, within_replace, within_defined, fault_within}

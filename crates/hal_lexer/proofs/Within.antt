@@ -15,9 +15,9 @@ use Rattle.hal_words.specs.Lines.{Item, item}
 use Rattle.hal_words.specs.Replacing.{Definitions, is_among, is_replace, name_of, text_items, kept, within, replaced_word, replaced, as_word, definition, definition_size, with_definition, fault_of, formless}
 use Rattle.hal_words.specs.Reserved.{look_up}
 use Rattle.hal_pieces.specs.declared.item.Item.{Item as CodeItem}
-use Rattle.hal_pieces.specs.Faults.{seen_item}
+use Rattle.hal_pieces.specs.Faults.{IsFaultItem, seen_item}
 use Rattle.hal_lexer.specs.Texts.{HoldsText}
-use Rattle.hal_lexer.specs.Faults.{IsFaultItem, Explains}
+use Rattle.hal_lexer.specs.Faults.{Explains}
 use Rattle.hal_lexer.proofs.Explained.{explains_here}
 
 -- a name in its own text

@@ -8,11 +8,6 @@ use Rattle.hal_words.specs.Pieces.{Wrong}
 use Rattle.hal_words.specs.Lines.{Item, item}
 use Rattle.hal_words.specs.Words.{misplaced, BreaksWordRule}
 
--- the rule that an item breaks, or memory ended
-abbrev pub IsFaultItem : Item → Fault → Type 0
-IsFaultItem one (fault.Broken refusal) = one ≡ item (Wrong refusal.rule.0) refusal.place
-IsFaultItem one (fault.Memory error) = ⊤
-
 -- a fault stands among the items, or a word after the limit
 abbrev pub IsWrong : List Item → ℕ → Place → Type 0
 IsWrong whole rule place =

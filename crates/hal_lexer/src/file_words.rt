@@ -4,7 +4,7 @@ ghost use Rattle.hal_base.specs.declared.limits.TheConstants.{TOKEN_LIMIT};
 ghost use Rattle.hal_words.specs.Lines as lines;
 ghost use Rattle.hal_words.specs.Replacing.{are_parameters, defined, definition, fault_of, formless, is_replace, replaced};
 ghost use Rattle.hal_words.specs.Words.{misplaced, word_item};
-ghost use Rattle.hal_pieces.specs.Seen.{seen};
+ghost use Rattle.hal_pieces.specs.Seen.{seen_right};
 ghost use Rattle.hal_pieces.specs.Faults.{seen_item};
 ghost use Rattle.hal_lexer.specs.Sound.{IsSound};
 ghost use Rattle.hal_lexer.specs.Texts.{HoldsText, IsText, IsTextOf};
@@ -16,7 +16,7 @@ use crate::text_words::word_of;
 use crate::token_list::Tokens;
 use hal_base::rules::{MALFORMED_REPLACE, MISPLACED_TEMPORARY, REPLACE_PARAMETERS_LEFT_OUT};
 use hal_base::{Fault, Place};
-use hal_pieces::{Item, Piece, broken};
+use hal_pieces::{Item, RightPiece, broken};
 use hal_words::{Name, Reserved, Symbol, Word};
 use std::alloc::{AllocError, Global};
 
@@ -89,10 +89,10 @@ fn take<'a>(
 }
 
 /// Whether the piece is the word REPLACE.
-fn is_replace(piece: &Piece) -> bool
-    ensures { result ≡ is_replace (seen piece.now) }
+fn is_replace(piece: &RightPiece) -> bool
+    ensures { result ≡ is_replace (seen_right piece.now) }
 {
-    matches!(piece, Piece::Word(Word::Reserved(Reserved::Replace)))
+    matches!(piece, RightPiece::Word(Word::Reserved(Reserved::Replace)))
 }
 
 /// Adds the definition that stands behind REPLACE at this place.
@@ -134,22 +134,22 @@ fn definition<'a>(behind: &[Item<'a>]) -> Option<(Name, &'a [u8])>
 
 /// The name and the text of a definition, from the four pieces behind REPLACE.
 fn defined<'a>(
-    name: &Piece<'a>,
-    by: &Piece<'a>,
-    text: &Piece<'a>,
-    end: &Piece<'a>,
+    name: &RightPiece<'a>,
+    by: &RightPiece<'a>,
+    text: &RightPiece<'a>,
+    end: &RightPiece<'a>,
 ) -> Option<(Name, &'a [u8])>
-    requires { IsTextOf (seen text.now) }
+    requires { IsTextOf (seen_right text.now) }
     ensures text { IfSome result (λ d. IsText d.1.now) }
     ensures found { option_map (λ d. (d.0, d.1.now)) result
-        ≡ defined (seen name.now) (seen by.now) (seen text.now) (seen end.now) }
+        ≡ defined (seen_right name.now) (seen_right by.now) (seen_right text.now) (seen_right end.now) }
 {
     match (name, by, text, end) {
         (
-            Piece::Word(Word::Name(name)),
-            Piece::Word(Word::Reserved(Reserved::By)),
-            Piece::Replacement(bytes),
-            Piece::Word(Word::Symbol(Symbol::Semicolon)),
+            RightPiece::Word(Word::Name(name)),
+            RightPiece::Word(Word::Reserved(Reserved::By)),
+            RightPiece::Replacement(bytes),
+            RightPiece::Word(Word::Symbol(Symbol::Semicolon)),
         ) => Some((*name, *bytes)),
         _ => None,
     }
@@ -167,14 +167,14 @@ fn formless(behind: &[Item]) -> u16
 }
 
 /// A name and `(`.
-fn are_parameters(first: &Piece, second: &Piece) -> bool
-    ensures { result ≡ are_parameters (seen first.now) (seen second.now) }
+fn are_parameters(first: &RightPiece, second: &RightPiece) -> bool
+    ensures { result ≡ are_parameters (seen_right first.now) (seen_right second.now) }
 {
     matches!(
         (first, second),
         (
-            Piece::Word(Word::Name(_)),
-            Piece::Word(Word::Symbol(Symbol::LeftParenthesis))
+            RightPiece::Word(Word::Name(_)),
+            RightPiece::Word(Word::Symbol(Symbol::LeftParenthesis))
         )
     )
 }

@@ -2,41 +2,31 @@
 
 ghost use Rattle.std.specs.Prelude.{◌≡◌, ◌<◌, ◌∷◌, [], false, length, IfOk, IfErr, IfSome, IfNone};
 ghost use Rattle.hal_base.specs.declared.refusal.Place.{Place};
-ghost use Rattle.hal_words.specs.declared.word.Word.TheVariants as word;
 ghost use Rattle.hal_words.specs.Pieces.{Is};
 ghost use Rattle.hal_words.specs.Lines.{item};
 ghost use Rattle.hal_words.specs.Items.{main_item};
 ghost use Rattle.hal_words.specs.Replacing.{as_word, is_replace, text_items};
-ghost use Rattle.hal_pieces.specs.Seen.{seen};
-ghost use Rattle.hal_lexer.specs.Faults.{IsFaultItem};
+ghost use Rattle.hal_pieces.specs.Faults.{IsFaultItem};
+ghost use Rattle.hal_pieces.specs.Seen.{seen, seen_right};
 ghost use Rattle.hal_lexer.specs.Opened.{IsSpoilt};
 ghost use Rattle.hal_lexer.specs.Texts.{IsNoMark, IsText};
 
 use crate::fronts::front;
-use hal_base::rules::{MALFORMED_INCLUDE, MALFORMED_REPLACE, STRAY_BYTE};
+use hal_base::rules::{MALFORMED_REPLACE, STRAY_BYTE};
 use hal_base::{Fault, Place};
-use hal_pieces::{Piece, broken};
-use hal_words::{BoxedLiteral, Literal, Reserved, Word};
-use std::alloc::{AllocError, Global};
+use hal_pieces::{Piece, RightPiece, broken, right_piece};
+use hal_words::{Reserved, Word};
+use std::alloc::Global;
 
 /// The word that a piece is. A text between two `"` stands only in a definition.
-pub(crate) fn word_of(alloc: Global, piece: &Piece, place: Place) -> Result<Word, Fault>
-    ensures word { IfOk result (λ word. seen piece.now ≡ Is word) }
-    ensures broken { IfErr result (λ fault. IsFaultItem (as_word (seen piece.now) place) fault) }
+pub(crate) fn word_of(alloc: Global, piece: &RightPiece, place: Place) -> Result<Word, Fault>
+    ensures word { IfOk result (λ word. seen_right piece.now ≡ Is word) }
+    ensures broken { IfErr result (λ fault. IsFaultItem (as_word (seen_right piece.now) place) fault) }
 {
     match piece {
-        Piece::Word(word) => word.copy(alloc).map_err(Fault::Memory),
-        Piece::Text(literal) => text(alloc, literal).map_err(Fault::Memory),
-        Piece::Replacement(_) | Piece::Open => Err(broken(STRAY_BYTE, place)),
-        Piece::Wrong(rule) => Err(broken(rule.0, place)),
+        RightPiece::Word(word) => word.copy(alloc).map_err(Fault::Memory),
+        RightPiece::Replacement(_) | RightPiece::Open => Err(broken(STRAY_BYTE, place)),
     }
-}
-
-/// The word that is this literal.
-fn text(alloc: Global, literal: &Literal) -> Result<Word, AllocError>
-    ensures { IfOk result (λ made. made ≡ word.Text literal.now) }
-{
-    Ok(Word::Text(BoxedLiteral::new(alloc, *literal)?))
 }
 
 /// The word that a piece of a text is.
@@ -45,12 +35,8 @@ fn word_of_text(alloc: Global, piece: &Piece, place: Place) -> Result<Word, Faul
     ensures word { IfOk result (λ word. (at : Place) → main_item (seen piece.now) at ≡ item (Is word) at) }
     ensures broken { IfErr result (λ fault. IsFaultItem (main_item (seen piece.now) place) fault) }
 {
-    match piece {
-        Piece::Word(Word::Reserved(Reserved::Include)) => {
-            Err(broken(MALFORMED_INCLUDE, Place { column: 1, ..place }))
-        }
-        _ => word_of(alloc, piece, place),
-    }
+    let right = right_piece(alloc, piece, place)?;
+    word_of(alloc, &right, place)
 }
 
 /// Whether the word is REPLACE, which has no form within a text.
