@@ -18,6 +18,7 @@ use Rattle.hal_phrases.specs.GatheredExpressions as phrases_gatheredexpressions
 use Rattle.hal_phrases.specs.GatheredStatements as phrases_gatheredstatements
 use Rattle.hal_phrases.specs.GatheredUnits as phrases_gatheredunits
 use Rattle.hal_phrases.specs.Members as phrases_members
+use Rattle.hal_names.specs.Declarations as names_declarations
 use Rattle.hal_names.specs.Keys as names_keys
 use Rattle.hal_names.specs.Means as names_means
 use Rattle.hal_names.specs.Tasks as names_tasks
@@ -94,5 +95,5 @@ abbrev row16 : List File
 row16 = ((file_of ([]) (BlockOf (nm (at 0 1 2) (codes "P")) (Program (at 0 1 5)) ((Structure (at 0 1 14) (nm (at 0 1 24) (codes "S")) ((part_of (at 0 1 27) 1 (nm (at 0 1 29) (codes "A")) ((Typed (IntegerKind (at 0 1 31))) ∷ [])) ∷ [])) ∷ (Declare (at 0 1 40) ([]) ((declared_of (nm (at 0 1 48) (codes "Z")) ((Typed (StructureKind (at 0 1 50) (codes "S") None)) ∷ [])) ∷ [])) ∷ []) (el ((inr (Labelled ([]) (Assignment (at 0 1 63) ((Refers (at 0 1 63) (codes "Z") ((nm (at 0 1 65) (codes "A")) ∷ []) Unsubscripted) ∷ []) (Literal (at 0 1 69) (Integer 1))))) ∷ [])) (Some (nm (at 0 1 78) (codes "P"))))) ∷ [])
 
 pub all_say : BreaksNames row1 601 (at 0 1 14) × IsNamed row2 × BreaksNames row3 602 (at 0 1 33) × IsNamed row4 × BreaksNames row5 603 (at 0 1 38) × IsNamed row6 × BreaksNames row7 604 (at 0 1 25) × IsNamed row8 × BreaksNames row9 605 (at 0 1 23) × IsNamed row10 × BreaksNames row11 606 (at 0 1 27) × IsNamed row12 × BreaksNames row13 607 (at 0 1 18) × IsNamed row14 × BreaksNames row15 608 (at 0 1 63) × IsNamed row16
-unfolding digits words_reserved.reserved_words words_reserved.left_out_words phrases_gathereddeclarations.gathered_kind phrases_gathereddeclarations.gathered_initial phrases_gathereddeclarations.gathered_initials phrases_gathereddeclarations.gathered_attribute phrases_gathereddeclarations.gathered_item phrases_gathereddeclarations.still_open phrases_gathereddeclarations.innermost phrases_gathereddeclarations.is_bottom phrases_gathereddeclarations.gathered_part phrases_gathereddeclarations.gathered_parts phrases_gathereddeclarations.gathered_declaration phrases_gatheredexpressions.gathered phrases_gatheredexpressions.gathered_all phrases_gatheredexpressions.gathered_terms phrases_gatheredexpressions.gathered_reference phrases_gatheredexpressions.gathered_subscript phrases_gatheredexpressions.gathered_subs phrases_gatheredexpressions.gathered_sub phrases_gatheredexpressions.gathered_position phrases_gatheredstatements.gathered_guard phrases_gatheredstatements.gathered_span phrases_gatheredstatements.gathered_start phrases_gatheredstatements.gathered_cycle phrases_gatheredstatements.gathered_limit phrases_gatheredstatements.gathered_schedule phrases_gatheredstatements.begun_for phrases_gatheredstatements.around_for phrases_gatheredstatements.gathered_statement phrases_gatheredstatements.gathered_basic phrases_gatheredstatements.gathered_alternative phrases_gatheredstatements.gathered_group phrases_gatheredstatements.gathered_statements phrases_gatheredunits.gathered_returns phrases_gatheredunits.gathered_head phrases_gatheredunits.gathered_block phrases_gatheredunits.gathered_elements phrases_gatheredunits.around_template phrases_gatheredunits.gathered_template phrases_gatheredunits.gathered_preface phrases_gatheredunits.gathered_prefaces phrases_gatheredunits.name_of_block phrases_gatheredunits.gathered_file phrases_gatheredunits.phrases_of phrases_members.gathered_member phrases_members.gathered_members names_keys.declared_at names_keys.same_space names_keys.same_key names_keys.own names_means.is_compool_unit names_means.unit_named names_means.given_by names_means.shown names_means.shown_by names_means.included names_means.included_before names_means.prefaces_of names_means.nearest names_tasks.with_homes scope_builtins.builtins scope_components.has_path scope_components.is_structure scope_components.type_has scope_components.has_component scope_components.lacks_in scope_components.lacks scope_labels.is_label_of scope_labels.misclosed scope_labels.is_loop scope_labels.group_around scope_labels.misled scope_labels.astray scope_repeated.given scope_repeated.is_of_block scope_repeated.twice scope_repeated.declares_one_there scope_repeated.declarations_of scope_repeated.included_twice scope_repeated.is_item scope_repeated.undeclared scope_rules.fault scope_rules.first_fault scope_sorts.type_in scope_sorts.type_among scope_sorts.sort_of_type scope_sorts.sort_of_head scope_sorts.sort_of scope_sorts.usage_of scope_sorts.use_of_reference scope_sorts.used scope_uses.unknown scope_uses.is_eventful scope_uses.is_nil scope_uses.refers_to_event scope_uses.holds_event scope_uses.hold_event scope_uses.limit_of scope_uses.limit_around scope_uses.misused
+unfolding digits words_reserved.reserved_words words_reserved.left_out_words phrases_gathereddeclarations.gathered_kind phrases_gathereddeclarations.gathered_initial phrases_gathereddeclarations.gathered_initials phrases_gathereddeclarations.gathered_attribute phrases_gathereddeclarations.gathered_item phrases_gathereddeclarations.still_open phrases_gathereddeclarations.innermost phrases_gathereddeclarations.is_bottom phrases_gathereddeclarations.gathered_part phrases_gathereddeclarations.gathered_parts phrases_gathereddeclarations.gathered_declaration phrases_gatheredexpressions.gathered phrases_gatheredexpressions.gathered_all phrases_gatheredexpressions.gathered_terms phrases_gatheredexpressions.gathered_reference phrases_gatheredexpressions.gathered_subscript phrases_gatheredexpressions.gathered_subs phrases_gatheredexpressions.gathered_sub phrases_gatheredexpressions.gathered_position phrases_gatheredstatements.gathered_guard phrases_gatheredstatements.gathered_span phrases_gatheredstatements.gathered_start phrases_gatheredstatements.gathered_cycle phrases_gatheredstatements.gathered_limit phrases_gatheredstatements.gathered_schedule phrases_gatheredstatements.begun_for phrases_gatheredstatements.around_for phrases_gatheredstatements.gathered_statement phrases_gatheredstatements.gathered_basic phrases_gatheredstatements.gathered_alternative phrases_gatheredstatements.gathered_group phrases_gatheredstatements.gathered_statements phrases_gatheredunits.gathered_returns phrases_gatheredunits.gathered_head phrases_gatheredunits.gathered_block phrases_gatheredunits.gathered_elements phrases_gatheredunits.around_template phrases_gatheredunits.gathered_template phrases_gatheredunits.gathered_preface phrases_gatheredunits.gathered_prefaces phrases_gatheredunits.name_of_block phrases_gatheredunits.gathered_file phrases_gatheredunits.phrases_of phrases_members.gathered_member phrases_members.gathered_members names_declarations.is_declaring names_declarations.with_places names_declarations.with_all_chosen names_keys.declared_at names_keys.same_space names_keys.same_key names_keys.own names_means.is_compool_unit names_means.unit_named names_means.given_by names_means.shown names_means.shown_by names_means.included names_means.included_before names_means.prefaces_of names_means.nearest names_tasks.with_homes scope_builtins.builtins scope_components.has_path scope_components.is_structure scope_components.type_has scope_components.has_component scope_components.lacks_in scope_components.lacks scope_labels.is_label_of scope_labels.misclosed scope_labels.is_loop scope_labels.group_around scope_labels.misled scope_labels.astray scope_repeated.given scope_repeated.is_of_block scope_repeated.twice scope_repeated.declares_one_there scope_repeated.declarations_of scope_repeated.included_twice scope_repeated.is_item scope_repeated.undeclared scope_rules.fault scope_rules.first_fault scope_sorts.type_in scope_sorts.type_among scope_sorts.sort_of_type scope_sorts.sort_of_head scope_sorts.sort_of scope_sorts.usage_of scope_sorts.use_of_reference scope_sorts.used scope_uses.unknown scope_uses.is_eventful scope_uses.is_nil scope_uses.refers_to_event scope_uses.holds_event scope_uses.hold_event scope_uses.limit_of scope_uses.limit_around scope_uses.misused
 all_say = (broken rows (phrases_of row1) 601 (at 0 1 14) refl, sound rows (phrases_of row2) refl, broken rows (phrases_of row3) 602 (at 0 1 33) refl, sound rows (phrases_of row4) refl, broken rows (phrases_of row5) 603 (at 0 1 38) refl, sound rows (phrases_of row6) refl, broken rows (phrases_of row7) 604 (at 0 1 25) refl, sound rows (phrases_of row8) refl, broken rows (phrases_of row9) 605 (at 0 1 23) refl, sound rows (phrases_of row10) refl, broken rows (phrases_of row11) 606 (at 0 1 27) refl, sound rows (phrases_of row12) refl, broken rows (phrases_of row13) 607 (at 0 1 18) refl, sound rows (phrases_of row14) refl, broken rows (phrases_of row15) 608 (at 0 1 63) refl, sound rows (phrases_of row16) refl)

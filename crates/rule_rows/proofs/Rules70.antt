@@ -19,6 +19,7 @@ use Rattle.hal_phrases.specs.GatheredExpressions as phrases_gatheredexpressions
 use Rattle.hal_phrases.specs.GatheredStatements as phrases_gatheredstatements
 use Rattle.hal_phrases.specs.GatheredUnits as phrases_gatheredunits
 use Rattle.hal_phrases.specs.Members as phrases_members
+use Rattle.hal_names.specs.Declarations as names_declarations
 use Rattle.hal_names.specs.Keys as names_keys
 use Rattle.hal_names.specs.Means as names_means
 use Rattle.hal_names.specs.Tasks as names_tasks
@@ -198,5 +199,5 @@ abbrev row32 : List File
 row32 = ((file_of ([]) (BlockOf (nm (at 0 1 2) (codes "P")) (Program (at 0 1 5)) ((Declare (at 0 1 14) ([]) ((declared_of (nm (at 0 1 22) (codes "K")) ((Typed (IntegerKind (at 0 1 24))) ∷ (ConstantValues (at 0 1 32) (is ((LiteralTimes (at 0 1 41) 0 None (at 0 1 43) (Integer 1)) ∷ (Value (Literal (at 0 1 46) (Integer 2))) ∷ []))) ∷ [])) ∷ (declared_of (nm (at 0 1 50) (codes "A")) ((Dimensions (at 0 1 52) (es ((Referred (Refers (at 0 1 58) (codes "K") ([]) Unsubscripted)) ∷ []))) ∷ (Typed (IntegerKind (at 0 1 61))) ∷ (InitialValues (at 0 1 69) (is ((Value (Literal (at 0 1 77) (Integer 1))) ∷ (Value (Literal (at 0 1 80) (Integer 2))) ∷ []))) ∷ [])) ∷ [])) ∷ []) (el ([])) (Some (nm (at 0 1 90) (codes "P"))))) ∷ [])
 
 pub all_say : BreaksTypes row1 701 (at 0 1 32) × IsTyped row2 × BreaksTypes row3 702 (at 0 1 37) × IsTyped row4 × BreaksTypes row5 702 (at 0 1 40) × IsTyped row6 × BreaksTypes row7 702 (at 0 1 94) × IsTyped row8 × BreaksTypes row9 703 (at 0 1 47) × IsTyped row10 × BreaksTypes row11 704 (at 0 1 41) × IsTyped row12 × BreaksTypes row13 704 (at 0 1 40) × IsTyped row14 × BreaksTypes row15 704 (at 0 1 52) × IsTyped row16 × BreaksTypes row17 705 (at 0 1 23) × IsTyped row18 × BreaksTypes row19 705 (at 0 1 50) × IsTyped row20 × BreaksTypes row21 705 (at 0 1 38) × IsTyped row22 × BreaksTypes row23 706 (at 0 1 22) × IsTyped row24 × BreaksTypes row25 707 (at 0 1 42) × IsTyped row26 × BreaksTypes row27 708 (at 0 1 35) × IsTyped row28 × BreaksTypes row29 709 (at 0 1 45) × IsTyped row30 × BreaksTypes row31 706 (at 0 1 50) × IsTyped row32
-unfolding digits words_reserved.reserved_words words_reserved.left_out_words phrases_gathereddeclarations.gathered_kind phrases_gathereddeclarations.gathered_initial phrases_gathereddeclarations.gathered_initials phrases_gathereddeclarations.gathered_attribute phrases_gathereddeclarations.gathered_item phrases_gathereddeclarations.still_open phrases_gathereddeclarations.innermost phrases_gathereddeclarations.is_bottom phrases_gathereddeclarations.gathered_part phrases_gathereddeclarations.gathered_parts phrases_gathereddeclarations.gathered_declaration phrases_gatheredexpressions.gathered phrases_gatheredexpressions.gathered_all phrases_gatheredexpressions.gathered_terms phrases_gatheredexpressions.gathered_reference phrases_gatheredexpressions.gathered_subscript phrases_gatheredexpressions.gathered_subs phrases_gatheredexpressions.gathered_sub phrases_gatheredexpressions.gathered_position phrases_gatheredstatements.gathered_guard phrases_gatheredstatements.gathered_span phrases_gatheredstatements.gathered_start phrases_gatheredstatements.gathered_cycle phrases_gatheredstatements.gathered_limit phrases_gatheredstatements.gathered_schedule phrases_gatheredstatements.begun_for phrases_gatheredstatements.around_for phrases_gatheredstatements.gathered_statement phrases_gatheredstatements.gathered_basic phrases_gatheredstatements.gathered_alternative phrases_gatheredstatements.gathered_group phrases_gatheredstatements.gathered_statements phrases_gatheredunits.gathered_returns phrases_gatheredunits.gathered_head phrases_gatheredunits.gathered_block phrases_gatheredunits.gathered_elements phrases_gatheredunits.around_template phrases_gatheredunits.gathered_template phrases_gatheredunits.gathered_preface phrases_gatheredunits.gathered_prefaces phrases_gatheredunits.name_of_block phrases_gatheredunits.gathered_file phrases_gatheredunits.phrases_of phrases_members.gathered_member phrases_members.gathered_members names_keys.declared_at names_keys.same_space names_keys.same_key names_keys.own names_means.is_compool_unit names_means.unit_named names_means.given_by names_means.shown names_means.shown_by names_means.included names_means.included_before names_means.prefaces_of names_means.nearest names_tasks.with_homes scope_builtins.builtins scope_components.has_path scope_components.is_structure scope_components.type_has scope_components.has_component scope_components.lacks_in scope_components.lacks scope_labels.is_label_of scope_labels.misclosed scope_labels.is_loop scope_labels.group_around scope_labels.misled scope_labels.astray scope_repeated.given scope_repeated.is_of_block scope_repeated.twice scope_repeated.declares_one_there scope_repeated.declarations_of scope_repeated.included_twice scope_repeated.is_item scope_repeated.undeclared scope_rules.fault scope_rules.first_fault scope_sorts.type_in scope_sorts.type_among scope_sorts.sort_of_type scope_sorts.sort_of_head scope_sorts.sort_of scope_sorts.usage_of scope_sorts.use_of_reference scope_sorts.used scope_uses.unknown scope_uses.is_eventful scope_uses.is_nil scope_uses.refers_to_event scope_uses.holds_event scope_uses.hold_event scope_uses.limit_of scope_uses.limit_around scope_uses.misused kinds_attributes.count_of kinds_attributes.no_more kinds_attributes.sizes_in kinds_attributes.sizes_among kinds_attributes.initial_in kinds_attributes.initial_among kinds_attributes.constant_in kinds_attributes.constant_among kinds_attributes.same_mark kinds_attributes.is_mark kinds_classes.class_of_result kinds_classes.class_of_returns kinds_classes.class_of_head kinds_classes.class_of_form kinds_classes.class_of_builtin kinds_classes.class_at kinds_classes.class_of_reference kinds_classes.class_of_function kinds_classes.class_of_called_head kinds_classes.class_of_called kinds_classes.class_of_literal kinds_classes.class_of_conversion kinds_classes.beside kinds_classes.joined kinds_classes.enclosed kinds_classes.class_of kinds_classes.class_beside kinds_classes.class_joined kinds_data.class_of_type kinds_data.has_copies kinds_data.dimensions_of kinds_data.data_of kinds_data.part_data kinds_data.part_under kinds_data.data_at_part kinds_data.component_of kinds_data.component_data kinds_data.data_at kinds_data.is_event_type kinds_data.is_structure_type kinds_subscripts.subscript_count kinds_subscripts.is_many kinds_subscripts.are_many kinds_subscripts.parts_chosen kinds_subscripts.choice_of kinds_subscripts.is_structure_class constants_constants.operation_of_sign constants_constants.signed constants_constants.operation_of_conversion constants_constants.raised_to constants_constants.raised constants_constants.is_none constants_constants.factor_at constants_constants.constant_of constants_constants.folded constants_constants.summed constants_constants.computed constants_constants.computed_second constants_constants.multiplied constants_constants.referred constants_constants.subscripted constants_constants.component_of constants_constants.component_by constants_constants.place_of constants_known.size_of_integer constants_known.size_of_value constants_known.size_of constants_known.bits_kind constants_known.text_kind constants_known.kind_of constants_known.kind_of_type constants_known.gives_none constants_known.give_none constants_known.only_of constants_known.only_with constants_known.kept constants_known.fitted constants_known.only_in constants_known.declared_value constants_known.round constants_known.is_file constants_known.is_pooled constants_known.rounds constants_naming.constant_known constants_naming.constant_at constants_naming.literal_constant constants_naming.operation_of constants_operands.takes_one constants_operands.takes_two constants_operands.is_storable constants_operands.has_components constants_results.worth constants_results.worse constants_results.apply_one constants_results.apply_two constants_results.component_at constants_results.component_to constants_results.component_from constants_results.picked_one constants_results.picked_to constants_results.picked_from sizes_cells.cells_with sizes_cells.cells_of_copies sizes_cells.cells_of_kind sizes_constancy.unsettled sizes_constancy.missized_value sizes_constancy.missized sizes_constancy.is_channel sizes_constancy.mischannelled_value sizes_constancy.mischannelled sizes_constancy.inconstant_as sizes_constancy.inconstant_initial sizes_constancy.inconstant sizes_constancy.misdimensioned_by sizes_constancy.misdimensioned_among sizes_constancy.misdimensioned sizes_parts.parts_of sizes_parts.bottoms sizes_sizes.first_size sizes_sizes.behind sizes_sizes.known_extent sizes_sizes.extent_of sizes_sizes.copies_by sizes_sizes.copies_in sizes_sizes.copies_of attributes_clashes.clash_behind attributes_clashes.clash_among attributes_clashes.place_of_precision attributes_clashes.clash_of_precision attributes_clashes.clash_of_returns attributes_clashes.clash_of_head attributes_clashes.clashing attributes_features.place_of_kind attributes_features.place_of_attribute attributes_features.feature_of_kind attributes_features.feature_of_mark attributes_features.feature_of attributes_features.sort_of attributes_features.excludes attributes_levels.may_follow attributes_levels.level_fault attributes_levels.misleveled attributes_levels.is_of_bottom attributes_levels.first_of_bottom attributes_levels.is_parent attributes_levels.parent_fault attributes_levels.overtyped attributes_storage.is_entered_head attributes_storage.is_entered attributes_storage.misstored attributes_typed.is_untyped attributes_typed.untyped_head attributes_typed.untyped attributes_typed.is_template attributes_typed.named_as_template attributes_typed.nested attributes_typed.misplaced_event attributes_typed.is_no_result attributes_typed.gives_no_value attributes_typed.no_result_head attributes_typed.no_result operands_pairs.is_equality operands_pairs.compared_fault operands_pairs.is_value operands_pairs.joined_fault operands_pairs.is_comparison operands_pairs.is_bits operands_pairs.mixed_behind operands_pairs.mixed_before operands_pairs.pair_fault operands_pairs.is_eventual operands_pairs.mismatched operands_taken.takes operands_taken.all_take operands_taken.assigned_taken operands_taken.head_takes operands_taken.returned_taken operands_taken.is_taken operands_taken.untaken operands_times.is_whole_time operands_times.is_timely operands_times.untimely operands_times.misfit_of_time operands_times.is_unsubscripted operands_times.is_plain operands_times.is_event_operand operands_times.is_event_part operands_times.wanted_within operands_times.timed operands_times.mistimed operands_wants.wanted operands_wants.misfit_of_value operands_wants.misfit_of_condition operands_wants.misfit_of_whole operands_wants.misfit operands_wants.misfit_of_receiver operands_wants.receiver_misfit operands_wants.unfit initials_falling.repeated initials_falling.known_places initials_falling.laid initials_falling.class_of_kind initials_falling.fault_from initials_falling.again initials_falling.fallen initials_falling.fallen_all initials_falling.filled initials_initials.miscounted initials_initials.spread initials_initials.misvalued initials_initials.misinitialed initials_initials.missigned initials_repetition.count_of initials_repetition.count_with initials_suiting.fails initials_suiting.overflows initials_suiting.single_fault initials_suiting.initial_fault initials_suiting.initials_fault initials_suiting.missigned_class initials_suiting.missigned_initial shapes_arguments.input_fits shapes_arguments.kind_of_reference shapes_arguments.output_fits shapes_arguments.parameter_of shapes_arguments.inputs_fit shapes_arguments.outputs_fit shapes_arguments.form_fits shapes_arguments.call_fits shapes_arguments.head_of shapes_arguments.misshaped shapes_paths.found shapes_paths.reached shapes_ranges.is_outside shapes_ranges.first_range shapes_ranges.reference_ranges shapes_ranges.misranged shapes_reaches.unreached shapes_reaches.between_places shapes_reaches.between_values shapes_reaches.reach_to shapes_reaches.starting_places shapes_reaches.starting_values shapes_reaches.reach_from shapes_reaches.position_in shapes_reaches.reach_of shapes_reaches.place_of_position shapes_reaches.place_of_sub shapes_selections.declared_for shapes_selections.structure_in shapes_selections.kind_at shapes_selections.extent_at shapes_selections.copies_at shapes_selections.copy_subs shapes_selections.copies_by shapes_selections.copies_left shapes_selections.reference_in shapes_shapes.same_kind shapes_shapes.may_equal shapes_shapes.may_match shapes_shapes.same_parts shapes_shapes.may_count shapes_shapes.is_lone shapes_shapes.chooses shapes_shapes.fits_array shapes_shapes.same_structures shapes_shapes.is_one_copy shapes_shapes.matches_any shapes_shapes.structure_at shapes_shapes.fits_structure shapes_shapes.fits_single shapes_shapes.is_excused shapes_shapes.is_whole_array shapes_shapes.is_whole_structure shapes_shapes.array_argument shapes_shapes.structure_argument shapes_spans.span_by shapes_spans.first_span shapes_spans.later_subs shapes_spans.leave shapes_spans.array_subs uses_calls.signature_of uses_calls.second_fault uses_calls.listed_fault uses_calls.has_copies_of uses_calls.is_copied uses_calls.misfit_of_size uses_calls.sized uses_calls.size_fault uses_calls.formed_fault uses_calls.is_condition uses_calls.condition_fault uses_calls.head_fault uses_calls.product_fault uses_calls.is_base uses_calls.declared_fault uses_calls.called_head_fault uses_calls.called_fault uses_calls.lacks_arguments_head uses_calls.lacks_arguments uses_calls.is_operand_role uses_calls.alone_fault uses_calls.miscalled uses_forms.is_integer_value uses_forms.is_integer_literal uses_forms.is_exponent uses_forms.no_exponent uses_forms.is_function_head uses_forms.is_function uses_forms.misreturned uses_forms.selector_fault uses_forms.no_error uses_real.is_unlatched uses_real.is_kept uses_real.unlatched uses_real.is_process uses_real.no_process uses_receivers.is_input uses_receivers.may_receive uses_receivers.is_component uses_receivers.put_fault uses_receivers.put uses_receivers.is_integer uses_receivers.counted_fault uses_receivers.variable_fault uses_receivers.reference_receives uses_receivers.misreceived uses_subscripts.is_string uses_subscripts.is_eventful_head uses_subscripts.head_fault uses_subscripts.is_event_name uses_subscripts.data_fault uses_subscripts.fault_at uses_subscripts.reference_fault uses_subscripts.missubscripted types_rules.attribute_rows types_rules.operand_rows types_rules.use_rows types_rules.size_rows types_rules.type_rows types_rules.first_with
+unfolding digits words_reserved.reserved_words words_reserved.left_out_words phrases_gathereddeclarations.gathered_kind phrases_gathereddeclarations.gathered_initial phrases_gathereddeclarations.gathered_initials phrases_gathereddeclarations.gathered_attribute phrases_gathereddeclarations.gathered_item phrases_gathereddeclarations.still_open phrases_gathereddeclarations.innermost phrases_gathereddeclarations.is_bottom phrases_gathereddeclarations.gathered_part phrases_gathereddeclarations.gathered_parts phrases_gathereddeclarations.gathered_declaration phrases_gatheredexpressions.gathered phrases_gatheredexpressions.gathered_all phrases_gatheredexpressions.gathered_terms phrases_gatheredexpressions.gathered_reference phrases_gatheredexpressions.gathered_subscript phrases_gatheredexpressions.gathered_subs phrases_gatheredexpressions.gathered_sub phrases_gatheredexpressions.gathered_position phrases_gatheredstatements.gathered_guard phrases_gatheredstatements.gathered_span phrases_gatheredstatements.gathered_start phrases_gatheredstatements.gathered_cycle phrases_gatheredstatements.gathered_limit phrases_gatheredstatements.gathered_schedule phrases_gatheredstatements.begun_for phrases_gatheredstatements.around_for phrases_gatheredstatements.gathered_statement phrases_gatheredstatements.gathered_basic phrases_gatheredstatements.gathered_alternative phrases_gatheredstatements.gathered_group phrases_gatheredstatements.gathered_statements phrases_gatheredunits.gathered_returns phrases_gatheredunits.gathered_head phrases_gatheredunits.gathered_block phrases_gatheredunits.gathered_elements phrases_gatheredunits.around_template phrases_gatheredunits.gathered_template phrases_gatheredunits.gathered_preface phrases_gatheredunits.gathered_prefaces phrases_gatheredunits.name_of_block phrases_gatheredunits.gathered_file phrases_gatheredunits.phrases_of phrases_members.gathered_member phrases_members.gathered_members names_declarations.is_declaring names_declarations.with_places names_declarations.with_all_chosen names_keys.declared_at names_keys.same_space names_keys.same_key names_keys.own names_means.is_compool_unit names_means.unit_named names_means.given_by names_means.shown names_means.shown_by names_means.included names_means.included_before names_means.prefaces_of names_means.nearest names_tasks.with_homes scope_builtins.builtins scope_components.has_path scope_components.is_structure scope_components.type_has scope_components.has_component scope_components.lacks_in scope_components.lacks scope_labels.is_label_of scope_labels.misclosed scope_labels.is_loop scope_labels.group_around scope_labels.misled scope_labels.astray scope_repeated.given scope_repeated.is_of_block scope_repeated.twice scope_repeated.declares_one_there scope_repeated.declarations_of scope_repeated.included_twice scope_repeated.is_item scope_repeated.undeclared scope_rules.fault scope_rules.first_fault scope_sorts.type_in scope_sorts.type_among scope_sorts.sort_of_type scope_sorts.sort_of_head scope_sorts.sort_of scope_sorts.usage_of scope_sorts.use_of_reference scope_sorts.used scope_uses.unknown scope_uses.is_eventful scope_uses.is_nil scope_uses.refers_to_event scope_uses.holds_event scope_uses.hold_event scope_uses.limit_of scope_uses.limit_around scope_uses.misused kinds_attributes.count_of kinds_attributes.no_more kinds_attributes.sizes_in kinds_attributes.sizes_among kinds_attributes.initial_in kinds_attributes.initial_among kinds_attributes.constant_in kinds_attributes.constant_among kinds_attributes.same_mark kinds_attributes.is_mark kinds_classes.class_of_result kinds_classes.class_of_returns kinds_classes.class_of_head kinds_classes.class_of_form kinds_classes.class_of_builtin kinds_classes.class_at kinds_classes.class_of_reference kinds_classes.class_of_function kinds_classes.class_of_called_head kinds_classes.class_of_called kinds_classes.class_of_literal kinds_classes.class_of_conversion kinds_classes.beside kinds_classes.joined kinds_classes.enclosed kinds_classes.class_of kinds_classes.class_beside kinds_classes.class_joined kinds_data.class_of_type kinds_data.has_copies kinds_data.dimensions_of kinds_data.data_of kinds_data.part_data kinds_data.part_under kinds_data.data_at_part kinds_data.component_of kinds_data.component_data kinds_data.data_at kinds_data.is_event_type kinds_data.is_structure_type kinds_subscripts.subscript_count kinds_subscripts.is_many kinds_subscripts.are_many kinds_subscripts.parts_chosen kinds_subscripts.choice_of kinds_subscripts.is_structure_class constants_constants.operation_of_sign constants_constants.signed constants_constants.operation_of_conversion constants_constants.raised_to constants_constants.raised constants_constants.is_none constants_constants.factor_at constants_constants.constant_of constants_constants.folded constants_constants.summed constants_constants.computed constants_constants.computed_second constants_constants.multiplied constants_constants.referred constants_constants.subscripted constants_constants.component_of constants_constants.component_by constants_constants.place_of constants_known.size_of_integer constants_known.size_of_value constants_known.size_of constants_known.bits_kind constants_known.text_kind constants_known.kind_of constants_known.kind_of_type constants_known.gives_none constants_known.give_none constants_known.only_of constants_known.only_with constants_known.kept constants_known.fitted constants_known.only_in constants_known.declared_value constants_known.round constants_known.is_file constants_known.is_pooled constants_known.rounds constants_naming.constant_known constants_naming.constant_at constants_naming.literal_constant constants_naming.operation_of constants_operands.takes_one constants_operands.takes_two constants_operands.is_storable constants_operands.has_components constants_results.worth constants_results.worse constants_results.apply_one constants_results.apply_two constants_results.component_at constants_results.component_to constants_results.component_from constants_results.picked_one constants_results.picked_to constants_results.picked_from sizes_cells.cells_with sizes_cells.cells_of_copies sizes_cells.cells_of_kind sizes_constancy.unsettled sizes_constancy.missized_value sizes_constancy.missized sizes_constancy.is_channel sizes_constancy.mischannelled_value sizes_constancy.mischannelled sizes_constancy.inconstant_as sizes_constancy.inconstant_initial sizes_constancy.inconstant sizes_constancy.misdimensioned_by sizes_constancy.misdimensioned_among sizes_constancy.misdimensioned sizes_parts.parts_of sizes_parts.bottoms sizes_sizes.first_size sizes_sizes.behind sizes_sizes.known_extent sizes_sizes.extent_of sizes_sizes.copies_by sizes_sizes.copies_in sizes_sizes.copies_of attributes_clashes.clash_behind attributes_clashes.clash_among attributes_clashes.place_of_precision attributes_clashes.clash_of_precision attributes_clashes.clash_of_returns attributes_clashes.clash_of_head attributes_clashes.clashing attributes_features.place_of_kind attributes_features.place_of_attribute attributes_features.feature_of_kind attributes_features.feature_of_mark attributes_features.feature_of attributes_features.sort_of attributes_features.excludes attributes_levels.may_follow attributes_levels.level_fault attributes_levels.misleveled attributes_levels.is_of_bottom attributes_levels.first_of_bottom attributes_levels.is_parent attributes_levels.parent_fault attributes_levels.overtyped attributes_storage.is_entered_head attributes_storage.is_entered attributes_storage.misstored attributes_typed.is_untyped attributes_typed.untyped_head attributes_typed.untyped attributes_typed.is_template attributes_typed.named_as_template attributes_typed.nested attributes_typed.misplaced_event attributes_typed.is_no_result attributes_typed.gives_no_value attributes_typed.no_result_head attributes_typed.no_result operands_pairs.is_equality operands_pairs.compared_fault operands_pairs.is_value operands_pairs.joined_fault operands_pairs.is_comparison operands_pairs.is_bits operands_pairs.mixed_behind operands_pairs.mixed_before operands_pairs.pair_fault operands_pairs.is_eventual operands_pairs.mismatched operands_taken.takes operands_taken.all_take operands_taken.assigned_taken operands_taken.head_takes operands_taken.returned_taken operands_taken.is_taken operands_taken.untaken operands_times.is_whole_time operands_times.is_timely operands_times.untimely operands_times.misfit_of_time operands_times.is_unsubscripted operands_times.is_plain operands_times.is_event_operand operands_times.is_event_part operands_times.wanted_within operands_times.timed operands_times.mistimed operands_wants.wanted operands_wants.misfit_of_value operands_wants.misfit_of_condition operands_wants.misfit_of_whole operands_wants.misfit operands_wants.misfit_of_receiver operands_wants.receiver_misfit operands_wants.unfit initials_falling.repeated initials_falling.known_places initials_falling.laid initials_falling.class_of_kind initials_falling.fault_from initials_falling.again initials_falling.fallen initials_falling.fallen_all initials_falling.filled initials_initials.miscounted initials_initials.spread initials_initials.misvalued initials_initials.misinitialed initials_initials.missigned initials_repetition.count_of initials_repetition.count_with initials_suiting.fails initials_suiting.overflows initials_suiting.single_fault initials_suiting.initial_fault initials_suiting.initials_fault initials_suiting.missigned_class initials_suiting.missigned_initial shapes_arguments.input_fits shapes_arguments.kind_of_reference shapes_arguments.output_fits shapes_arguments.parameter_of shapes_arguments.inputs_fit shapes_arguments.outputs_fit shapes_arguments.form_fits shapes_arguments.call_fits shapes_arguments.head_of shapes_arguments.misshaped shapes_paths.found shapes_paths.reached shapes_ranges.is_outside shapes_ranges.first_range shapes_ranges.reference_ranges shapes_ranges.misranged shapes_reaches.unreached shapes_reaches.between_places shapes_reaches.between_values shapes_reaches.reach_to shapes_reaches.starting_places shapes_reaches.starting_values shapes_reaches.reach_from shapes_reaches.position_in shapes_reaches.reach_of shapes_reaches.place_of_position shapes_reaches.place_of_sub shapes_selections.declared_for shapes_selections.structure_in shapes_selections.kind_at shapes_selections.extent_at shapes_selections.copies_at shapes_selections.copy_subs shapes_selections.copies_by shapes_selections.copies_left shapes_selections.reference_in shapes_shapes.same_kind shapes_shapes.may_equal shapes_shapes.may_match shapes_shapes.same_parts shapes_shapes.may_count shapes_shapes.is_lone shapes_shapes.chooses shapes_shapes.fits_array shapes_shapes.same_structures shapes_shapes.is_one_copy shapes_shapes.matches_any shapes_shapes.structure_at shapes_shapes.fits_structure shapes_shapes.fits_single shapes_shapes.is_excused shapes_shapes.is_whole_array shapes_shapes.is_whole_structure shapes_shapes.array_argument shapes_shapes.structure_argument shapes_spans.span_by shapes_spans.first_span shapes_spans.later_subs shapes_spans.leave shapes_spans.array_subs uses_calls.signature_of uses_calls.second_fault uses_calls.listed_fault uses_calls.has_copies_of uses_calls.is_copied uses_calls.misfit_of_size uses_calls.sized uses_calls.size_fault uses_calls.formed_fault uses_calls.is_condition uses_calls.condition_fault uses_calls.head_fault uses_calls.product_fault uses_calls.is_base uses_calls.declared_fault uses_calls.called_head_fault uses_calls.called_fault uses_calls.lacks_arguments_head uses_calls.lacks_arguments uses_calls.is_operand_role uses_calls.alone_fault uses_calls.miscalled uses_forms.is_integer_value uses_forms.is_integer_literal uses_forms.is_exponent uses_forms.no_exponent uses_forms.is_function_head uses_forms.is_function uses_forms.misreturned uses_forms.selector_fault uses_forms.no_error uses_real.is_unlatched uses_real.is_kept uses_real.unlatched uses_real.is_process uses_real.no_process uses_receivers.is_input uses_receivers.may_receive uses_receivers.is_component uses_receivers.put_fault uses_receivers.put uses_receivers.is_integer uses_receivers.counted_fault uses_receivers.variable_fault uses_receivers.reference_receives uses_receivers.misreceived uses_subscripts.is_string uses_subscripts.is_eventful_head uses_subscripts.head_fault uses_subscripts.is_event_name uses_subscripts.data_fault uses_subscripts.fault_at uses_subscripts.reference_fault uses_subscripts.missubscripted types_rules.attribute_rows types_rules.operand_rows types_rules.use_rows types_rules.size_rows types_rules.type_rows types_rules.first_with
 all_say = ((sound rows (phrases_of row1) refl, broken_with (phrases_of row1) 701 (at 0 1 32) refl), (sound rows (phrases_of row2) refl, sound_with (phrases_of row2) refl), (sound rows (phrases_of row3) refl, broken_with (phrases_of row3) 702 (at 0 1 37) refl), (sound rows (phrases_of row4) refl, sound_with (phrases_of row4) refl), (sound rows (phrases_of row5) refl, broken_with (phrases_of row5) 702 (at 0 1 40) refl), (sound rows (phrases_of row6) refl, sound_with (phrases_of row6) refl), (sound rows (phrases_of row7) refl, broken_with (phrases_of row7) 702 (at 0 1 94) refl), (sound rows (phrases_of row8) refl, sound_with (phrases_of row8) refl), (sound rows (phrases_of row9) refl, broken_with (phrases_of row9) 703 (at 0 1 47) refl), (sound rows (phrases_of row10) refl, sound_with (phrases_of row10) refl), (sound rows (phrases_of row11) refl, broken_with (phrases_of row11) 704 (at 0 1 41) refl), (sound rows (phrases_of row12) refl, sound_with (phrases_of row12) refl), (sound rows (phrases_of row13) refl, broken_with (phrases_of row13) 704 (at 0 1 40) refl), (sound rows (phrases_of row14) refl, sound_with (phrases_of row14) refl), (sound rows (phrases_of row15) refl, broken_with (phrases_of row15) 704 (at 0 1 52) refl), (sound rows (phrases_of row16) refl, sound_with (phrases_of row16) refl), (sound rows (phrases_of row17) refl, broken_with (phrases_of row17) 705 (at 0 1 23) refl), (sound rows (phrases_of row18) refl, sound_with (phrases_of row18) refl), (sound rows (phrases_of row19) refl, broken_with (phrases_of row19) 705 (at 0 1 50) refl), (sound rows (phrases_of row20) refl, sound_with (phrases_of row20) refl), (sound rows (phrases_of row21) refl, broken_with (phrases_of row21) 705 (at 0 1 38) refl), (sound rows (phrases_of row22) refl, sound_with (phrases_of row22) refl), (sound rows (phrases_of row23) refl, broken_with (phrases_of row23) 706 (at 0 1 22) refl), (sound rows (phrases_of row24) refl, sound_with (phrases_of row24) refl), (sound rows (phrases_of row25) refl, broken_with (phrases_of row25) 707 (at 0 1 42) refl), (sound rows (phrases_of row26) refl, sound_with (phrases_of row26) refl), (sound rows (phrases_of row27) refl, broken_with (phrases_of row27) 708 (at 0 1 35) refl), (sound rows (phrases_of row28) refl, sound_with (phrases_of row28) refl), (sound rows (phrases_of row29) refl, broken_with (phrases_of row29) 709 (at 0 1 45) refl), (sound rows (phrases_of row30) refl, sound_with (phrases_of row30) refl), (sound rows (phrases_of row31) refl, broken_with (phrases_of row31) 706 (at 0 1 50) refl), (sound rows (phrases_of row32) refl, sound_with (phrases_of row32) refl))
