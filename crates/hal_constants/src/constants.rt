@@ -78,7 +78,7 @@ fn raised(base: &Constant, exponent: &Expr) -> Constant
     ensures { result ≡ constants.raised base.now (seen_expression exponent.now) }
 {
     match exponent {
-        Expr::Literal { place: _, literal } => raised_to(base, *literal),
+        Expr::Literal { place: _, literal } => raised_to(base, literal.value()),
         Expr::Or { .. } => Constant::Unfit,
         Expr::And { .. } => Constant::Unfit,
         Expr::Compare { .. } => Constant::Unfit,
@@ -165,7 +165,7 @@ pub fn constant_of(tree: &Expr, names: &Names<'_>, known: &Known, phrase: &Phras
         Expr::Not { operand, .. } => {
             apply_one(Op1::Not, constant_of(operand, names, known, phrase))
         }
-        Expr::Literal { place: _, literal } => literal_constant(*literal),
+        Expr::Literal { place: _, literal } => literal_constant(literal.value()),
         Expr::Decimal { .. } => Constant::Unfit,
         Expr::Reference(reference) => referred(reference, names, known, phrase),
         Expr::Call {

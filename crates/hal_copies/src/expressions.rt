@@ -5,7 +5,7 @@ ghost use Rattle.std.specs.Option.{option_map};
 ghost use Rattle.hal_tree.specs.SeenExpressions.{seen_expression, seen_position, seen_reference, seen_signed, seen_sub, seen_subscript};
 
 use crate::parts::{both, boxed, with_next};
-use hal_tree::{Expr, Identifier, Position, Reference, SignedTerm, Sub, Subscript};
+use hal_tree::{Expr, Identifier, KeptLiteral, Position, Reference, SignedTerm, Sub, Subscript};
 use std::alloc::{AllocError, Global};
 
 /// Names as they are, or an error where there is no memory.
@@ -118,7 +118,7 @@ pub fn copy_expression(alloc: Global, tree: &Expr) -> Result<Expr, AllocError>
         }),
         Expr::Literal { place, literal } => Ok(Expr::Literal {
             place: *place,
-            literal: *literal,
+            literal: KeptLiteral::new(alloc, literal.value())?,
         }),
         Expr::Decimal { place, thousandths } => Ok(Expr::Decimal {
             place: *place,

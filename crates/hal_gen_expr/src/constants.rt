@@ -73,7 +73,7 @@ fn exponent(tree: &Expr) -> Option<Value>
     ensures { result ≡ constants.exponent (seen_expression tree.now) }
 {
     match tree {
-        Expr::Literal { place: _, literal } => exponent_in(*literal),
+        Expr::Literal { place: _, literal } => exponent_in(literal.value()),
         Expr::Or { .. } => None,
         Expr::And { .. } => None,
         Expr::Compare { .. } => None,
@@ -178,7 +178,7 @@ fn value_of(tree: &Expr, site: &Site<'_>) -> Option<Value>
             exponent: raised,
         } => apply_two(Op2::Power, &value_of(base, site), &exponent(raised)),
         Expr::Not { operand, .. } => apply_one(Op1::Not, &value_of(operand, site)),
-        Expr::Literal { place: _, literal } => literal_of(*literal),
+        Expr::Literal { place: _, literal } => literal_of(literal.value()),
         Expr::Decimal { .. } => None,
         Expr::Reference(reference) => referred(reference, site),
         Expr::Call {

@@ -201,7 +201,7 @@ pub fn emit_expression(tree: &Expr, code: &mut Vec<Instr>, site: &Site<'_>) -> R
             emit_expression(operand, code, site)?;
             emit_one(code, *place, one(Op1::Not))
         }
-        Expr::Literal { place, literal } => emit_literal(code, *place, *literal),
+        Expr::Literal { place, literal } => emit_literal(code, *place, literal.value()),
         Expr::Decimal { place, .. } => Err(Uncoded::At(*place)),
         Expr::Reference(reference) => emit_reference(reference, code, site),
         Expr::Call {

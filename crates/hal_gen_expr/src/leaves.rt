@@ -162,7 +162,7 @@ pub(crate) fn exponent_instr(tree: &Expr) -> Option<Instr>
     ensures { result ≡ codes.exponent_instr (seen_expression tree.now) }
 {
     match tree {
-        Expr::Literal { place: _, literal } => raised_to(*literal),
+        Expr::Literal { place: _, literal } => raised_to(literal.value()),
         Expr::Or { .. } => Some(Instr::Int(0)),
         Expr::And { .. } => Some(Instr::Int(0)),
         Expr::Compare { .. } => Some(Instr::Int(0)),

@@ -101,7 +101,7 @@ pub fn class_of(tree: &Expr, names: &Names<'_>, block: usize) -> Option<Class>
         Expr::Product { .. } => Some(Class::Integer),
         Expr::Power { .. } => Some(Class::Integer),
         Expr::Not { .. } => Some(Class::Bits),
-        Expr::Literal { place: _, literal } => Some(class_of_literal(*literal)),
+        Expr::Literal { place: _, literal } => Some(class_of_literal(literal.value())),
         Expr::Decimal { .. } => None,
         Expr::Reference(reference) => class_of_reference(names, block, reference),
         Expr::Call { name, .. } => class_of_call(names, block, name),

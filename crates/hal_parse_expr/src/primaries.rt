@@ -16,7 +16,7 @@ use crate::lists::expressions;
 use crate::opening::{Opening, opened_by};
 use crate::references::reference_behind;
 use hal_base::Place;
-use hal_tree::{Conversion, Expr};
+use hal_tree::{Conversion, KeptLiteral, Expr};
 use hal_words::{Name, Symbol, Token};
 use std::alloc::{AllocError, Global};
 
@@ -56,7 +56,10 @@ fn opened(
         Opening::Decimal(thousandths) => Ok(Some((Expr::Decimal { place, thousandths }, rest))),
         Opening::Parenthesis => parenthesis(alloc, place, rest, depth),
         Opening::Not => negation(alloc, place, rest, depth),
-        Opening::Literal(literal) => Ok(Some((Expr::Literal { place, literal }, rest))),
+        Opening::Literal(literal) => {
+            let literal = KeptLiteral::new(alloc, literal)?;
+            Ok(Some((Expr::Literal { place, literal }, rest)))
+        }
         Opening::Conversion(conversion) => converted(alloc, place, conversion, rest, depth),
     }
 }

@@ -1,3 +1,4 @@
+pub mod KeptLiterals
 pub mod Rows
 pub mod SeenLeaves
 pub mod SeenExpressions

@@ -1,6 +1,7 @@
 //! Expressions. A node's place is that of its first word.
 
-use crate::leaf::{Conversion, Identifier, LiteralValue, Relation, Sign};
+use crate::kept_literal::KeptLiteral;
+use crate::leaf::{Conversion, Identifier, Relation, Sign};
 use hal_base::Place;
 use hal_words::Name;
 
@@ -58,7 +59,7 @@ pub enum Expr {
     },
     Literal {
         place: Place,
-        literal: LiteralValue,
+        literal: KeptLiteral,
     },
     /// A number with a point, in thousandths.
     Decimal {
@@ -133,7 +134,7 @@ impl Drop for Expr {
             } => {}
             Expr::Literal {
                 place: _,
-                literal: _,
+                literal: _literal,
             } => {}
             Expr::Decimal {
                 place: _,

@@ -37,7 +37,7 @@ fn is_integer_literal(tree: &Expr) -> bool
     ensures { result ≡ forms.is_integer_literal (seen_expression tree.now) }
 {
     match tree {
-        Expr::Literal { place: _, literal } => is_integer_value(*literal),
+        Expr::Literal { place: _, literal } => is_integer_value(literal.value()),
         Expr::Or { .. } => false,
         Expr::And { .. } => false,
         Expr::Compare { .. } => false,
