@@ -45,7 +45,7 @@ impl Known {
     fn unknown(alloc: Global, count: usize) -> Result<Known, AllocError>
         ensures { IfOk result (λ k. seen_known k ≡ replicate count None) }
     {
-        let mut values = Vec::new(alloc);
+        let mut values = Vec::with_capacity(alloc, count)?;
         let mut left = count;
         while let Some(fewer) = left.checked_sub(1) {
             values.push(None)?;

@@ -116,7 +116,7 @@ impl Shapes {
     pub(crate) fn of(alloc: Global, names: &Names<'_>, known: &Known) -> Result<Shapes, AllocError>
         ensures { IfOk result (AreKept (seen_names names.now) (seen_known known.now)) }
     {
-        let mut list = Vec::new(alloc);
+        let mut list = Vec::with_capacity(alloc, names.phrases().len())?;
         for phrase in names.phrases() {
             list.push(stored_shape(alloc, names, known, phrase)?)?;
         }

@@ -51,8 +51,8 @@ pub(crate) fn all_storings(
 ) -> Result<Vec<Storing>, AllocError>
     ensures { IfOk result (λ list. map seen_storing list.items ≡ naming.all_storings (seen_names names.now) (seen_known known.now)) }
 {
-    let mut list = Vec::new(alloc);
     let phrases = names.phrases();
+    let mut list = Vec::with_capacity(alloc, phrases.len())?;
     for phrase in phrases {
         list.push(storing_of(names, known, phrase))?;
     }

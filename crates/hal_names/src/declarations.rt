@@ -85,8 +85,13 @@ fn chosen_at<'a>(
 }
 
 impl<'a> Names<'a> {
-    /// The phrases that open a file, or declare a block, data, a structure or the variable of a group, in order (language document, Names). They are
-    /// few: a pass that looks for declarations goes through these alone. The vector is made anew.
+    /// The phrases that open a file, include a template, or declare a block, a parameter, data, a structure or the variable of a group, themselves or
+    /// by a template, in order (language document, Names). They are few: a pass that looks for declarations goes through these alone. The vector is
+    /// made anew.
+    ///
+    /// # Errors
+    ///
+    /// Memory is wanting.
     #[tactic(auto, using(crate::proofs::Declared::chosen_alone))]
     pub fn declarations(&self, alloc: Global) -> Result<Vec<Phrase<'a>>, AllocError>
         ensures { IfOk result (λ declared. map seen_phrase declared.items ≡ filter is_declaration (seen_names self.now)) }

@@ -31,7 +31,11 @@ pub struct Item<'a> {
     pub place: Place,
 }
 
-/// The piece that stands at this place on a main line or in the text of a definition, where it breaks no rule.
+/// The piece that stands at this place on a main line or in the text of a definition, where it breaks no rule. A text literal goes on the heap.
+///
+/// # Errors
+///
+/// The rule that the piece breaks (language document, Pieces), with its place; or memory is wanting.
 pub fn right_piece<'a>(
     alloc: Global,
     piece: &Piece<'a>,

@@ -23,7 +23,7 @@ use hal_constants::Known;
 use hal_initials::{misinitialed, missigned};
 use hal_names::Names;
 use hal_operands::{mismatched, mistimed, unfit, untaken, untimely};
-use hal_phrases::Phrase;
+use hal_phrases::{Node, Phrase};
 use hal_scope::ruled;
 use hal_shapes::{misranged, misshaped};
 use hal_sizes::{inconstant, misdimensioned};
@@ -33,9 +33,9 @@ use hal_uses::{
 };
 use std::alloc::{AllocError, Global};
 
-/// The first rule of attributes that a phrase breaks, and where.
+/// The first rule of attributes that a phrase breaks that is no expression or reference, and where.
 #[tactic(auto, using(hal_scope::proofs::Lists::or_none), unfolding(hal_scope::specs::Rules::fault, crate::specs::Rules::attribute_rows))]
-fn attribute_fault(names: &Names<'_>, phrase: &Phrase<'_>) -> Option<(u16, Place)>
+fn attribute_fault_of_other(names: &Names<'_>, phrase: &Phrase<'_>) -> Option<(u16, Place)>
     ensures { result ≡ rules.fault attribute_rows (seen_names names.now) (seen_phrase phrase.now) }
 {
     let later = ruled(MISPLACED_ATTRIBUTE, misstored(names, phrase));
@@ -47,6 +47,21 @@ fn attribute_fault(names: &Names<'_>, phrase: &Phrase<'_>) -> Option<(u16, Place
     let later = ruled(NESTED_TEMPLATE, nested(phrase.node)).or(later);
     let later = ruled(VARIABLE_NAMED_AS_TEMPLATE, named_as_template(phrase.node)).or(later);
     ruled(MISSING_TYPE, untyped(phrase.node)).or(later)
+}
+
+/// The first rule of attributes that a phrase breaks, and where. None is about expressions and references, which most phrases are.
+#[tactic(auto, using(crate::proofs::Silent::expression_is_right, crate::proofs::Silent::reference_is_right))]
+fn attribute_fault(names: &Names<'_>, phrase: &Phrase<'_>) -> Option<(u16, Place)>
+    ensures { result ≡ rules.fault attribute_rows (seen_names names.now) (seen_phrase phrase.now) }
+{
+    match phrase.node {
+        Node::Expression { role: _, tree: _ } => None,
+        Node::Reference {
+            role: _,
+            reference: _,
+        } => None,
+        _ => attribute_fault_of_other(names, phrase),
+    }
 }
 
 /// The first rule of operands that a phrase breaks, and where.

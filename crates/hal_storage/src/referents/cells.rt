@@ -66,7 +66,7 @@ impl FirstCells {
         ensures { IfOk result (λ cells. firsts.AreFirstCells (seen_names names.now) (seen_known known.now) cells) }
     {
         let mut cells = Vec::new(alloc);
-        let mut numbers = Vec::new(alloc);
+        let mut numbers = Vec::with_capacity(alloc, names.phrases().len())?;
         push_all(
             alloc,
             &mut cells,
