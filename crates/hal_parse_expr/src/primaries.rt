@@ -16,7 +16,7 @@ use crate::lists::expressions;
 use crate::opening::{Opening, opened_by};
 use crate::references::reference_behind;
 use hal_base::Place;
-use hal_tree::{Conversion, KeptLiteral, Expr};
+use hal_tree::{Conversion, Expr, KeptLiteral};
 use hal_words::{Name, Symbol, Token};
 use std::alloc::{AllocError, Global};
 
