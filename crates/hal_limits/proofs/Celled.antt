@@ -1,13 +1,15 @@
 -- The cells of a set are counted.
-use Rattle.std.proofs.Common.{◌≡◌, ◌∙◌, ◌*◌, ◌==◌, ℕ, Bool, true, false, List, [], ◌∷◌, length, filter, flat_map, if◌then◌else◌, refl, sym, ap, arith, length-append}
+use Rattle.std.proofs.Common.{◌≡◌, ◌∙◌, ◌*◌, ◌==◌, ℕ, Bool, true, false, cond, List, [], ◌∷◌, length, filter, flat_map, if◌then◌else◌, refl, sym, ap, arith, length-append}
 use Rattle.std.specs.Prelude.{sum_by}
 use Rattle.std.proofs.lemmas.List.Sums.{sum_by-cons}
 use Rattle.hal_phrases.specs.Phrases.{Phrase}
+use Rattle.hal_names.specs.Declarations.{is_declaration}
 use Rattle.hal_names.specs.Spans.{is_of}
 use Rattle.hal_names.proofs.Spanned.{given_by_those}
 use Rattle.hal_constants.specs.Known.{Known}
 use Rattle.hal_meaning.specs.Bodies.{processes_of}
 use Rattle.hal_meaning.specs.Places.{Place, cell_count, is_reentrant_at, places_at, places_in, unit_numbers}
+use Rattle.hal_storage.proofs.elements.Found.{no_cells}
 use Rattle.hal_limits.specs.Counts.{capped, counted}
 use Rattle.hal_limits.specs.Sizes.{cells_of_phrase, cells_of_unit, places_of_phrase}
 use Rattle.hal_limits.proofs.Counted.{counted_same, counted_sum, first_capped, from_nothing}
@@ -34,6 +36,20 @@ module _ (ps : List Phrase) (vs : Known) where
   places_of_home q rs same =
       from_nothing (places_of_phrase ps vs q) rs ∙ ap capped (sym (length_placed q rs))
       ∙ ap (λ (list : List Place). capped (length list)) (given_by_those (λ (p : Phrase). places_at ps vs p p.node) q rs ps same)
+
+  -- the shared cells of a set are those of its declarations
+  summed : (rest : List Phrase) → sum_by (cells_of_phrase ps vs) (filter is_declaration rest) ≡ sum_by (cells_of_phrase ps vs) rest
+  summed [] = refl
+  summed (p ∷ rest) = by (is_declaration p) refl (summed rest)
+    where
+      by : (b : Bool) → is_declaration p ≡ b → sum_by (cells_of_phrase ps vs) (filter is_declaration rest) ≡ sum_by (cells_of_phrase ps vs) rest
+          → sum_by (cells_of_phrase ps vs) (cond b (p ∷ filter is_declaration rest) (filter is_declaration rest)) ≡ sum_by (cells_of_phrase ps vs) (p ∷ rest)
+      by true is same = omega (arith, sum_by-cons (cells_of_phrase ps vs) p (filter is_declaration rest), sum_by-cons (cells_of_phrase ps vs) p rest, same)
+      by false is same = omega (arith, sum_by-cons (cells_of_phrase ps vs) p rest, same, ap length (no_cells ps vs p p.node is))
+
+  pub cells_declared : (ds : List Phrase) → ds ≡ filter is_declaration ps → counted (cells_of_phrase ps vs) 0 ds ≡ counted (cells_of_phrase ps vs) 0 ps
+  cells_declared ds same =
+      ap (counted (cells_of_phrase ps vs) 0) same ∙ from_nothing (cells_of_phrase ps vs) (filter is_declaration ps) ∙ ap capped (summed ps) ∙ sym (from_nothing (cells_of_phrase ps vs) ps)
 
   by_sort : (b : Bool) (n m : ℕ) → capped (if b then capped n * m else m) ≡ capped (if b then n * m else m)
   by_sort true n m = first_capped n m

@@ -42,13 +42,13 @@ fn cells_at(
 }
 
 /// How many shared cells a set has.
-#[tactic(auto, unfolding(crate::specs::Counts::counted))]
+#[tactic(auto, using(crate::proofs::Celled::cells_declared), unfolding(crate::specs::Counts::counted))]
 fn shared_cells(alloc: Global, names: &Names<'_>, known: &Known) -> Result<u32, AllocError>
     ensures { IfOk result (λ count. count ≡ counted (sizes.cells_of_phrase (seen_names names.now) (seen_known known.now)) 0 (seen_names names.now)) }
 {
     let mut count: u32 = 0;
-    let phrases = names.phrases();
-    for phrase in phrases {
+    let phrases = names.declarations(alloc)?;
+    for phrase in &phrases {
         count = count.saturating_add(cells_at(alloc, names, known, phrase)?);
     }
     Ok(count)

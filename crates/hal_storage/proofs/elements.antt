@@ -3,3 +3,4 @@ pub mod Repeated
 pub mod Shaped
 pub mod Parted
 pub mod Capped
+pub mod Found

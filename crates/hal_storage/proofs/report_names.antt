@@ -4,3 +4,4 @@ pub mod Placed
 pub mod Shown
 pub mod RowsAlike
 pub mod Roomy
+mod RowsFound

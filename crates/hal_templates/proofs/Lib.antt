@@ -13,3 +13,4 @@ pub mod SameHeads
 pub mod Shown
 pub mod Given
 pub mod Worked
+mod Found

@@ -31,7 +31,7 @@ fn fault(
 }
 
 /// The first rule of templates that one of the phrases breaks, and where, unless memory is wanting.
-#[tactic(auto, unfolding(crate::specs::Rules::first_with))]
+#[tactic(auto, using(crate::proofs::Found::first_declared), unfolding(crate::specs::Rules::first_with))]
 pub(crate) fn first_fault(
     alloc: Global,
     names: &Names<'_>,
@@ -39,8 +39,8 @@ pub(crate) fn first_fault(
 ) -> Result<Option<(u16, Place)>, AllocError>
     ensures { IfOk result (λ found. found ≡ table.first_with (seen_names names.now) (seen_known known.now) (seen_names names.now)) }
 {
-    let phrases = names.phrases();
-    for phrase in phrases {
+    let phrases = names.declarations(alloc)?;
+    for phrase in &phrases {
         let found = fault(alloc, names, known, phrase)?;
         if found.is_some() {
             return Ok(found);

@@ -97,8 +97,8 @@ pub fn cells_of(alloc: Global, names: &Names<'_>, known: &Known) -> Result<Vec<C
     ensures { IfOk result (λ list. list.items ≡ sets.cells_of (seen_names names.now) (seen_known known.now)) }
 {
     let mut list = Vec::new(alloc);
-    let phrases = names.phrases();
-    for phrase in phrases {
+    let phrases = names.declarations(alloc)?;
+    for phrase in &phrases {
         push_cells_at(alloc, &mut list, names, known, phrase)?;
     }
     Ok(list)

@@ -29,8 +29,8 @@ pub fn declared_events(alloc: Global, names: &Names<'_>) -> Result<Vec<usize>, A
     ensures { IfOk result (λ list. list.items ≡ events.declared_events (seen_names names.now)) }
 {
     let mut list = Vec::new(alloc);
-    let phrases = names.phrases();
-    for phrase in phrases {
+    let phrases = names.declarations(alloc)?;
+    for phrase in &phrases {
         if is_event(names, phrase) {
             list.push(phrase.number)?;
         }

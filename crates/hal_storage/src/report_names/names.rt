@@ -35,8 +35,8 @@ fn push_all(
     ensures { OnOk result (into.new.items ≡ into.old.items ++ reports.rows_of (seen_names names.now) (seen_known known.now)) }
 {
     let mut cells = Vec::new(alloc);
-    let phrases = names.phrases();
-    for phrase in phrases {
+    let phrases = names.declarations(alloc)?;
+    for phrase in &phrases {
         push_phrase(alloc, into, names, known, lookups, cells.len(), phrase)?;
         push_cells_at(alloc, &mut cells, names, known, phrase)?;
     }

@@ -8,4 +8,4 @@ use Rattle.hal_limits.proofs.cells.shared_cells.Given as goal
 
 abbrev pub invariant-loop-phrase : goal.invariant-loop-phrase
 invariant-loop-phrase l =
-    counted (cells_of_phrase (seen_names l.names) (seen_known l.known)) l.count (map seen_phrase (drop l.phrase-index l.phrases)) ≡ counted (cells_of_phrase (seen_names l.names) (seen_known l.known)) 0 (seen_names l.names)
+    counted (cells_of_phrase (seen_names l.names) (seen_known l.known)) l.count (map seen_phrase (drop l.phrase-index l.phrase-items)) ≡ counted (cells_of_phrase (seen_names l.names) (seen_known l.known)) 0 (seen_names l.names)

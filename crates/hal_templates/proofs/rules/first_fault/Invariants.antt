@@ -7,4 +7,4 @@ use Rattle.hal_templates.proofs.rules.first_fault.Given as goal
 
 abbrev pub invariant-loop-phrase : goal.invariant-loop-phrase
 invariant-loop-phrase l =
-    first_with (seen_names l.names) (seen_known l.known) (map seen_phrase (drop l.phrase-index l.phrases)) ≡ first_with (seen_names l.names) (seen_known l.known) (map seen_phrase l.phrases)
+    first_with (seen_names l.names) (seen_known l.known) (map seen_phrase (drop l.phrase-index l.phrase-items)) ≡ first_with (seen_names l.names) (seen_known l.known) (seen_names l.names)

@@ -9,4 +9,4 @@ use Rattle.hal_storage.proofs.cells.cells.cells_of.Given as goal
 
 abbrev pub invariant-loop-phrase : goal.invariant-loop-phrase
 invariant-loop-phrase l =
-    l.list.items ++ flat_map (λ (p : Phrase). cells_at (seen_names l.names) (seen_known l.known) p p.node) (map seen_phrase (drop l.phrase-index l.phrases)) ≡ cells_of (seen_names l.names) (seen_known l.known)
+    l.list.items ++ flat_map (λ (p : Phrase). cells_at (seen_names l.names) (seen_known l.known) p p.node) (map seen_phrase (drop l.phrase-index l.phrase-items)) ≡ cells_of (seen_names l.names) (seen_known l.known)

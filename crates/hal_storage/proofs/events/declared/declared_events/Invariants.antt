@@ -7,5 +7,5 @@ use Rattle.hal_storage.proofs.events.declared.declared_events.Given as goal
 
 abbrev pub invariant-loop-phrase : goal.invariant-loop-phrase
 invariant-loop-phrase l =
-    l.list.items ++ filter_map (λ (p : Phrase). if is_event (seen_names l.names) p.around.home p.node then Some p.number else None) (map seen_phrase (drop l.phrase-index l.phrases))
+    l.list.items ++ filter_map (λ (p : Phrase). if is_event (seen_names l.names) p.around.home p.node then Some p.number else None) (map seen_phrase (drop l.phrase-index l.phrase-items))
     ≡ declared_events (seen_names l.names)

@@ -10,5 +10,5 @@ use Rattle.hal_storage.proofs.report_names.names.push_all.Given as goal
 
 abbrev pub invariant-loop-phrase : goal.invariant-loop-phrase
 invariant-loop-phrase l =
-    (l.into.items ++ flat_map (λ (p : Phrase). rows_at (seen_names l.names) (seen_known l.known) p p.node) (map seen_phrase (drop l.phrase-index l.phrases)) ≡ l.fn.into.items ++ rows_of (seen_names l.names) (seen_known l.known))
-    × HaveRows (seen_names l.names) (seen_known l.known) (seen_lookups l.lookups) (length l.cells.items) (map seen_phrase (drop l.phrase-index l.phrases))
+    (l.into.items ++ flat_map (λ (p : Phrase). rows_at (seen_names l.names) (seen_known l.known) p p.node) (map seen_phrase (drop l.phrase-index l.phrase-items)) ≡ l.fn.into.items ++ rows_of (seen_names l.names) (seen_known l.known))
+    × HaveRows (seen_names l.names) (seen_known l.known) (seen_lookups l.lookups) (length l.cells.items) (map seen_phrase (drop l.phrase-index l.phrase-items))
