@@ -8,6 +8,7 @@ ghost use Rattle.hal_lock_groups.specs.Updates as updates;
 
 use crate::adding::gathered;
 use crate::shared::shared_of;
+use crate::updates::has_updates;
 use hal_constants::Known;
 use hal_reach::Units;
 use std::alloc::{AllocError, Global};
@@ -23,11 +24,15 @@ pub fn groups_at(list: &[u16], update: usize) -> u16
 }
 
 /// The lock groups of all UPDATE blocks of a set of files, a bit for each, at the numbers of their phrases: 0 at other numbers, and behind the end of the list (language
-/// document, Lock groups).
-#[tactic(auto, using(crate::proofs::Gathering::all_gathered))]
+/// document, Lock groups). Where a set has no UPDATE block, nothing else of it is looked at.
+#[tactic(auto, using(crate::proofs::Gathering::all_gathered, crate::proofs::Gathering::none_gathered))]
 pub fn all_groups(alloc: Global, units: &Units<'_>, known: &Known) -> Result<Vec<u16>, AllocError>
     ensures { IfOk result (λ list. updates.AreGroups (seen_names units.now.names.now) (seen_known known.now) list.items) }
 {
+    let names = units.names();
+    if !has_updates(names) {
+        return Ok(Vec::new(alloc));
+    }
     let shared = shared_of(alloc, units, known)?;
-    gathered(alloc, units.names(), &shared)
+    gathered(alloc, names, &shared)
 }

@@ -7,5 +7,7 @@ mod groups;
 mod naming;
 mod plain;
 mod shared;
+mod updates;
 
 pub use blocks::{all_groups, groups_at};
+pub use updates::has_updates;

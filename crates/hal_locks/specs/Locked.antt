@@ -31,6 +31,14 @@ unfoldable pub is_grouped : Node → Bool
 is_grouped (OfItem common item) = not (is_event_type (type_of common item)) && has_number common item
 is_grouped other = false
 
+-- whether a phrase of a set does
+unfoldable pub declares_grouped : Phrase → Bool
+declares_grouped p = is_grouped p.node
+
+-- whether one of phrases does
+abbrev pub has_grouped : List Phrase → Bool
+has_grouped ps = list_any declares_grouped ps
+
 -- whether a phrase declares data with LOCK, of a known group or not
 unfoldable pub is_locked : Node → Bool
 is_locked (OfItem common item) = not (is_event_type (type_of common item)) && (has_number common item || has_star common item)

@@ -13,10 +13,13 @@ use crate::callees::barred_units;
 use crate::rules::first_fault;
 use hal_base::{Fault, Place, Refusal, Rule};
 use hal_constants::Known;
+use hal_lock_groups::has_updates;
 use hal_reach::Units;
 use std::alloc::{AllocError, Global};
 
-/// The first rule of locks that a set of files breaks, and where, unless memory is wanting.
+/// The first rule of locks that a set of files breaks, and where, unless memory is wanting. Which units an UPDATE block may not call is found out only where
+/// the set has one.
+#[tactic(auto, using(crate::proofs::Tables::without_updates))]
 fn found(
     alloc: Global,
     units: &Units<'_>,
@@ -25,8 +28,13 @@ fn found(
     requires constants { seen_known known.now ≡ facts.known (seen_names units.now.names.now) }
     ensures { IfOk result (λ found. found ≡ first_with (seen_names units.now.names.now) (facts.known (seen_names units.now.names.now)) (barred_units (seen_names units.now.names.now)) (seen_names units.now.names.now)) }
 {
-    let barred = barred_units(alloc, units)?;
-    Ok(first_fault(units.names(), known, &barred))
+    let names = units.names();
+    let barred = if has_updates(names) {
+        barred_units(alloc, units)?
+    } else {
+        Vec::new(alloc)
+    };
+    Ok(first_fault(names, known, &barred))
 }
 
 /// Whether a set of files with these units and constants breaks no rule of locks, 801 to 807; or one that is broken, at its place; or want of memory. See

@@ -100,6 +100,33 @@ fn is_grouped(node: Node<'_>) -> bool
     }
 }
 
+/// Whether a phrase of a set does.
+#[tactic(auto, unfolding(crate::specs::Locked::declares_grouped))]
+fn declares_grouped(phrase: &Phrase<'_>) -> bool
+    ensures { result ≡ locked.declares_grouped (seen_phrase phrase.now) }
+{
+    is_grouped(phrase.node)
+}
+
+/// Whether one of these phrases does.
+fn is_any_grouped(phrases: &[Phrase<'_>]) -> bool
+    ensures { result ≡ list_any locked.declares_grouped (map seen_phrase phrases.now) }
+{
+    for phrase in phrases {
+        if declares_grouped(phrase) {
+            return true;
+        }
+    }
+    false
+}
+
+/// Whether a set of files has data of a known lock group.
+pub(crate) fn has_grouped(names: &Names<'_>) -> bool
+    ensures { result ≡ locked.has_grouped (seen_names names.now) }
+{
+    is_any_grouped(names.phrases())
+}
+
 /// Whether a phrase declares data with LOCK.
 #[tactic(auto, unfolding(crate::specs::Locked::is_locked))]
 fn is_locked(node: Node<'_>) -> bool
