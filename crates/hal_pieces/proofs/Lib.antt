@@ -11,3 +11,4 @@ pub mod NoList
 pub mod PlainLines
 pub mod Sizes
 pub mod Whole
+pub mod Texts

@@ -19,3 +19,8 @@ text_or_wrong plain count bytes = if not plain then Wrong 201 else if nat_le cou
 abbrev pub continued : ℕ → Bool → ℕ → List ℕ → ℕ → Option (List ℕ × ℕ) → Sized
 continued left plain count bytes size None = (Wrong 202, left + 1)
 continued left plain count bytes size (Some rest) = (text_or_wrong (plain && list_all is_plain rest.0) (count + length rest.0) (bytes ++ map blank_for_tab rest.0), size + rest.1 + 1)
+
+-- how many bytes of the line a literal takes, both quotes with it, of which `size` were read behind the first one, by what follows
+abbrev pub taken : ℕ → ℕ → Option (List ℕ × ℕ) → ℕ
+taken left size None = left + 1
+taken left size (Some rest) = size + rest.1 + 1

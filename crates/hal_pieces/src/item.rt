@@ -1,12 +1,13 @@
 ghost use Rattle.std.specs.Prelude.{◌≡◌, IfOk, IfErr, IfSome, IfNone};
 ghost use Rattle.hal_base.specs.declared.refusal.Place.{Place};
 ghost use Rattle.hal_words.specs.declared.word.Word.TheVariants as word;
-ghost use Rattle.hal_words.specs.Pieces.{Wrong};
+ghost use Rattle.hal_words.specs.Pieces.{Wrong, literal};
 ghost use Rattle.hal_words.specs.Lines.{item};
 ghost use Rattle.hal_words.specs.Items.{main_item};
 ghost use Rattle.hal_pieces.specs.Seen.{seen, seen_right};
 ghost use Rattle.hal_pieces.specs.Faults.{IsBrokenAt, IsFaultItem};
 
+use crate::literals::literal_in;
 use crate::piece::Piece;
 use hal_base::rules::MALFORMED_INCLUDE;
 use hal_base::{Fault, Place, Refusal, Rule};
@@ -51,6 +52,7 @@ pub fn right_piece<'a>(
 }
 
 /// The refusal of the word INCLUDE, which is neither for main lines nor for the texts of definitions.
+#[tactic(auto, using(crate::proofs::Texts::never_include))]
 fn include_refused(piece: &Piece, place: Place) -> Option<Refusal>
     ensures found { IfNone result ((at : Place) → main_item (seen piece.now) at ≡ item (seen piece.now) at) }
     ensures broken { IfSome result (λ refusal. main_item (seen piece.now) place ≡ item (Wrong refusal.rule.0) refusal.place) }
@@ -71,18 +73,29 @@ fn kept<'a>(alloc: Global, piece: &Piece<'a>, place: Place) -> Result<RightPiece
 {
     match piece {
         Piece::Word(word) => Ok(RightPiece::Word(word.copy(alloc).map_err(Fault::Memory)?)),
-        Piece::Text(literal) => Ok(RightPiece::Word(text(alloc, literal).map_err(Fault::Memory)?)),
+        Piece::Text(text) => kept_text(alloc, text, place),
         Piece::Replacement(bytes) => Ok(RightPiece::Replacement(bytes)),
         Piece::Open => Ok(RightPiece::Open),
         Piece::Wrong(rule) => Err(broken(rule.0, place)),
     }
 }
 
-/// The word that is this literal.
-fn text(alloc: Global, literal: &Literal) -> Result<Word, AllocError>
-    ensures { IfOk result (λ made. made ≡ word.Text literal.now) }
+/// The text literal behind the quote that begins it, or the rule that it breaks, broken at this place.
+fn kept_text<'a>(alloc: Global, text: &[u8], place: Place) -> Result<RightPiece<'a>, Fault>
+    ensures same { IfOk result (λ right. seen_right right ≡ (literal text.now).0) }
+    ensures broken { IfErr result (IsFaultItem (item (literal text.now).0 place)) }
 {
-    Ok(Word::Text(BoxedLiteral::new(alloc, *literal)?))
+    match literal_in(text) {
+        Ok(literal) => Ok(RightPiece::Word(text_word(alloc, literal).map_err(Fault::Memory)?)),
+        Err(rule) => Err(broken(rule.0, place)),
+    }
+}
+
+/// The word that is this literal.
+fn text_word(alloc: Global, literal: Literal) -> Result<Word, AllocError>
+    ensures { IfOk result (λ made. made ≡ word.Text literal) }
+{
+    Ok(Word::Text(BoxedLiteral::new(alloc, literal)?))
 }
 
 /// The fault of a rule that is broken at a place.

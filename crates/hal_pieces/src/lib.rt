@@ -22,4 +22,5 @@ pub use bytes::is_blank;
 pub use comments::comment_end;
 pub use file::items;
 pub use item::{Item, RightPiece, broken, right_piece};
+pub use literals::literal_in;
 pub use piece::{Piece, first_piece};

@@ -4,7 +4,7 @@ ghost use Rattle.std.specs.Prelude.{◌≡◌, ◌<◌, ◌≤◌, ◌+◌, ◌-
 ghost use Rattle.hal_words.specs.Literals.{inside, with_byte, blank_for_tab};
 ghost use Rattle.hal_words.specs.Pieces.{literal};
 ghost use Rattle.hal_pieces.specs.LiteralParts.{at_end, text_or_wrong};
-ghost use Rattle.hal_pieces.specs.Seen.{seen};
+ghost use Rattle.hal_pieces.specs.Seen.{seen, seen_literal};
 
 use crate::bytes::is_plain;
 use crate::piece::Piece;
@@ -17,6 +17,32 @@ pub(crate) fn literal(text: &[u8]) -> (Piece<'_>, usize)
     ensures what { seen result.0 ≡ (literal text.now).0 }
     ensures size { result.1 ≡ (literal text.now).1 }
 {
+    (Piece::Text(text), literal_size(text))
+}
+
+/// How many bytes a text literal takes with both quotes.
+fn literal_size(text: &[u8]) -> usize
+    ensures { result ≡ (literal text.now).1 }
+{
+    let mut rest = text;
+    'byte: while let Some((_, more)) = next_byte(rest) {
+        rest = more;
+    }
+    if rest.is_empty() {
+        text.len() + 1
+    } else {
+        text.len() - rest.len() + 2
+    }
+}
+
+/// The text literal that stands behind the quote that begins it.
+///
+/// # Errors
+///
+/// The rule that it breaks: 201, 202 or 204 (language document, Text literals).
+pub fn literal_in(text: &[u8]) -> Result<Literal, Rule>
+    ensures { seen_literal result ≡ (literal text.now).0 }
+{
     let mut bytes = [0; CHARACTER_LIMIT];
     let mut count = 0;
     let mut plain = true;
@@ -28,15 +54,9 @@ pub(crate) fn literal(text: &[u8]) -> (Piece<'_>, usize)
         rest = more;
     }
     if rest.is_empty() {
-        return (
-            Piece::Wrong(Rule(UNENDED_LITERAL_OR_COMMENT)),
-            text.len() + 1,
-        );
+        return Err(Rule(UNENDED_LITERAL_OR_COMMENT));
     }
-    (
-        literal_of(&bytes, count, plain),
-        text.len() - rest.len() + 2,
-    )
+    literal_of(&bytes, count, plain)
 }
 
 /// The next byte of a literal, and what follows it; a doubled quote is one. None at the quote that ends
@@ -66,14 +86,14 @@ fn store(bytes: &mut [u8; CHARACTER_LIMIT], count: usize, byte: u8)
 }
 
 /// The literal of so many stored bytes.
-fn literal_of<'a>(bytes: &[u8; CHARACTER_LIMIT], count: usize, plain: bool) -> Piece<'a>
-    ensures { seen result ≡ text_or_wrong plain count (take count bytes.now) }
+fn literal_of(bytes: &[u8; CHARACTER_LIMIT], count: usize, plain: bool) -> Result<Literal, Rule>
+    ensures { seen_literal result ≡ text_or_wrong plain count (take count bytes.now) }
 {
     if !plain {
-        Piece::Wrong(Rule(STRAY_BYTE))
+        Err(Rule(STRAY_BYTE))
     } else if count <= CHARACTER_LIMIT {
-        Piece::Text(Literal::new(&bytes[..count]))
+        Ok(Literal::new(&bytes[..count]))
     } else {
-        Piece::Wrong(Rule(INVALID_LITERAL))
+        Err(Rule(INVALID_LITERAL))
     }
 }

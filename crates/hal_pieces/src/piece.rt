@@ -9,15 +9,16 @@ use crate::numbers::{begins_number, number};
 use crate::signs::signs;
 use hal_base::Rule;
 use hal_base::rules::STRAY_BYTE;
-use hal_words::{Literal, Word};
+use hal_words::Word;
 
 /// What a line begins with.
 #[derive(Drop)]
 pub enum Piece<'a> {
     /// The longest word, if it is no text literal.
     Word(Word),
-    /// A text literal, which is not on the heap yet.
-    Text(Literal),
+    /// A text literal, by what stands behind the quote that begins it. Which text it is, or which rule it breaks, is read where it is kept, so that a piece is
+    /// small.
+    Text(&'a [u8]),
     /// The text of a definition, between two `"`.
     Replacement(&'a [u8]),
     /// A `"` that opens such a text, without another one on the line.

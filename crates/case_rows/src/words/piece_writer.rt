@@ -2,7 +2,7 @@
 //! `reserved Close`, `symbol Power`, `text [DON'T]`, `bits 8 255` with their number and what they write,
 //! `replacement [N + 2]`, `open`, or the rule that is broken, as `rule 203`.
 
-use hal_pieces::Piece;
+use hal_pieces::{Piece, literal_in};
 use hal_words::{Literal, Word};
 use row_files::notation_of;
 use std::alloc::{AllocError, Global};
@@ -33,7 +33,10 @@ fn literal(alloc: Global, literal: &Literal) -> Result<String, AllocError> {
 pub(crate) fn piece(alloc: Global, piece: &Piece<'_>) -> Result<String, AllocError> {
     match piece {
         Piece::Word(found) => word(alloc, found),
-        Piece::Text(text) => literal(alloc, text),
+        Piece::Text(text) => match literal_in(text) {
+            Ok(text) => literal(alloc, &text),
+            Err(rule) => format!(in alloc; "rule {}", rule.0),
+        },
         Piece::Replacement(text) => {
             let text = notation_of(alloc, text)?;
             format!(in alloc; "replacement [{text}]")

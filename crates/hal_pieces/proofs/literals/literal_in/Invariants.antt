@@ -2,7 +2,7 @@ use Rattle.std.proofs.Common.{◌≡◌, ◌-◌, ◌≤◌, length, take}
 use Rattle.hal_words.specs.Literals.{inside}
 use Rattle.hal_words.specs.Pieces.{literal}
 use Rattle.hal_pieces.specs.LiteralParts.{continued}
-use Rattle.hal_pieces.proofs.literals.literal.Given as goal
+use Rattle.hal_pieces.proofs.literals.literal_in.Given as goal
 
 abbrev pub invariant-byte : goal.invariant-byte
 invariant-byte l =
