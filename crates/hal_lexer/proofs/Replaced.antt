@@ -1,5 +1,5 @@
 -- What stands in place of a name of the file.
-use Rattle.std.proofs.Common.{◌≡◌, ℕ, inl, inr, ◌⊎◌, false, List, [], ◌∷◌, ◌++◌, length, Some, None, refl, sym, ap, ◌∙◌}
+use Rattle.std.proofs.Common.{◌≡◌, ℕ, inl, inr, ◌⊎◌, true, false, Option, is_none, List, [], ◌∷◌, ◌++◌, length, Some, None, refl, sym, ap, ◌∙◌}
 use Rattle.std.specs.Prelude.{bytes_eq}
 use Rattle.std.proofs.lemmas.Bool.{cases_Bool}
 use Rattle.std.proofs.lemmas.List.Elements.{Contains-append_left, Contains-append_right}
@@ -26,6 +26,14 @@ name_replaced definitions table name n place compiled is =
 
 pub name_stays : (definitions : Definitions) (name : List ℕ) (place : Place) → look_up definitions name ≡ None → replaced_word definitions (item (Is (word.Name name)) place) ≡ item (Is (word.Name name)) place ∷ []
 name_stays definitions name place none = within_undefined (length definitions) definitions [] name place refl (λ some. none)
+
+-- a name for which there is no text stays
+no_text_there : (text : Option (List ℕ)) → is_none text ≡ true → text ≡ None
+no_text_there None is = refl
+no_text_there (Some one) is = let no : false ≡ true = is in absurd (cc)
+
+pub lacking_stays : (definitions : Definitions) (name : List ℕ) (place : Place) → is_none (look_up definitions name) ≡ true → replaced_word definitions (item (Is (word.Name name)) place) ≡ item (Is (word.Name name)) place ∷ []
+lacking_stays definitions name place is = name_stays definitions name place (no_text_there (look_up definitions name) is)
 
 -- a fault that stands in place of a word
 pub explains_told : (before given : List Item) (found : Fault) → Tells given found → (rest : List Item) → Explains (before ++ (given ++ rest)) found

@@ -32,7 +32,7 @@ impl<'a> Model for Definitions<'a> {
 }
 
 impl<'a> Definitions<'a> {
-    ghost use Rattle.std.specs.Prelude.{◌≡◌, ◌∷◌, [], Some, IsTrue, OnOk, IfSome};
+    ghost use Rattle.std.specs.Prelude.{◌≡◌, ◌∷◌, [], Some, IsTrue, OnOk, IfSome, is_none};
     ghost use Rattle.std.specs.Option.{option_map};
     ghost use Rattle.hal_words.specs.Reserved.{look_up};
     ghost use Rattle.hal_lexer.specs.Texts.{IsText};
@@ -71,6 +71,13 @@ impl<'a> Definitions<'a> {
             Some(known) => known == text,
             None => false,
         }
+    }
+
+    /// Whether no text stands in place of this name, which takes no search where nothing is defined.
+    pub(crate) fn lacks(&self, name: &Name) -> bool
+        ensures { result ≡ is_none (look_up self.now name.now) }
+    {
+        self.list.is_empty() || self.latest_of(name).is_none()
     }
 
     /// The text that stands in place of this name.

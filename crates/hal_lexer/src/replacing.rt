@@ -107,6 +107,9 @@ impl<'a> Replacements<'a> {
         ensures broken { IfErr result (λ fault. (rest : List lines.Item) →
             Explains (map word_item tokens.old ++ (replaced_word self.old.definitions (item (Is (word.Name name)) place) ++ rest)) fault) }
     {
+        if self.definitions.lacks(&name) {
+            return tokens.push(Word::Name(name), place);
+        }
         if self.put_summed(alloc, tokens, &name, place)? {
             return Ok(());
         }
