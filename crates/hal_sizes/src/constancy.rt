@@ -73,9 +73,10 @@ fn mischannelled(place: Place, constant: &Constant) -> Option<(u16, Place)>
     }
 }
 
-/// An expression of this role.
+/// An expression of a role that wants a constant, which isn't made for others.
+#[inline(never)]
 #[tactic(auto, unfolding(crate::specs::Constancy::inconstant_as))]
-fn inconstant_as(
+fn inconstant_there(
     names: &Names<'_>,
     known: &Known,
     phrase: &Phrase<'_>,
@@ -101,6 +102,29 @@ fn inconstant_as(
         Role::LockGroup => unsettled(place, &constant_of(tree, names, known, phrase)),
         Role::Initial => unsettled(place, &constant_of(tree, names, known, phrase)),
         Role::Channel => mischannelled(place, &constant_of(tree, names, known, phrase)),
+        _ => None,
+    }
+}
+
+/// An expression of this role.
+#[tactic(auto, unfolding(crate::specs::Constancy::inconstant_as))]
+fn inconstant_as(
+    names: &Names<'_>,
+    known: &Known,
+    phrase: &Phrase<'_>,
+    role: Role,
+    tree: &Expr,
+) -> Option<(u16, Place)>
+    ensures { result ≡ constancy.inconstant_as (seen_names names.now) (seen_known known.now) (seen_phrase phrase.now) role (seen_expression tree.now) }
+{
+    match role {
+        Role::Dimension
+        | Role::Copies
+        | Role::BitLength
+        | Role::TextLength
+        | Role::LockGroup
+        | Role::Initial
+        | Role::Channel => inconstant_there(names, known, phrase, role, tree),
         _ => None,
     }
 }
