@@ -36,7 +36,7 @@ pub struct Item<'a> {
 ///
 /// # Errors
 ///
-/// The rule that the piece breaks (language document, Pieces), with its place; or memory is wanting.
+/// The rule that the piece breaks (language document, Words), with its place; or memory is wanting.
 pub fn right_piece<'a>(
     alloc: Global,
     piece: &Piece<'a>,

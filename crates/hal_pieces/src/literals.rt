@@ -39,7 +39,7 @@ fn literal_size(text: &[u8]) -> usize
 ///
 /// # Errors
 ///
-/// The rule that it breaks: 201, 202 or 204 (language document, Text literals).
+/// The rule that it breaks: 201, 202 or 204 (language document, Words).
 pub fn literal_in(text: &[u8]) -> Result<Literal, Rule>
     ensures { seen_literal result ≡ (literal text.now).0 }
 {
