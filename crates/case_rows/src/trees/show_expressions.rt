@@ -89,7 +89,7 @@ pub(crate) fn expression(tree: &Expr, pen: &mut Pen) {
         Expr::Literal {
             place,
             literal: value,
-        } => literal(value, *place, pen),
+        } => literal(&value.value(), *place, pen),
         Expr::Decimal { place, thousandths } => decimal(*thousandths, *place, pen),
         Expr::Reference(inner) => reference(inner, pen),
         Expr::Parenthesis { place, inner } => {
