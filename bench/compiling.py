@@ -1,8 +1,8 @@
 #!/usr/bin/env python3
 """How fast sets of units are compiled, and how the time grows. Run it by hand, from anywhere: bench/compiling.py
 
-The proved program builds sets of units, of 16 KiB to 1 MiB of source: a PROGRAM that calls PROCEDUREs, each a unit of its own with declarations, loops,
-conditions, expressions, subscripts and texts. The first table has a row for each size: the processor time of `build` (the least of three), the megabytes a second, and the ratio
+The proved program, with the allocator that `./hal` gives it ([tools/large_pages.sh](../tools/large_pages.sh)), builds sets of units, of 16 KiB to 1 MiB of source: a PROGRAM that calls PROCEDUREs, each a unit of its own with declarations, loops,
+conditions, expressions, subscripts and texts. The first table has a row for each size: the processor time of `build` (the least of seven), the megabytes a second, and the ratio
 to half the size. 1 MiB is to be built at 2 MB a second at least, and no ratio is to be above 2.5. A size that takes longer than 10 seconds ends the table.
 
 The second table is the same of one PROGRAM alone, with such statements of data of its own, up to 128 KiB: of a PROGRAM's data it is asked whether a TASK of it shares them. Its ratios have the same bar.
@@ -49,6 +49,16 @@ STATEMENTS = """  VELOCITY = VELOCITY + SAMPLE_POINT CORRECTION - {one} ABS(SMOO
 """
 
 
+def started_with():
+    """The environment in which `./hal` starts the program."""
+    words = ['sh', '-c', '. tools/large_pages.sh; printf %s "$GLIBC_TUNABLES"']
+    said = subprocess.run(words, cwd=ROOT, stdout=subprocess.PIPE, text=True, check=True).stdout
+    return {**os.environ, 'GLIBC_TUNABLES': said}
+
+
+ENVIRONMENT = started_with()
+
+
 def body_of(size):
     """Declarations, and statements of so many bytes."""
     parts, length, one = [DECLARED], 0, 0
@@ -86,10 +96,10 @@ def set_of(folder, size, last=';'):
 
 
 def build(paths):
-    """The processor seconds of a build, the least of three, its status and what it printed."""
+    """The processor seconds of a build, the least of seven, its status and what it printed."""
     least = None
-    for _ in range(3):
-        child = subprocess.Popen([PROGRAM, 'build', *paths], stdout=subprocess.PIPE)
+    for _ in range(7):
+        child = subprocess.Popen([PROGRAM, 'build', *paths], stdout=subprocess.PIPE, env=ENVIRONMENT)
         said = child.stdout.read()
         child.stdout.close()
         _, status, usage = os.wait4(child.pid, 0)
