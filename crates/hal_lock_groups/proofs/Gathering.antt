@@ -1,8 +1,8 @@
 -- The list that is gathered phrase by phrase has the lock groups of each UPDATE block at its number.
-use Rattle.std.proofs.Common.{◌≡◌, ◌∙◌, ◌==◌, ◌<◌, ◌≤◌, ◌-◌, ℕ, zero, suc, bit_or, ◌||◌, Bool, true, false, List, [], ◌∷◌, ◌++◌, length, replicate, Option, Some, None, slice_set, slice_index_or, if◌then◌else◌, refl, sym, ap, subst, arith, eqb-true, append-nil}
+use Rattle.std.proofs.Common.{◌≡◌, ◌∙◌, ◌==◌, ◌<◌, ◌≤◌, ◌-◌, ℕ, zero, suc, bit_or, Bool, true, false, List, [], ◌∷◌, ◌++◌, length, replicate, Option, Some, None, slice_set, slice_index_or, if◌then◌else◌, refl, sym, ap, subst, arith, eqb-true, append-nil}
 use Rattle.std.specs.Option.{is_some}
 use Rattle.std.specs.List.{list_any}
-use Rattle.std.proofs.lemmas.Bool.{eqb-false, true≢false}
+use Rattle.std.proofs.lemmas.Bool.{eqb-false, or_parts, true≢false}
 use Rattle.std.proofs.lemmas.List.{get_or-set_same, get_or-set_other, length-append, length-replicate}
 use Rattle.std.proofs.lemmas.Option.{unwrap_or-slice_get}
 use Rattle.hal_phrases.specs.Phrases.{Phrase}
@@ -64,25 +64,17 @@ pub all_gathered : (ps : List Phrase) (vs : Known) → AreGroups ps vs (gathered
 all_gathered ps vs u = phrases_for ps (shared_of ps vs) [] ps u ∙ all_bits ps vs u
 
 -- phrases that stand in no UPDATE block add nothing
-not_updated : (ps : List Phrase) (s : Shared) (list : List ℕ) (p : Phrase) (o : Option ℕ) → (is_some o || false) ≡ false
+not_updated : (ps : List Phrase) (s : Shared) (list : List ℕ) (p : Phrase) (o : Option ℕ) → is_some o ≡ false
     → elim o [ None ↦ list | Some u ↦ joined (held list u) u (bits_at ps s p) ] ≡ list
 not_updated ps s list p None is = refl
 not_updated ps s list p (Some u) is = absurd (true≢false is)
-
-first_none : (a b : Bool) → (a || b) ≡ false → (a || false) ≡ false
-first_none true b is = is
-first_none false b is = refl
-
-others_none : (a b : Bool) → (a || b) ≡ false → b ≡ false
-others_none true b is = absurd (true≢false is)
-others_none false b is = is
 
 none_added : (ps : List Phrase) (s : Shared) (list : List ℕ) (qs : List Phrase) → has_updates qs ≡ false → with_phrases ps s list qs ≡ list
 unfolding with_phrases is_updated
 none_added ps s list [] none = refl
 none_added ps s list (p ∷ qs) none =
-    none_added ps s (with_phrase ps s list p) qs (others_none (is_updated p) (has_updates qs) none)
-    ∙ not_updated ps s list p p.around.update (first_none (is_updated p) (has_updates qs) none)
+    none_added ps s (with_phrase ps s list p) qs (or_parts (is_updated p) (has_updates qs) none).1
+    ∙ not_updated ps s list p p.around.update (or_parts (is_updated p) (has_updates qs) none).0
 
 pub none_gathered : (ps : List Phrase) (vs : Known) → has_updates ps ≡ false → AreGroups ps vs []
 none_gathered ps vs none = subst (AreGroups ps vs) (none_added ps (shared_of ps vs) [] ps none) (all_gathered ps vs)

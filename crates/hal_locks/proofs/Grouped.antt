@@ -1,7 +1,7 @@
 -- In a set without data of a known lock group no name means such data.
-use Rattle.std.proofs.Common.{◌≡◌, ℕ, zero, suc, Bool, true, false, ◌||◌, not, List, [], ◌∷◌, Option, Some, None, slice_get, if◌then◌else◌, refl, sym, ap}
+use Rattle.std.proofs.Common.{◌≡◌, ℕ, zero, suc, Bool, true, false, not, List, [], ◌∷◌, Option, Some, None, slice_get, if◌then◌else◌, refl, sym, ap}
 use Rattle.std.specs.Option.{option_and_then, is_some}
-use Rattle.std.proofs.lemmas.Bool.{true≢false}
+use Rattle.std.proofs.lemmas.Bool.{or_parts}
 use Rattle.hal_base.specs.declared.refusal.Place.{Place}
 use Rattle.hal_grammar.specs.Leaves.{Naming}
 use Rattle.hal_phrases.specs.Phrases.{Phrase}
@@ -10,20 +10,12 @@ use Rattle.hal_scope.specs.Uses.{unless}
 use Rattle.hal_locks.specs.Locked.{declares_grouped, has_grouped, is_grouped, means_grouped}
 use Rattle.hal_locks.specs.Updates.{named_in, naming_grouped, outside, unheld}
 
-first_none : (a b : Bool) → (a || b) ≡ false → a ≡ false
-first_none true b is = absurd (true≢false is)
-first_none false b is = refl
-
-others_none : (a b : Bool) → (a || b) ≡ false → b ≡ false
-others_none true b is = absurd (true≢false is)
-others_none false b is = is
-
 -- no phrase of the set declares such data
 none_at : (ps : List Phrase) (k : ℕ) → has_grouped ps ≡ false → ◌≡◌ {A = Bool} (elim (slice_get ps k) [ None ↦ false | Some q ↦ is_grouped q.node ]) false
 unfolding declares_grouped
 none_at [] k none = refl
-none_at (p ∷ ps) zero none = first_none (is_grouped p.node) (has_grouped ps) none
-none_at (p ∷ ps) (suc k) none = none_at ps k (others_none (is_grouped p.node) (has_grouped ps) none)
+none_at (p ∷ ps) zero none = (or_parts (is_grouped p.node) (has_grouped ps) none).0
+none_at (p ∷ ps) (suc k) none = none_at ps k (or_parts (is_grouped p.node) (has_grouped ps) none).1
 
 none_where : (ps : List Phrase) (o : Option ℕ) → has_grouped ps ≡ false
     → ◌≡◌ {A = Bool} (elim (option_and_then (λ (k : ℕ). slice_get ps k) o) [ None ↦ false | Some q ↦ is_grouped q.node ]) false

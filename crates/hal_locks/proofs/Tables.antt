@@ -1,7 +1,7 @@
 -- The first fault of the table.
-use Rattle.std.proofs.Common.{◌≡◌, ℕ, Bool, true, false, ◌||◌, List, [], ◌∷◌, Option, Some, None, if◌then◌else◌, refl, sym, ap, ap₂, ◌∙◌}
+use Rattle.std.proofs.Common.{◌≡◌, ℕ, Bool, true, false, List, [], ◌∷◌, Option, Some, None, if◌then◌else◌, refl, sym, ap, ap₂, ◌∙◌}
 use Rattle.std.specs.Option.{option_or, is_some}
-use Rattle.std.proofs.lemmas.Bool.{true≢false}
+use Rattle.std.proofs.lemmas.Bool.{or_parts, true≢false}
 use Rattle.hal_base.specs.declared.refusal.Place.{Place}
 use Rattle.hal_phrases.specs.Phrases.{Phrase}
 use Rattle.hal_scope.specs.Rules.{Breaks, IsSound, fault, first_fault, ruled}
@@ -39,14 +39,6 @@ pub broken_with : (ps : List Phrase) (rule : ℕ) (place : Place) → first_with
 broken_with ps rule place found = broken lock_rows ps rule place (first_of_all ps ps ∙ found)
 
 -- where a phrase stands in no UPDATE block it doesn't matter which units such a block may not call
-first_none : (a b : Bool) → (a || b) ≡ false → a ≡ false
-first_none true b is = absurd (true≢false is)
-first_none false b is = refl
-
-others_none : (a b : Bool) → (a || b) ≡ false → b ≡ false
-others_none true b is = absurd (true≢false is)
-others_none false b is = is
-
 no_call : (b : Bool) (one other : Option Place) → b ≡ false → ◌≡◌ {A = Option Place} (if b then one else None) (if b then other else None)
 no_call true one other is = absurd (true≢false is)
 no_call false one other is = refl
@@ -65,7 +57,7 @@ any_units_of_all : (ps : List Phrase) (vs : Known) (us ws : List ℕ) (qs : List
 unfolding first_with
 any_units_of_all ps vs us ws [] none = refl
 any_units_of_all ps vs us ws (q ∷ qs) none =
-    ap₂ option_or (any_units ps vs us ws q (first_none (is_updated q) (has_updates qs) none)) (any_units_of_all ps vs us ws qs (others_none (is_updated q) (has_updates qs) none))
+    ap₂ option_or (any_units ps vs us ws q (or_parts (is_updated q) (has_updates qs) none).0) (any_units_of_all ps vs us ws qs (or_parts (is_updated q) (has_updates qs) none).1)
 
 pub without_updates : (ps : List Phrase) (vs : Known) → false ≡ has_updates ps → first_with ps vs [] ps ≡ first_with ps vs (barred_units ps) ps
 without_updates ps vs none = any_units_of_all ps vs [] (barred_units ps) ps (sym none)
